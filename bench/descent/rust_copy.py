@@ -104,9 +104,14 @@ pub mod mat_int {
     }
 }
 
-pub mod design_refusal {
+pub mod qp_model {
     use memory::AllocError;
-    use qp_model::Quantity;
+    #[derive(Debug)]
+    pub enum Quantity {
+        Descent,
+    }
+    #[derive(Debug)]
+    pub struct Wide(pub Quantity);
     #[derive(Debug)]
     pub enum SizeFault {
         Memory,
@@ -117,15 +122,6 @@ pub mod design_refusal {
             SizeFault::Memory
         }
     }
-}
-
-pub mod qp_model {
-    #[derive(Debug)]
-    pub enum Quantity {
-        Descent,
-    }
-    #[derive(Debug)]
-    pub struct Wide(pub Quantity);
 }
 
 pub mod condensed_form {

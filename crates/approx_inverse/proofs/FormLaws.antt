@@ -19,8 +19,8 @@ use Rattle.approx_inverse.specs.Condensed.{IsMatrixOf}
 use Rattle.approx_inverse.specs.DescentSize.{EachWithin, entry_bound, descent_of_column}
 use Rattle.approx_inverse.specs.Inverse.{HasGainSizes, IsSolution, SolvesForm}
 use Rattle.approx_inverse.specs.Fault.{IsFault}
-use Rattle.design_refusal.specs.declared.size_fault.SizeFault.{SizeFault}
-use Rattle.design_refusal.specs.declared.size_fault.SizeFault.TheVariants.{Memory, TooWide}
+use Rattle.qp_model.specs.declared.size_fault.SizeFault.{SizeFault}
+use Rattle.qp_model.specs.declared.size_fault.SizeFault.TheVariants.{Memory, TooWide}
 use Rattle.approx_inverse.specs.declared.inverse.Inverse.{Inverse}
 use Rattle.approx_inverse.proofs.SizeLaws.{all_fit, column_among, column_same}
 

@@ -17,9 +17,8 @@ use crate::inverse::Inverse;
 use crate::system::matrix_of;
 use crate::workspace::Workspace;
 use condensed_form::Condensed;
-use design_refusal::SizeFault;
 use mat_int::Mat;
-use qp_model::Quantity;
+use qp_model::{Quantity, SizeFault};
 use std::alloc::Global;
 
 // Solves each column.

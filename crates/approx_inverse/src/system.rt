@@ -11,9 +11,8 @@ ghost use Rattle.approx_inverse.specs.DescentSize.{greatest_row};
 ghost use Rattle.approx_inverse.specs.Fault.{IsFault};
 
 use condensed_form::Condensed;
-use design_refusal::SizeFault;
 use mat_int::Mat;
-use qp_model::Quantity;
+use qp_model::{Quantity, SizeFault};
 use std::alloc::Global;
 
 // k v, where it is at most `2^126` in absolute value.

@@ -15,8 +15,8 @@ use Rattle.design_engine.specs.Targets.{Targets, targets_of, IsWithinTargets}
 use Rattle.design_engine.specs.Built.{IsBuilt}
 use Rattle.design_engine.specs.Refusals.{HasCause, PassesAll}
 use Rattle.design_engine.specs.declared.generation.Made.{Made}
-use Rattle.design_refusal.specs.declared.refusal.Refusal.{Refusal}
-use Rattle.design_refusal.specs.declared.refusal.Refusal.TheVariants.{Memory}
+use Rattle.qp_model.specs.declared.refusal.Refusal.{Refusal}
+use Rattle.qp_model.specs.declared.refusal.Refusal.TheVariants.{Memory}
 use Rattle.cell_split.specs.Cells.{cell_low, cell_high}
 use Rattle.cell_split.proofs.Designs.{from_numbers}
 use Rattle.cell_maker.specs.Made.{IsCellDesign, IsCellMade, IsCellRefused, PassesCell}

@@ -10,8 +10,8 @@ use Rattle.qp_model.specs.machine.Controller.{Numbers}
 use Rattle.qp_model.specs.declared.bounds.Bounds.{Bounds}
 use Rattle.qp_model.specs.declared.design_parts.DesignParts.{DesignParts}
 use Rattle.qp_model.specs.declared.policy.Policy.{Policy}
-use Rattle.design_refusal.specs.declared.refusal.Refusal.{Refusal}
-use Rattle.design_refusal.specs.declared.refusal.Refusal.TheVariants.{Memory}
+use Rattle.qp_model.specs.declared.refusal.Refusal.{Refusal}
+use Rattle.qp_model.specs.declared.refusal.Refusal.TheVariants.{Memory}
 use Rattle.cell_split.specs.Cells.{IsCell}
 use Rattle.cell_maker.specs.declared.make.CellRefusal.{CellRefusal}
 use Rattle.cell_maker.specs.Made.{cell_plans, IsCellMade, IsCellRefused, PassesCell, AreMadeTo, IsFirstRefused, IsOnlyRefused}

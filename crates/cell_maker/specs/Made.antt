@@ -12,7 +12,7 @@ use Rattle.qp_model.specs.declared.design_parts.DesignParts.{DesignParts}
 use Rattle.design_engine.specs.Targets.{targets_of, IsWithinTargets}
 use Rattle.design_engine.specs.Built.{IsBuilt}
 use Rattle.design_engine.specs.Refusals.{HasCause, PassesAll}
-use Rattle.design_refusal.specs.declared.refusal.Refusal.{Refusal}
+use Rattle.qp_model.specs.declared.refusal.Refusal.{Refusal}
 use Rattle.cell_split.specs.Cells.{cell_low, cell_high, cell_count, IsCell}
 use Rattle.cell_maker.specs.declared.make.CellRefusal.{CellRefusal}
 

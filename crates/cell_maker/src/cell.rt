@@ -8,8 +8,7 @@ ghost use Rattle.cell_maker.specs.Made.{IsCellMade, IsCellRefused, PassesCell};
 
 use cell_split::{Cuts, cell_design};
 use design_engine::{Made, generate};
-use design_refusal::Refusal;
-use qp_model::{Design, Policy};
+use qp_model::{Design, Policy, Refusal};
 use std::alloc::Global;
 
 /// What `generate` makes of the design of a cell, from 1, with a policy.

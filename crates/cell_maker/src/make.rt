@@ -9,9 +9,8 @@ ghost use Rattle.cell_maker.specs.Made.{AreCellsMade, IsOnlyRefused};
 use crate::cell::make_cell;
 use cell_split::Cuts;
 use design_engine::Made;
-use design_refusal::Refusal;
 use overflow_check::Controller;
-use qp_model::{Bounds, Design, Policy};
+use qp_model::{Bounds, Design, Policy, Refusal};
 use std::alloc::{AllocError, Global};
 
 /// The cell, from 1, whose design with its policy is refused, and why.

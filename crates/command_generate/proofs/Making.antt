@@ -10,8 +10,8 @@ use Rattle.qp_model.specs.declared.bounds.Margin.{Margin}
 use Rattle.design_engine.specs.Targets.{targets_of}
 use Rattle.design_engine.specs.Built.{IsBuilt}
 use Rattle.design_engine.specs.Refusals.{HasCause, PassesAll}
-use Rattle.design_refusal.specs.declared.refusal.Refusal.{Refusal}
-use Rattle.design_refusal.specs.declared.refusal.Refusal.TheVariants as refusals
+use Rattle.qp_model.specs.declared.refusal.Refusal.{Refusal}
+use Rattle.qp_model.specs.declared.refusal.Refusal.TheVariants as refusals
 use Rattle.command_line.specs.Status.{status_of}
 use Rattle.command_line.specs.Answers.{IsAnswer}
 use Rattle.command_generate.specs.Made.{MakingCalls}

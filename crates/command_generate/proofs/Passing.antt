@@ -20,9 +20,9 @@ use Rattle.design_engine.specs.Tests.{width_of, PassesForm, PassesBits}
 use Rattle.design_engine.specs.Bounds.{margin_of}
 use Rattle.design_engine.specs.Built.{IsBuilt}
 use Rattle.design_engine.specs.Refusals.{HasCause, PassesMargin, PassesSizes, PassesExponent, PassesAll}
-use Rattle.design_refusal.specs.declared.refusal.Refusal.{Refusal}
+use Rattle.qp_model.specs.declared.refusal.Refusal.{Refusal}
 use Rattle.command_generate.specs.Made.{Passes}
-use Rattle.design_refusal.specs.declared.refusal.Refusal.TheVariants.{TooWide}
+use Rattle.qp_model.specs.declared.refusal.Refusal.TheVariants.{TooWide}
 
 abbrev pub NoCause : Design → Targets → Plans → Type 0
 NoCause d t plans = (r : Refusal) → HasCause d t plans r → ⊥

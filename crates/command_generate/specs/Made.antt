@@ -11,7 +11,7 @@ use Rattle.bound_report.specs.Report.{report_text, report_json}
 use Rattle.design_engine.specs.Targets.{targets_of, IsWithinTargets}
 use Rattle.design_engine.specs.Built.{IsBuilt}
 use Rattle.design_engine.specs.Refusals.{HasCause, PassesAll}
-use Rattle.design_refusal.specs.declared.refusal.Refusal.{Refusal}
+use Rattle.qp_model.specs.declared.refusal.Refusal.{Refusal}
 use Rattle.command_line.specs.Status.{status_of}
 use Rattle.command_line.specs.Words.{IsJson}
 use Rattle.command_line.specs.declared.status.Status.{Status}

@@ -8,8 +8,8 @@ use Rattle.qp_model.specs.declared.design_parts.DesignParts.{DesignParts}
 use Rattle.qp_model.specs.bounds.Printed.{Printed}
 use Rattle.qp_model.specs.declared.bounds.Margin.{Margin}
 use Rattle.command_generate.specs.Engine.Targets.{targets_of}
-use Rattle.design_refusal.specs.declared.refusal.Refusal.{Refusal}
-use Rattle.design_refusal.specs.declared.refusal.Refusal.TheVariants as refusals
+use Rattle.qp_model.specs.declared.refusal.Refusal.{Refusal}
+use Rattle.qp_model.specs.declared.refusal.Refusal.TheVariants as refusals
 use Rattle.lean_engine.specs.Lean.{IsLeanBuilt}
 use Rattle.lean_engine.specs.Refusals.{HasLeanCause, PassesLean}
 use Rattle.command_line.specs.Answers.{IsAnswer}

@@ -17,8 +17,8 @@ use Rattle.command_generate.specs.Engine.Targets.{Targets, targets_of}
 use Rattle.command_generate.specs.Engine.Aims.{steps_of, IsMadeWith}
 use Rattle.command_generate.specs.Engine.Tests.{width_of, PassesForm, PassesBits}
 use Rattle.command_generate.specs.Engine.Refusals.{PassesMargin}
-use Rattle.design_refusal.specs.declared.refusal.Refusal.{Refusal}
-use Rattle.design_refusal.specs.declared.refusal.Refusal.TheVariants.{TooWide}
+use Rattle.qp_model.specs.declared.refusal.Refusal.{Refusal}
+use Rattle.qp_model.specs.declared.refusal.Refusal.TheVariants.{TooWide}
 use Rattle.lean_engine.specs.Lean.{lean_aim, IsLeanBuilt}
 use Rattle.lean_engine.specs.Refusals.{HasLeanCause, PassesScaling, PassesBound, PassesLean, aim_at, policy_excess_size, multiplier_size_at}
 use Rattle.command_lean.specs.Made.{PassesForLean}

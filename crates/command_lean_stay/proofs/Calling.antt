@@ -11,7 +11,7 @@ use Rattle.qp_model.specs.declared.design_parts.DesignParts.{DesignParts}
 use Rattle.stay_check.specs.FaceForms.{FaceNumbers}
 use Rattle.command_stay.specs.Generating.Engine.Targets.{targets_of, violation_target}
 use Rattle.command_stay.specs.Generating.Engine.Bounds.{stated_cost}
-use Rattle.design_refusal.specs.declared.refusal.Refusal.{Refusal}
+use Rattle.qp_model.specs.declared.refusal.Refusal.{Refusal}
 use Rattle.command_lean.specs.LeanEngine.Refusals.{HasLeanCause, PassesLean}
 use Rattle.command_line.specs.Answers.{IsAnswer}
 use Rattle.command_line.specs.Status.{status_of}

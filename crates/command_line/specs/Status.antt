@@ -2,8 +2,8 @@
 use Rattle.std.specs.Prelude.{ℕ}
 use Rattle.command_line.specs.declared.status.Status.{Status}
 use Rattle.command_line.specs.declared.status.Status.TheVariants.{Done, Memory, Usage, ReadFault, WriteFault, Text, Refused, Controller, OutsideBox, Long, Mismatch, Unequal, NoStay, Cell, Listing, Trap}
-use Rattle.design_refusal.specs.declared.refusal.Refusal.{Refusal}
-use Rattle.design_refusal.specs.declared.refusal.Refusal.TheVariants as refusals
+use Rattle.qp_model.specs.declared.refusal.Refusal.{Refusal}
+use Rattle.qp_model.specs.declared.refusal.Refusal.TheVariants as refusals
 
 -- the status that tells of a refusal
 abbrev pub status_of : Refusal → Status

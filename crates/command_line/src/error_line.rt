@@ -2,13 +2,13 @@
 ghost use Rattle.std.specs.Prelude.{◌≡◌, IfOk, string_bytes, codes, [], ◌∷◌};
 ghost use Rattle.std.specs.List.{join_with_byte};
 ghost use Rattle.std.specs.Fmt.{decimal, signed_decimal};
-ghost use Rattle.design_refusal.specs.Words.{refusal_words};
+ghost use Rattle.qp_model.specs.refusal.Words.{refusal_words};
 ghost use Rattle.command_line.specs.StatusLine.{field_name, fault_words, controller_words, status_words, status_line};
 
 use crate::status::{Field, Status, status_number};
 use controller_text::BadController;
-use design_refusal::{Refusal, refusal_words};
 use number_text::TextFault;
+use qp_model::{Refusal, refusal_words};
 use std::alloc::{AllocError, Global};
 
 // The name of what a design and a controller differ in.

@@ -4,8 +4,8 @@ ghost use Rattle.command_line.specs.Status.{refusal_number, status_number, statu
 ghost use Rattle.command_line.specs.declared.status.Status.TheVariants.{Memory as no_memory};
 
 use controller_text::BadController;
-use design_refusal::Refusal;
 use number_text::TextFault;
+use qp_model::Refusal;
 use std::alloc::AllocError;
 
 /// What a design and a controller may differ in.

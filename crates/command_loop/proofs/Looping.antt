@@ -16,7 +16,7 @@ use Rattle.closed_loop.specs.declared.fault.LoopFault.TheVariants as faults
 use Rattle.command_line.proofs.Counts.{rose_later}
 use Rattle.command_line.specs.declared.status.Status.{Status}
 use Rattle.command_line.specs.declared.status.Status.TheVariants.{Done, Memory, WriteFault, Refused, OutsideBox}
-use Rattle.design_refusal.specs.declared.refusal.Refusal.TheVariants.{TooWide}
+use Rattle.qp_model.specs.declared.refusal.Refusal.TheVariants.{TooWide}
 use Rattle.command_loop.specs.Loop.{Course, AllStay, FitsTurn, TellsLeavingLater, record_lines}
 use Rattle.command_loop.specs.Printing.{loop_status, RecordShows, IsBeforeLines, LoopsEnd, LoopsPrint}
 

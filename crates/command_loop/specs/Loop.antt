@@ -22,7 +22,7 @@ use Rattle.command_files.specs.Reading.{ReadsTurnShifts}
 use Rattle.command_line.specs.declared.status.Field.TheVariants.{States, Inputs, Grid}
 use Rattle.command_line.specs.declared.status.Status.{Status}
 use Rattle.command_line.specs.declared.status.Status.TheVariants.{Done, Memory, WriteFault, Refused, OutsideBox, Mismatch}
-use Rattle.design_refusal.specs.declared.refusal.Refusal.TheVariants.{TooWide}
+use Rattle.qp_model.specs.declared.refusal.Refusal.TheVariants.{TooWide}
 
 -- ---- what design and controller differ in
 -- the first of states, inputs and grid in which they differ, with both numbers

@@ -13,7 +13,7 @@ use Rattle.closed_loop.specs.declared.fault.LoopFault.TheVariants as faults
 use Rattle.command_loop.specs.Loop.{Course, MayPrintLine, LoopsCall, TellsLeaving, AreToLeaving, AreTurns, ArePrefix, record_lines}
 use Rattle.command_line.specs.declared.status.Status.{Status}
 use Rattle.command_line.specs.declared.status.Status.TheVariants.{Done, Memory, WriteFault, Refused, OutsideBox}
-use Rattle.design_refusal.specs.declared.refusal.Refusal.TheVariants.{TooWide}
+use Rattle.qp_model.specs.declared.refusal.Refusal.TheVariants.{TooWide}
 
 -- the status that tells why the loop of a record ended
 abbrev pub loop_status : ℕ → LoopFault → Status

@@ -11,11 +11,10 @@ ghost use Rattle.command_loop.specs.Printing.{AreShiftsFor, RecordShows, IsBefor
 use crate::files::Loops;
 use closed_loop::{LoopFault, run_loop, run_loop_under};
 use command_line::Status;
-use design_refusal::Refusal;
 use fixed_kernel::Kernel;
 use io_edge::Sink;
 use packed_rows::{PackedRows, RowWalk};
-use qp_model::Design;
+use qp_model::{Design, Refusal};
 use std::alloc::{AllocError, Global};
 
 // The status that tells why the loop of a record ended.

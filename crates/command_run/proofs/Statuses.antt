@@ -12,8 +12,8 @@ use Rattle.number_text.specs.declared.text_fault.TextFault.{TextFault}
 use Rattle.number_text.specs.declared.text_fault.TextFault.TheVariants.{Memory as no_room}
 use Rattle.controller_text.specs.declared.bad_controller.BadController.{BadController}
 use Rattle.controller_text.specs.declared.bad_controller.BadController.TheVariants.{Line, Unsafe, Memory as no_space}
-use Rattle.design_refusal.specs.declared.refusal.Refusal.{Refusal}
-use Rattle.design_refusal.specs.declared.refusal.Refusal.TheVariants as refusals
+use Rattle.qp_model.specs.declared.refusal.Refusal.{Refusal}
+use Rattle.qp_model.specs.declared.refusal.Refusal.TheVariants as refusals
 use Rattle.command_line.specs.Limit.{file_limit, cells_limit}
 use Rattle.command_line.specs.Status.{status_of}
 use Rattle.command_line.specs.Answers.{Contents, ReadsThen, IsAnswer, ForContents, IsCaused}

@@ -7,8 +7,8 @@ use Rattle.qp_model.specs.bounds.Printed.{Printed}
 use Rattle.qp_model.specs.declared.design_parts.DesignParts.{DesignParts}
 use Rattle.command_generate.specs.Engine.Targets.{targets_of}
 use Rattle.command_generate.specs.Engine.Refusals.{HasCause}
-use Rattle.design_refusal.specs.declared.refusal.Refusal.{Refusal}
-use Rattle.design_refusal.specs.declared.refusal.Refusal.TheVariants as refusals
+use Rattle.qp_model.specs.declared.refusal.Refusal.{Refusal}
+use Rattle.qp_model.specs.declared.refusal.Refusal.TheVariants as refusals
 use Rattle.cell_split.specs.Cells.{IsCell}
 use Rattle.cell_maker.specs.declared.make.CellRefusal.{CellRefusal}
 use Rattle.cell_maker.specs.Made.{cell_plans, IsCellRefused, IsCellMade, PassesCell, AreCellsMade, IsFirstRefused, IsOnlyRefused}

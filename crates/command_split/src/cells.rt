@@ -20,8 +20,7 @@ use cell_maker::{CellRefusal, MadeCells, make_cells};
 use cell_split::Cuts;
 use command_generate::Texts;
 use command_line::Status;
-use design_refusal::Refusal;
-use qp_model::{Bounds, Design, Policy};
+use qp_model::{Bounds, Design, Policy, Refusal};
 use std::alloc::{AllocError, Global};
 
 // The status that tells of the refusal of a cell.

@@ -16,8 +16,8 @@ use Rattle.stay_check.proofs.CheckFacts.{same_fault, stays_or_not}
 use Rattle.command_generate.specs.Engine.Targets.{Targets, targets_of}
 use Rattle.command_generate.specs.Engine.Bounds.{printed_multiplier, stated_cost}
 use Rattle.command_generate.specs.Engine.Refusals.{HasCause}
-use Rattle.design_refusal.specs.declared.refusal.Refusal.{Refusal}
-use Rattle.design_refusal.specs.declared.refusal.Refusal.TheVariants as refusals
+use Rattle.qp_model.specs.declared.refusal.Refusal.{Refusal}
+use Rattle.qp_model.specs.declared.refusal.Refusal.TheVariants as refusals
 use Rattle.command_line.specs.Answers.{IsAnswer}
 use Rattle.command_line.specs.declared.status.Status.{Status}
 use Rattle.command_line.specs.declared.status.Status.TheVariants.{Done, Memory}

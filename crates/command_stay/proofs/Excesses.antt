@@ -24,7 +24,7 @@ use Rattle.command_generate.specs.Engine.Aims.{aim_of, AreBitsOf}
 use Rattle.command_generate.specs.Engine.Bounds.{margin_of, printed_multiplier, stated_cost}
 use Rattle.command_generate.specs.Engine.Built.{IsBuilt}
 use Rattle.command_generate.specs.Engine.Refusals.{HasCause, PassesAll}
-use Rattle.design_refusal.specs.declared.refusal.Refusal.{Refusal}
+use Rattle.qp_model.specs.declared.refusal.Refusal.{Refusal}
 use Rattle.command_generate.proofs.Engine.OneOfEach.{one_margin, one_exponent, one_exponents, one_choice}
 use Rattle.command_generate.proofs.Engine.BuiltFacts.{made_within}
 use Rattle.command_generate.proofs.Engine.GenerationFacts.{limit_small, bound_some, bound_narrow, at_most}

@@ -22,7 +22,7 @@ use Rattle.command_line.specs.Limit.{file_limit}
 use Rattle.command_line.specs.Answers.{FileHolds}
 use Rattle.command_line.specs.declared.status.Status.{Status}
 use Rattle.command_line.specs.declared.status.Status.TheVariants.{Done, Refused, Unequal, NoStay}
-use Rattle.design_refusal.specs.declared.refusal.Refusal.TheVariants.{TooWide}
+use Rattle.qp_model.specs.declared.refusal.Refusal.TheVariants.{TooWide}
 use Rattle.command_design_files.specs.Texts.{DesignRight}
 use Rattle.command_files.specs.Texts.{FacesRight, RangeRight}
 use Rattle.command_design_files.specs.Reading.{ReadsDesign, ReadsPolicy}

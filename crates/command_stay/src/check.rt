@@ -11,9 +11,8 @@ ghost use Rattle.command_stay.specs.Checking.{AreSmall, made_excess, IsKeptWith,
 
 use command_generate::{Made, row_violations};
 use command_line::Status;
-use design_refusal::Refusal;
 use mat_int::Mat;
-use qp_model::Design;
+use qp_model::{Design, Refusal};
 use stay_check::{Faces, StayFault, check_faces_under};
 use std::alloc::{AllocError, Global};
 

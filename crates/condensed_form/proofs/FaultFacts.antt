@@ -8,8 +8,8 @@ use Rattle.qp_model.specs.declared.quantity.Quantity.TheVariants.{Prediction, He
 use Rattle.qp_model.specs.problem.Design.{Design}
 use Rattle.qp_model.specs.form.Quantities.{prediction_size, hessian_size, rows_size}
 use Rattle.condensed_form.specs.Fault.{IsFirstWideIn, AreEntrySizes}
-use Rattle.design_refusal.specs.declared.size_fault.SizeFault.{SizeFault}
-use Rattle.design_refusal.specs.declared.size_fault.SizeFault.TheVariants.{TooWide, Memory}
+use Rattle.qp_model.specs.declared.size_fault.SizeFault.{SizeFault}
+use Rattle.qp_model.specs.declared.size_fault.SizeFault.TheVariants.{TooWide, Memory}
 
 -- neither a quantity nor a value says that memory ran out
 pub wide_has_memory : {T : Type 0} (q : Quantity) → ◌≡◌ {A = Result T SizeFault} (Err (TooWide q)) (Err Memory) → ⊥

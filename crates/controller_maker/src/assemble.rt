@@ -19,10 +19,9 @@ use crate::rounding::{Rows, rounded_rows};
 use crate::widest::widest_gains;
 use approx_inverse::Inverse;
 use condensed_form::Condensed;
-use design_refusal::SizeFault;
 use frac_scaled::shift_left;
 use overflow_check::{Controller, greatest_sum};
-use qp_model::{ControllerParts, Design, DesignParts, Quantity};
+use qp_model::{ControllerParts, Design, DesignParts, Quantity, SizeFault};
 use std::alloc::{AllocError, Global};
 
 // The sum is too wide.

@@ -24,8 +24,8 @@ use Rattle.qp_model.specs.problem.Box.{IsGridState}
 use Rattle.step_error.specs.MachineLaws.{HasErrors}
 use Rattle.design_engine.specs.Built.{IsBuilt}
 use Rattle.design_engine.specs.Refusals.{PassesAll, HasCause, IsRefused}
-use Rattle.design_refusal.specs.declared.refusal.Refusal.{Refusal}
-use Rattle.design_refusal.specs.declared.refusal.Refusal.TheVariants.{Memory}
+use Rattle.qp_model.specs.declared.refusal.Refusal.{Refusal}
+use Rattle.qp_model.specs.declared.refusal.Refusal.TheVariants.{Memory}
 use Rattle.design_engine.proofs.CauseLaws.{one_cause, no_cause}
 use Rattle.design_engine.proofs.PromiseLaws.{certified_from}
 use Rattle.design_engine.proofs.TargetLaws.{targets_law}

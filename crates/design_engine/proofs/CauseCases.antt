@@ -13,8 +13,8 @@ use Rattle.exact_margin.specs.declared.fault.MarginFault.TheVariants.{Memory as 
 use Rattle.hessian_check.specs.Steps.{HasNoStep}
 use Rattle.design_engine.specs.Tests.{IsRefusedFor, PassesForm, IsFormWide, HasFormCause, IsAimWide}
 use Rattle.design_engine.specs.declared.aimed.Aim.{Aim}
-use Rattle.design_refusal.specs.declared.refusal.Refusal.{Refusal}
-use Rattle.design_refusal.specs.declared.refusal.Refusal.TheVariants.{Memory, NoMargin, Curvature, TooManySteps, TooFine, TooWide}
+use Rattle.qp_model.specs.declared.refusal.Refusal.{Refusal}
+use Rattle.qp_model.specs.declared.refusal.Refusal.TheVariants.{Memory, NoMargin, Curvature, TooManySteps, TooFine, TooWide}
 
 -- ---- one quantity after the other
 module _ (W P : Quantity → Type 0) (prediction : W Prediction → P Prediction) (slack : W CornerSlack → P CornerSlack) (cost : W CornerCost → P CornerCost) (multiplier : W Multiplier → P Multiplier) (hessian : W Hessian → P Hessian)

@@ -12,8 +12,8 @@ use Rattle.design_engine.specs.Targets.{Targets}
 use Rattle.design_engine.specs.Aims.{aim_of}
 use Rattle.design_engine.specs.Refusals.{PassesMargin, PassesExponent, PassesAll, HasCause, IsTooWide, HasWideForm, HasWideAim, HasMissedAim}
 use Rattle.design_engine.specs.Order.{CausesLaw, PassingLaw}
-use Rattle.design_refusal.specs.declared.refusal.Refusal.{Refusal}
-use Rattle.design_refusal.specs.declared.refusal.Refusal.TheVariants.{Memory, NoMargin, Curvature, TooManySteps, TooFine, TooWide}
+use Rattle.qp_model.specs.declared.refusal.Refusal.{Refusal}
+use Rattle.qp_model.specs.declared.refusal.Refusal.TheVariants.{Memory, NoMargin, Curvature, TooManySteps, TooFine, TooWide}
 use Rattle.design_engine.proofs.TestLaws.{Sized, sized_one, sized_none}
 use Rattle.design_engine.proofs.StageLaws.{OfAim, aim_told, aim_one, aim_none, OfForm, form_told, form_passed, form_one, form_none, OfCorners, short_told, corner_told, corner_passed, corners_one, corners_none}
 

@@ -12,8 +12,8 @@ use Rattle.qp_model.specs.problem.Parts.{design_of}
 use Rattle.qp_model.specs.form.Quantities.{prediction_size, hessian_size, rows_size}
 use Rattle.qp_model.specs.form.FineSizes.{exact_curvature_size, is_fine}
 use Rattle.condensed_form.specs.declared.condensed.Condensed.{Condensed}
-use Rattle.design_refusal.specs.declared.size_fault.SizeFault.{SizeFault}
-use Rattle.design_refusal.specs.declared.size_fault.SizeFault.TheVariants.{Memory}
+use Rattle.qp_model.specs.declared.size_fault.SizeFault.{SizeFault}
+use Rattle.qp_model.specs.declared.size_fault.SizeFault.TheVariants.{Memory}
 use Rattle.condensed_form.specs.Form.{IsFormIn, IsFormOf}
 use Rattle.condensed_form.specs.Fault.{IsFirstWideIn, IsFirstWideForm}
 

@@ -15,7 +15,7 @@ use Rattle.design_engine.specs.Targets.{Targets, targets_of, half_target, gap_ta
 use Rattle.design_engine.specs.Aims.{aim_of, IsAim}
 use Rattle.design_engine.specs.Tests.{HasAimCause, IsRefusedFor}
 use Rattle.design_engine.specs.declared.aimed.Aim.{Aim}
-use Rattle.design_refusal.specs.declared.refusal.Refusal.{Refusal}
+use Rattle.qp_model.specs.declared.refusal.Refusal.{Refusal}
 use Rattle.design_engine.proofs.TargetLaws.{quotient_some, some_of, size_of, halves, steps_some}
 
 -- ---- the targets

@@ -7,7 +7,7 @@ use Rattle.std.proofs.lemmas.List.Elements.{All-get_or}
 use Rattle.std.proofs.Math.Nat.{one-le-mul, mul-le-mul_left}
 use Rattle.integer_algebra.specs.Sums.{at, none, total, dot, square}
 use Rattle.integer_algebra.proofs.Quoting.{by_ring, quotes}
-use Rattle.dual_method.specs.Dual.{InBox}
+use Rattle.qp_model.specs.method.Dual.{InBox}
 use Rattle.integer_algebra.specs.Division.{ceil_div}
 use Rattle.integer_algebra.proofs.OrderLaws.{pos_positive, le_of_lt_z, add-le-add_z, le_by, cancel-le_z, mul_nonneg_z, mul_pos_z, mul-le-mul_left_z}
 use Rattle.integer_algebra.proofs.PowerLaws.{pow_positive}

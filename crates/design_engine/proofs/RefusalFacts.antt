@@ -20,31 +20,31 @@ use Rattle.exact_margin.specs.declared.fault.MarginFault.{MarginFault}
 use Rattle.exact_margin.specs.declared.fault.MarginFault.TheVariants.{TooWide as margin_wide, NoMargin as margin_none}
 use Rattle.condensed_form.specs.Fault as condensing
 use Rattle.condensed_form.specs.declared.condensed.Condensed.{Condensed}
-use Rattle.design_refusal.specs.declared.size_fault.SizeFault.{SizeFault}
-use Rattle.design_refusal.specs.declared.size_fault.SizeFault.TheVariants.{Memory as condense_memory, TooWide as condense_wide}
+use Rattle.qp_model.specs.declared.size_fault.SizeFault.{SizeFault}
+use Rattle.qp_model.specs.declared.size_fault.SizeFault.TheVariants.{Memory as condense_memory, TooWide as condense_wide}
 use Rattle.hessian_check.specs.Refusals as exponents
 use Rattle.hessian_check.specs.declared.fault.StepExponents.{StepExponents}
 use Rattle.hessian_check.specs.declared.fault.CurvatureFault.{CurvatureFault}
 use Rattle.hessian_check.specs.declared.fault.CurvatureFault.TheVariants.{Memory as curvature_memory, TooWide as curvature_wide, NoStep}
 use Rattle.step_error.specs.Choice.{IsChoice}
 use Rattle.approx_inverse.specs.Fault.{IsFault}
-use Rattle.design_refusal.specs.declared.size_fault.SizeFault.{SizeFault}
-use Rattle.design_refusal.specs.declared.size_fault.SizeFault.TheVariants.{Memory as solve_memory, TooWide as solve_wide}
+use Rattle.qp_model.specs.declared.size_fault.SizeFault.{SizeFault}
+use Rattle.qp_model.specs.declared.size_fault.SizeFault.TheVariants.{Memory as solve_memory, TooWide as solve_wide}
 use Rattle.design_engine.specs.Targets.{Targets}
 use Rattle.design_engine.specs.Aims.{steps_of, aim_of}
 use Rattle.design_engine.specs.Tests.{IsRefusedFor, PassesForm, IsFormWide, HasFormCause, PassesBits, HasAimCause}
 use Rattle.controller_maker.specs.Widest.{width_size}
 use Rattle.controller_maker.specs.Fault.{IsWidthFault}
 use Rattle.exact_margin.specs.Refusing.{of_margin}
-use Rattle.design_refusal.specs.Refusing.{of_size}
+use Rattle.qp_model.specs.refusal.Refusing.{of_size}
 use Rattle.hessian_check.specs.Refusing.{of_curvature}
-use Rattle.design_refusal.specs.Refusing.{of_size}
-use Rattle.design_refusal.specs.Refusing.{of_size}
+use Rattle.qp_model.specs.refusal.Refusing.{of_size}
+use Rattle.qp_model.specs.refusal.Refusing.{of_size}
 use Rattle.design_engine.specs.Refusals.{PassesMargin, PassesExponent, HasCause, IsRefused, IsTooWide}
-use Rattle.design_refusal.specs.declared.size_fault.SizeFault.{SizeFault}
-use Rattle.design_refusal.specs.declared.size_fault.SizeFault.TheVariants.{Memory as width_memory, TooWide as width_wide}
-use Rattle.design_refusal.specs.declared.refusal.Refusal.{Refusal}
-use Rattle.design_refusal.specs.declared.refusal.Refusal.TheVariants.{Memory, NoMargin, Curvature, TooManySteps, TooFine, TooWide}
+use Rattle.qp_model.specs.declared.size_fault.SizeFault.{SizeFault}
+use Rattle.qp_model.specs.declared.size_fault.SizeFault.TheVariants.{Memory as width_memory, TooWide as width_wide}
+use Rattle.qp_model.specs.declared.refusal.Refusal.{Refusal}
+use Rattle.qp_model.specs.declared.refusal.Refusal.TheVariants.{Memory, NoMargin, Curvature, TooManySteps, TooFine, TooWide}
 use Rattle.design_engine.specs.declared.aimed.Aim.{Aim}
 use Rattle.design_engine.proofs.CauseCases.{wide_corner, wide_form, wide_aim, margin_cases, form_cases}
 

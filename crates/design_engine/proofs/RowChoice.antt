@@ -5,7 +5,7 @@ use Rattle.std.specs.Int.Signed.{≤ℤ_refl}
 use Rattle.integer_algebra.specs.Sums.{total, dot, square, none}
 use Rattle.integer_algebra.proofs.SumLaws.{total_same, total_zero, Greatest, greatest}
 use Rattle.integer_algebra.proofs.BlockLaws.{choose_times, total_single}
-use Rattle.dual_method.specs.Dual.{InBox}
+use Rattle.qp_model.specs.method.Dual.{InBox}
 
 -- z at row k, and 0 at the others
 abbrev pub at_row : ℕ → ℤ → ℕ → ℤ

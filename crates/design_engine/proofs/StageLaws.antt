@@ -21,8 +21,8 @@ use Rattle.design_engine.specs.Aims.{steps_of, AreBitsOf}
 use Rattle.design_engine.specs.Tests.{width_of, PassesForm, IsFormWide, HasFormCause, PassesAim, IsAimWide, HasAimCause}
 use Rattle.design_engine.specs.Bounds.{stated_cost}
 use Rattle.design_engine.specs.declared.aimed.Aim.{Aim}
-use Rattle.design_refusal.specs.declared.refusal.Refusal.{Refusal}
-use Rattle.design_refusal.specs.declared.refusal.Refusal.TheVariants.{Memory, NoMargin, Curvature, TooManySteps, TooFine, TooWide}
+use Rattle.qp_model.specs.declared.refusal.Refusal.{Refusal}
+use Rattle.qp_model.specs.declared.refusal.Refusal.TheVariants.{Memory, NoMargin, Curvature, TooManySteps, TooFine, TooWide}
 use Rattle.design_engine.proofs.TestLaws.{IsOne, IsNone, Nothing, nothing_one, nothing_none, Next, next_one, next_none, Sized, sized_one, sized_none, Finds, finds_one, finds_none}
 use Rattle.design_engine.proofs.OneOfEach.{one_margin, one_slack, one_corner, one_row, one_exponent, no_exponent, one_choice, no_choice, slack_positive}
 

@@ -1,8 +1,8 @@
 -- A list of tests, one after the other, each of which tells a refusal where it fails: it tells at most one, and none where all are passed.
 use Rattle.std.proofs.Common.{◌≡◌, inl, inr, ◌⊎◌, ℕ, ◌^◌, ◌<◌, ◌≤◌, arith, sym, ◌∙◌, subst}
 use Rattle.qp_model.specs.declared.quantity.Quantity.{Quantity}
-use Rattle.design_refusal.specs.declared.refusal.Refusal.{Refusal}
-use Rattle.design_refusal.specs.declared.refusal.Refusal.TheVariants.{TooWide}
+use Rattle.qp_model.specs.declared.refusal.Refusal.{Refusal}
+use Rattle.qp_model.specs.declared.refusal.Refusal.TheVariants.{TooWide}
 
 -- at most one refusal
 abbrev pub IsOne : (Refusal → Type 0) → Type 0

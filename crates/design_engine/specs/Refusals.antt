@@ -13,8 +13,8 @@ use Rattle.hessian_check.specs.Steps.{IsExponentOf, HasNoStep}
 use Rattle.design_engine.specs.Targets.{Targets}
 use Rattle.design_engine.specs.Aims.{aim_of}
 use Rattle.design_engine.specs.Tests.{IsWide, IsFormWide, PassesForm, PassesAim, IsAimWide, HasAimCause}
-use Rattle.design_refusal.specs.declared.refusal.Refusal.{Refusal}
-use Rattle.design_refusal.specs.declared.refusal.Refusal.TheVariants.{Memory, NoMargin, Curvature, TooManySteps, TooFine, TooWide}
+use Rattle.qp_model.specs.declared.refusal.Refusal.{Refusal}
+use Rattle.qp_model.specs.declared.refusal.Refusal.TheVariants.{Memory, NoMargin, Curvature, TooManySteps, TooFine, TooWide}
 
 -- ---- how far a design with a policy gets
 -- the corners have the margin m

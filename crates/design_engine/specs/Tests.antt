@@ -11,8 +11,8 @@ use Rattle.controller_maker.specs.Widest.{width_size}
 use Rattle.design_engine.specs.Aims.{steps_of, AreBitsOf}
 use Rattle.design_engine.specs.Bounds.{stated_cost}
 use Rattle.design_engine.specs.declared.aimed.Aim.{Aim}
-use Rattle.design_refusal.specs.declared.refusal.Refusal.{Refusal}
-use Rattle.design_refusal.specs.declared.refusal.Refusal.TheVariants.{Memory, Curvature, TooManySteps, TooFine, TooWide}
+use Rattle.qp_model.specs.declared.refusal.Refusal.{Refusal}
+use Rattle.qp_model.specs.declared.refusal.Refusal.TheVariants.{Memory, Curvature, TooManySteps, TooFine, TooWide}
 
 -- a quantity that is above its limit
 abbrev pub IsWide : ℕ → Type 0

@@ -16,11 +16,10 @@ use crate::residuals::real_cost;
 use approx_inverse::solve_all;
 use condensed_form::Condensed;
 use controller_maker::{Settings, controller_of};
-use design_refusal::Refusal;
 use dual_bounds::steps;
 use hessian_check::{curvature, exponents};
 use overflow_check::Controller;
-use qp_model::{Design, FIRST_VERSION};
+use qp_model::{Design, FIRST_VERSION, Refusal};
 use std::alloc::{AllocError, Global};
 use step_error::{Choice, ErrorSums, choose_bits, error_sums};
 

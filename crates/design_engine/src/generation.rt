@@ -16,10 +16,9 @@ ghost use Rattle.design_engine.specs.Refusals.{HasCause, IsRefused, PassesMargin
 use crate::aimed::{Aim, Aimed, SteppedForm, controller_for, stepped_form};
 use crate::corners::margins;
 use crate::violations::row_violations;
-use design_refusal::Refusal;
 use dual_bounds::{multiplier, undercut, violation};
 use overflow_check::Controller;
-use qp_model::{Bounds, Design, DesignParts, Margin, Policy};
+use qp_model::{Bounds, Design, DesignParts, Margin, Policy, Refusal};
 use std::alloc::{AllocError, Global};
 
 /// A controller and its bounds.

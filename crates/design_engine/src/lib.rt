@@ -14,7 +14,7 @@ pub use aimed::{Aim, Aimed, SteppedForm, controller_for, stepped_form};
 pub use condensing::{condense, form_law};
 pub use controller_maker::{Settings, controller_of};
 pub use corners::{margins, shown_law};
-pub use design_refusal::Refusal;
 pub use generation::{Made, gap_target, generate};
 pub use laws::{agreement_law, causes_law, certified_law, targets_law, threshold_law};
+pub use qp_model::Refusal;
 pub use violations::row_violations;

@@ -4,11 +4,10 @@ ghost use Rattle.std.specs.Result.{OkIff};
 ghost use Rattle.qp_model.specs.bounds.Choices.{multiplier_of, multiplier_size_of, step_count, row_violation_bound, violation_bound, undercut_bound};
 ghost use Rattle.qp_model.specs.bounds.Choices.{lean_multiplier, lean_multiplier_size, lean_row_violation};
 ghost use Rattle.qp_model.specs.declared.quantity.Quantity.TheVariants.{Multiplier};
-ghost use Rattle.design_refusal.specs.declared.refusal.Refusal.TheVariants.{TooManySteps as too_many};
+ghost use Rattle.qp_model.specs.declared.refusal.Refusal.TheVariants.{TooManySteps as too_many};
 
-use design_refusal::Refusal;
 use frac_scaled::scaled;
-use qp_model::{Margin, Quantity, Wide};
+use qp_model::{Margin, Quantity, Refusal, Wide};
 use thiserror::Error;
 
 /// A run would need `k` steps, more than 4194304.

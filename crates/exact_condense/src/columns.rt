@@ -7,8 +7,7 @@ ghost use Rattle.condensed_form.specs.Lists.{ArePowers, UnitsFit, HoldsMatrix};
 ghost use Rattle.exact_condense.specs.Units.{unit_count, unit_if};
 
 use crate::units::{unit_count, unit_of};
-use condensed_form::limit_count;
-use exact_run::column_of;
+use condensed_form::{column_of, limit_count};
 use mat_int::Mat;
 use qp_model::DesignParts;
 use std::alloc::{AllocError, Global};

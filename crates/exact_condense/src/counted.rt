@@ -10,7 +10,7 @@ ghost use Rattle.condensed_form.specs.Lists.{ArePowers, HoldsRows};
 ghost use Rattle.exact_condense.specs.Units.{unit_count, unit_if};
 
 use crate::units::unit_of;
-use exact_run::costs_of;
+use condensed_form::costs_of;
 use qp_model::DesignParts;
 use std::alloc::{AllocError, Global};
 

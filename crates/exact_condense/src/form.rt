@@ -10,8 +10,9 @@ use crate::cost_form::{CostNumbers, cost_numbers};
 use crate::limits::{LimitNumbers, limit_numbers};
 use crate::radii::no_radii;
 use condensed_form::{Condensed, bend_floor, last_power, least_input, powers_of, square_scale};
-use design_refusal::SizeFault;
-use qp_model::{Design, DesignParts, Quantity, hessian_size, prediction_size, rows_size};
+use qp_model::{
+    Design, DesignParts, Quantity, SizeFault, hessian_size, prediction_size, rows_size,
+};
 use std::alloc::{AllocError, Global};
 
 // The quantities `hessian` and `rows` of a design.

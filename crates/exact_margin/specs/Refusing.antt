@@ -1,8 +1,8 @@
 -- The refusal that a fault becomes.
 use Rattle.exact_margin.specs.declared.fault.MarginFault.{MarginFault}
 use Rattle.exact_margin.specs.declared.fault.MarginFault.TheVariants.{Memory as no_memory, TooWide as wide, NoMargin as no_margin}
-use Rattle.design_refusal.specs.declared.refusal.Refusal.{Refusal}
-use Rattle.design_refusal.specs.declared.refusal.Refusal.TheVariants.{Memory, NoMargin, TooWide}
+use Rattle.qp_model.specs.declared.refusal.Refusal.{Refusal}
+use Rattle.qp_model.specs.declared.refusal.Refusal.TheVariants.{Memory, NoMargin, TooWide}
 
 abbrev pub of_margin : MarginFault → Refusal
 of_margin no_memory = Memory

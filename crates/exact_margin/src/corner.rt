@@ -8,8 +8,9 @@ ghost use Rattle.exact_margin.specs.Simulation.{IsCorner};
 
 use crate::fault::MarginFault;
 use crate::lists::{differences, first_short, multiples, weighted_squares};
-use condensed_form::{last_power, least_of, scaled_bounds, scaled_targets, weights_of};
-use exact_run::{column_of, costs_of};
+use condensed_form::{
+    column_of, costs_of, last_power, least_of, scaled_bounds, scaled_targets, weights_of,
+};
 use frac_scaled::{Frac, ceil_div, floor_div, scaled};
 use qp_model::{DesignParts, Policy};
 use std::alloc::{AllocError, Global};

@@ -2,9 +2,8 @@ ghost use Rattle.std.specs.Prelude.{◌≡◌};
 ghost use Rattle.exact_margin.specs.declared.fault.MarginFault.TheVariants.{Memory as margin_memory};
 ghost use Rattle.exact_margin.specs.Refusing.{of_margin};
 
-use design_refusal::Refusal;
 use frac_scaled::Frac;
-use qp_model::Quantity;
+use qp_model::{Quantity, Refusal};
 use std::alloc::AllocError;
 use thiserror::Error;
 

@@ -4,8 +4,8 @@ use Rattle.qp_model.specs.declared.quantity.Quantity.{Quantity}
 use Rattle.qp_model.specs.declared.quantity.Quantity.TheVariants.{Prediction, Hessian, Rows}
 use Rattle.qp_model.specs.form.Class.{prediction_in, hessian_in, rows_in}
 use Rattle.qp_model.specs.problem.Design.{Design}
-use Rattle.design_refusal.specs.declared.size_fault.SizeFault.{SizeFault}
-use Rattle.design_refusal.specs.declared.size_fault.SizeFault.TheVariants.{Memory, TooWide}
+use Rattle.qp_model.specs.declared.size_fault.SizeFault.{SizeFault}
+use Rattle.qp_model.specs.declared.size_fault.SizeFault.TheVariants.{Memory, TooWide}
 use Rattle.condensed_form.specs.Fault.{IsFirstWideIn}
 
 both : {a t : ℕ} → a ≤ t → t < a → ⊥

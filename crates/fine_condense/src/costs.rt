@@ -8,17 +8,16 @@ ghost use Rattle.qp_model.specs.form.FineForm.{fine_costs, fine_products, hessia
 ghost use Rattle.qp_model.specs.form.FineSizes.{fine_reach, fine_prediction_size, fine_hessian_size};
 ghost use Rattle.fine_condense.specs.Lists.{HoldsEncMatrix};
 ghost use Rattle.fine_condense.specs.Numbers.{fine_cost_total, AreProducts, IsFineHessian, AreFineCosts};
-ghost use Rattle.design_refusal.specs.declared.size_fault.SizeFault.{SizeFault};
+ghost use Rattle.qp_model.specs.declared.size_fault.SizeFault.{SizeFault};
 
 use crate::columns::cost_columns;
 use crate::hessian::{constant_numbers, hessian_numbers, linear_numbers};
 use crate::sizes::fine_cost_total;
 use condensed_form::weights_of;
-use design_refusal::SizeFault;
 use enclosure::{Enc, EncMat, gram};
 use frac_scaled::limited_product;
 use mat_products::MatFault;
-use qp_model::{DesignParts, Quantity};
+use qp_model::{DesignParts, Quantity, SizeFault};
 use std::alloc::{AllocError, Global};
 
 /// The condensed cost in enclosures: the hessian, nu by nu, the linear part, nu by n, and the constant, all times `weight_den * cost_row_den^2`.

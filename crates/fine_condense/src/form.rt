@@ -4,7 +4,7 @@ ghost use Rattle.qp_model.specs.declared.quantity.Quantity.{Quantity};
 ghost use Rattle.qp_model.specs.problem.Parts.{design_of, IsDesign};
 ghost use Rattle.qp_model.specs.form.FineForm.{FineLaw};
 ghost use Rattle.qp_model.specs.form.FineSizes.{FineFormLaw, fine_prediction_size};
-ghost use Rattle.design_refusal.specs.declared.size_fault.SizeFault.{SizeFault};
+ghost use Rattle.qp_model.specs.declared.size_fault.SizeFault.{SizeFault};
 ghost use Rattle.condensed_form.specs.Fault.{IsFirstWideIn};
 ghost use Rattle.condensed_form.specs.Form.{IsFormIn};
 ghost use Rattle.fine_condense.specs.Lists.{mids, rads};
@@ -14,11 +14,10 @@ use crate::costs::{FineCosts, fine_costs};
 use crate::limits::{FineLimits, fine_limits};
 use crate::scales::{bend_floor, brought_weight};
 use condensed_form::{Condensed, least_of};
-use design_refusal::SizeFault;
 use enclosure::Enc;
 use fine_run::last_reach;
 use frac_scaled::scaled;
-use qp_model::{Design, DesignParts, Quantity};
+use qp_model::{Design, DesignParts, Quantity, SizeFault};
 use std::alloc::{AllocError, Global};
 
 /// Each exact condensed number of a design lies within the radius of the number that enclosures make of it.

@@ -4,14 +4,13 @@ ghost use Rattle.qp_model.specs.declared.quantity.Quantity.{Quantity};
 ghost use Rattle.qp_model.specs.problem.Parts.{design_of, IsDesign};
 ghost use Rattle.qp_model.specs.form.FineSizes.{fine_reach, fine_prediction_size, fine_rows_size};
 ghost use Rattle.fine_condense.specs.Numbers.{AreFineLimits};
-ghost use Rattle.design_refusal.specs.declared.size_fault.SizeFault.{SizeFault};
+ghost use Rattle.qp_model.specs.declared.size_fault.SizeFault.{SizeFault};
 
 use crate::columns::{fine_plan_columns, fine_state_columns};
 use crate::sizes::fine_rows_size;
 use condensed_form::scaled_bounds;
-use design_refusal::SizeFault;
 use enclosure::EncMat;
-use qp_model::{DesignParts, Quantity};
+use qp_model::{DesignParts, Quantity, SizeFault};
 use std::alloc::Global;
 
 /// The condensed limits in enclosures: what the rows have of the plan, m by nu, and of the state, m by n, all times `limit_den`.

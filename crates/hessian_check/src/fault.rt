@@ -3,8 +3,7 @@ ghost use Rattle.std.specs.Prelude.{◌≡◌};
 ghost use Rattle.hessian_check.specs.declared.fault.CurvatureFault.TheVariants.{Memory};
 ghost use Rattle.hessian_check.specs.Refusing.{of_curvature};
 
-use design_refusal::Refusal;
-use qp_model::Quantity;
+use qp_model::{Quantity, Refusal};
 use std::alloc::AllocError;
 use thiserror::Error;
 

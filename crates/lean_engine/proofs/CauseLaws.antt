@@ -9,8 +9,8 @@ use Rattle.qp_model.specs.declared.quantity.Quantity.{Quantity}
 use Rattle.qp_model.specs.declared.quantity.Quantity.TheVariants.{Prediction, CornerSlack, CornerCost, Multiplier, Hessian, Rows, Curvature as curvature_named, Error, Descent, Width, Turn, Excess, Stay}
 use Rattle.design_engine.specs.Targets.{Targets}
 use Rattle.design_engine.specs.Refusals.{PassesMargin}
-use Rattle.design_refusal.specs.declared.refusal.Refusal.{Refusal}
-use Rattle.design_refusal.specs.declared.refusal.Refusal.TheVariants.{Memory, NoMargin, Curvature, TooManySteps, TooFine, TooWide}
+use Rattle.qp_model.specs.declared.refusal.Refusal.{Refusal}
+use Rattle.qp_model.specs.declared.refusal.Refusal.TheVariants.{Memory, NoMargin, Curvature, TooManySteps, TooFine, TooWide}
 use Rattle.design_engine.proofs.TestLaws.{IsOne, IsNone, Sized, sized_one, sized_none}
 use Rattle.design_engine.proofs.StageLaws.{OfAim, aim_told, aim_one, aim_none, OfForm, form_told, form_passed, form_one, form_none, OfCorners, short_told, corner_told, corner_passed, corners_one, corners_none}
 use Rattle.lean_engine.specs.Refusals.{policy_excess_size, multiplier_size_at, aim_at, PassesScaling, PassesBound, PassesLean, HasLeanCause, IsTooWideLean, HasWideLeanForm, HasWideLeanAim, HasMissedLeanAim}

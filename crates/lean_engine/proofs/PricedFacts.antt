@@ -19,8 +19,8 @@ use Rattle.design_engine.specs.Aims.{IsMadeWith}
 use Rattle.design_engine.specs.Tests.{IsWide, IsRefusedFor, PassesAim, HasAimCause}
 use Rattle.design_engine.specs.Bounds.{stated_cost}
 use Rattle.design_engine.specs.Threshold.{AreThresholdBoundsOf}
-use Rattle.design_refusal.specs.declared.refusal.Refusal.{Refusal}
-use Rattle.design_refusal.specs.declared.refusal.Refusal.TheVariants.{TooWide}
+use Rattle.qp_model.specs.declared.refusal.Refusal.{Refusal}
+use Rattle.qp_model.specs.declared.refusal.Refusal.TheVariants.{TooWide}
 use Rattle.qp_model.specs.bounds.Printed.{printed}
 use Rattle.qp_model.specs.bounds.Choices.{lean_row_violation}
 use Rattle.qp_model.specs.problem.Runs.{Holds}

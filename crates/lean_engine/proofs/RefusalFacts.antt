@@ -16,16 +16,16 @@ use Rattle.exact_margin.specs.Corners.{HasCornerRoom, IsFirstShort}
 use Rattle.exact_margin.specs.declared.fault.MarginFault.{MarginFault}
 use Rattle.exact_margin.specs.declared.fault.MarginFault.TheVariants.{TooWide as margin_wide, NoMargin as margin_none}
 use Rattle.plan_excess.specs.Fault.{IsExcessFault}
-use Rattle.design_refusal.specs.Refusing.{of_size}
-use Rattle.design_refusal.specs.declared.size_fault.SizeFault.{SizeFault}
-use Rattle.design_refusal.specs.declared.size_fault.SizeFault.TheVariants.{Memory as excess_memory, TooWide as excess_wide}
+use Rattle.qp_model.specs.refusal.Refusing.{of_size}
+use Rattle.qp_model.specs.declared.size_fault.SizeFault.{SizeFault}
+use Rattle.qp_model.specs.declared.size_fault.SizeFault.TheVariants.{Memory as excess_memory, TooWide as excess_wide}
 use Rattle.design_engine.specs.Targets.{Targets, floor_target}
 use Rattle.design_engine.specs.Tests.{IsWide, IsRefusedFor, HasFormCause, HasAimCause}
 use Rattle.design_engine.specs.Refusals.{PassesMargin}
 use Rattle.design_engine.proofs.CauseCases.{wide_corner, wide_form, wide_aim, margin_cases, form_cases}
 use Rattle.exact_margin.specs.Refusing.{of_margin}
-use Rattle.design_refusal.specs.declared.refusal.Refusal.{Refusal}
-use Rattle.design_refusal.specs.declared.refusal.Refusal.TheVariants.{Memory, NoMargin, Curvature, TooManySteps, TooFine, TooWide}
+use Rattle.qp_model.specs.declared.refusal.Refusal.{Refusal}
+use Rattle.qp_model.specs.declared.refusal.Refusal.TheVariants.{Memory, NoMargin, Curvature, TooManySteps, TooFine, TooWide}
 use Rattle.lean_engine.specs.Refusals.{policy_excess_size, aim_at, PassesScaling, PassesBound, PassesLean, HasLeanCause, IsRefusedLean, IsTooWideLean}
 use Rattle.lean_engine.specs.Priced.{HasBoundCause, IsPriced, HasPriceCause}
 use Rattle.lean_engine.specs.Lean.{lean_aim}

@@ -6,7 +6,7 @@ use Rattle.qp_model.specs.declared.design_parts.DesignParts.{DesignParts}
 use Rattle.qp_model.specs.declared.bounds.Margin.{Margin}
 use Rattle.design_engine.specs.Targets.{Targets}
 use Rattle.lean_engine.specs.Refusals.{HasLeanCause, PassesLean}
-use Rattle.design_refusal.specs.declared.refusal.Refusal.{Refusal}
+use Rattle.qp_model.specs.declared.refusal.Refusal.{Refusal}
 
 abbrev pub LeanCausesLaw : Type 0
 LeanCausesLaw = (p : DesignParts) (plans references : Plans) (t : Targets) (e other : Refusal) → IsDesign p → IsPolicyFor (design_of p) plans →

@@ -14,8 +14,8 @@ use Rattle.design_engine.specs.Targets.{Targets, targets_of, violation_target, f
 use Rattle.design_engine.specs.Aims.{IsMadeWith}
 use Rattle.design_engine.specs.Tests.{IsWide, PassesAim, HasAimCause}
 use Rattle.design_engine.specs.Threshold.{AreThresholdBoundsOf}
-use Rattle.design_refusal.specs.declared.refusal.Refusal.{Refusal}
-use Rattle.design_refusal.specs.declared.refusal.Refusal.TheVariants.{TooWide}
+use Rattle.qp_model.specs.declared.refusal.Refusal.{Refusal}
+use Rattle.qp_model.specs.declared.refusal.Refusal.TheVariants.{TooWide}
 use Rattle.lean_engine.specs.Lean.{bound_of, lean_aim}
 use Rattle.lean_engine.specs.Refusals.{policy_excess, policy_excess_size}
 use Rattle.lean_engine.specs.declared.bounds.Bound.{Bound}

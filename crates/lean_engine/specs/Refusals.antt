@@ -15,8 +15,8 @@ use Rattle.design_engine.specs.Targets.{Targets, floor_target}
 use Rattle.design_engine.specs.Tests.{IsWide, PassesForm, IsFormWide, PassesAim, IsAimWide, HasAimCause}
 use Rattle.design_engine.specs.Refusals.{PassesMargin}
 use Rattle.design_engine.specs.declared.aimed.Aim.{Aim}
-use Rattle.design_refusal.specs.declared.refusal.Refusal.{Refusal}
-use Rattle.design_refusal.specs.declared.refusal.Refusal.TheVariants.{Memory, NoMargin, Curvature, TooManySteps, TooFine, TooWide}
+use Rattle.qp_model.specs.declared.refusal.Refusal.{Refusal}
+use Rattle.qp_model.specs.declared.refusal.Refusal.TheVariants.{Memory, NoMargin, Curvature, TooManySteps, TooFine, TooWide}
 use Rattle.lean_engine.specs.Lean.{lean_aim}
 
 -- X, and the quantity `excess`

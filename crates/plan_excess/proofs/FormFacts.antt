@@ -15,8 +15,8 @@ use Rattle.enclosure.specs.declared.types.Enc.{Enc}
 use Rattle.enclosure.specs.Values.{pair}
 use Rattle.fine_run.specs.Lists.{HoldsEnclosures}
 use Rattle.plan_excess.specs.declared.rows.Row.{Row}
-use Rattle.design_refusal.specs.declared.size_fault.SizeFault.{SizeFault}
-use Rattle.design_refusal.specs.declared.size_fault.SizeFault.TheVariants.{TooWide}
+use Rattle.qp_model.specs.declared.size_fault.SizeFault.{SizeFault}
+use Rattle.qp_model.specs.declared.size_fault.SizeFault.TheVariants.{TooWide}
 use Rattle.plan_excess.specs.Fault.{IsExcessFault}
 use Rattle.plan_excess.specs.Rows.{line_at, line_size, IsGradientRow, AreGradientRows}
 

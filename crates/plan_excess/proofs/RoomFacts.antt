@@ -11,8 +11,8 @@ use Rattle.enclosure.proofs.SumLaws.{combination_reach_is, combination_size, rad
 use Rattle.qp_model.specs.form.Quantities.{greatest}
 use Rattle.qp_model.proofs.SizeFacts.{greatest_more, greatest_term}
 use Rattle.plan_excess.specs.Fault.{IsExcessFault}
-use Rattle.design_refusal.specs.declared.size_fault.SizeFault.{SizeFault}
-use Rattle.design_refusal.specs.declared.size_fault.SizeFault.TheVariants.{Memory}
+use Rattle.qp_model.specs.declared.size_fault.SizeFault.{SizeFault}
+use Rattle.qp_model.specs.declared.size_fault.SizeFault.TheVariants.{Memory}
 
 -- none where the size is above the limit
 pub none_of : {T : Type 0} (o : Option T) (n : ℕ) → o ≡ None → (n ≤ 2 ^ 126 → ⊥) → IsSome o ↔ (n ≤ 2 ^ 126)

@@ -22,8 +22,7 @@ use crate::rows::{Row, rows_of};
 use crate::slope::slope_of;
 use crate::sums::Sums;
 use condensed_form::Condensed;
-use design_refusal::SizeFault;
-use qp_model::{Design, Policy};
+use qp_model::{Design, Policy, SizeFault};
 use std::alloc::Global;
 
 // What the entries of a corner's plans add, by their rows.

@@ -13,13 +13,13 @@ ghost use Rattle.condensed_form.specs.Form.{held, IsFormOf};
 ghost use Rattle.fine_run.specs.Lists.{HoldsEnclosures};
 ghost use Rattle.plan_excess.specs.Fault.{IsExcessFault};
 ghost use Rattle.plan_excess.specs.Rows.{line_at, line_size, IsGradientRow, AreGradientRows, AreRowsNear};
-ghost use Rattle.design_refusal.specs.declared.size_fault.SizeFault.TheVariants.{TooWide as excess_wide};
+ghost use Rattle.qp_model.specs.declared.size_fault.SizeFault.TheVariants.{TooWide as excess_wide};
 
 use crate::fault::too_wide;
 use condensed_form::Condensed;
-use design_refusal::SizeFault;
 use enclosure::{Enc, enclose_within};
 use mat_int::Mat;
+use qp_model::SizeFault;
 use std::alloc::Global;
 
 /// What the plan's entries, the state's coordinates and 1 are times in one entry of the cost's gradient.

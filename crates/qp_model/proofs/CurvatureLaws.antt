@@ -5,8 +5,8 @@ use Rattle.std.proofs.lemmas.Nat.{pow_pos}
 use Rattle.std.proofs.Math.Nat.{one-le-mul}
 use Rattle.std.proofs.Math.IntN.{*ℤ-zero}
 use Rattle.integer_algebra.specs.Sums.{total, dot, image, square, none}
-use Rattle.dual_method.specs.Objective.{Objective, bend, twice_cost, gradient, IsUpward}
-use Rattle.dual_method.proofs.ObjectiveLaws.{expands, convex}
+use Rattle.qp_model.specs.method.Objective.{Objective, bend, twice_cost, gradient, IsUpward}
+use Rattle.qp_model.proofs.ObjectiveLaws.{expands, convex}
 use Rattle.qp_model.specs.problem.Design.{Design, CostRow, entries}
 use Rattle.qp_model.specs.problem.Sound.{IsSound}
 use Rattle.qp_model.specs.problem.Trajectory.{trajectory, lift}

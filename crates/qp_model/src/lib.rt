@@ -1,4 +1,5 @@
-//! The design, the controller and the machine: their types, what makes them right, and the words in which every promise is made.
+//! The design, the controller and the machine: their types, what makes them right, and the words in which every promise is made;
+//! the laws of an inexact projected dual gradient method; and why a design with a policy has no controller, and the words that say so.
 #![tactic(auto)]
 
 mod bounds;
@@ -8,12 +9,16 @@ mod design;
 mod design_parts;
 mod laws;
 mod limits;
+pub mod method;
 mod part_rules;
 mod policy;
 mod quantity;
 pub mod range;
+mod refusal;
 pub mod rules;
+mod size_fault;
 mod sizes;
+mod words;
 
 pub use bounds::{Bounds, Margin};
 pub use controller_parts::ControllerParts;
@@ -32,7 +37,10 @@ pub use limits::{
 };
 pub use policy::Policy;
 pub use quantity::{Quantity, Wide};
+pub use refusal::Refusal;
+pub use size_fault::SizeFault;
 pub use sizes::{
     cost_width, curvature_of, growth, hessian_size, limit_width, limited_area, limited_power,
     prediction_size, rows_size, weight_sum,
 };
+pub use words::refusal_words;

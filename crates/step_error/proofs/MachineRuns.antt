@@ -4,7 +4,7 @@ use Rattle.std.proofs.lemmas.Int.{ints}
 use Rattle.std.proofs.Math.IntN.{*ℤ-zero}
 use mathlib.Core.Path.{fun_ext}
 use Rattle.integer_algebra.specs.Sums.{total, dot, square, at}
-use Rattle.dual_method.specs.Dual.{InBox, averaged}
+use Rattle.qp_model.specs.method.Dual.{InBox, averaged}
 use Rattle.integer_algebra.proofs.OrderLaws.{le_by, pos_positive, mul-le-mul_left_z, mul_pos_z, cancel-le_z}
 use Rattle.integer_algebra.proofs.RingLaws.{mul_assoc_z}
 use Rattle.integer_algebra.proofs.SumLaws.{total_same, total_scale}

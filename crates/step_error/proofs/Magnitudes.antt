@@ -11,7 +11,7 @@ use Rattle.integer_algebra.specs.Division.{floor_of}
 use Rattle.integer_algebra.proofs.DivisionLaws.{le-mul-ceil_div}
 use Rattle.integer_algebra.proofs.OrderLaws.{mul_nonneg_z}
 use Rattle.integer_algebra.proofs.PowerLaws.{pow_positive}
-use Rattle.dual_method.specs.Dual.{InBox}
+use Rattle.qp_model.specs.method.Dual.{InBox}
 use Rattle.qp_model.specs.problem.Design.{Design, rows}
 use Rattle.qp_model.specs.problem.Box.{IsGridState}
 use Rattle.qp_model.specs.form.Form.{Form}

@@ -3,7 +3,7 @@ use Rattle.std.specs.Prelude.{◌≡◌, ℕ, suc, ◌+◌, ◌*◌, ◌^◌, �
 use Rattle.integer_algebra.specs.Sums.{at, total, dot, square}
 use Rattle.integer_algebra.specs.Bounds.{IsWithin}
 use Rattle.integer_algebra.specs.Division.{floor_of}
-use Rattle.dual_method.specs.Dual.{InBox}
+use Rattle.qp_model.specs.method.Dual.{InBox}
 use Rattle.qp_model.specs.problem.Design.{Design, entries, rows}
 use Rattle.qp_model.specs.problem.Parts.{IsDesign, design_of}
 use Rattle.qp_model.specs.form.Form.{Form, IsFormFor, plan_radii, state_radii}

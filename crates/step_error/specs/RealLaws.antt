@@ -1,7 +1,7 @@
 -- What the residuals that a controller's gains really leave promise: the errors of its steps, what they cost, and so a bound of each step and of a run.
 use Rattle.std.specs.Prelude.{ℕ, ◌*◌, ◌≤◌, ℤ, pos, ◌*ℤ◌, ◌<ℤ◌, List}
 use Rattle.integer_algebra.specs.Sums.{at}
-use Rattle.dual_method.specs.Dual.{InBox}
+use Rattle.qp_model.specs.method.Dual.{InBox}
 use Rattle.qp_model.specs.problem.Design.{rows}
 use Rattle.qp_model.specs.problem.Parts.{IsDesign, design_of}
 use Rattle.qp_model.specs.form.Form.{Form, IsFormFor}

@@ -3,11 +3,11 @@ ghost use Rattle.std.specs.Prelude.{◌≡◌, ℕ, pos, ◌^◌, ◌<◌, ◌�
 ghost use Rattle.qp_model.specs.bounds.Errors.{epsilon};
 ghost use Rattle.step_error.specs.ErrorSums.{AreSums, sums_of};
 ghost use Rattle.step_error.specs.Choice.{IsChoice};
-ghost use Rattle.design_refusal.specs.declared.refusal.Refusal.TheVariants.{TooFine as too_fine};
+ghost use Rattle.qp_model.specs.declared.refusal.Refusal.TheVariants.{TooFine as too_fine};
 
 use crate::errors::epsilon;
 use crate::sums::ErrorSums;
-use design_refusal::Refusal;
+use qp_model::Refusal;
 use thiserror::Error;
 
 /// A number of fraction bits, and what the errors of a step cost with it.

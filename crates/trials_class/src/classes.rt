@@ -1,9 +1,8 @@
 // Expected values are those of bench/condense/classes.py.
 use condensed_form::Condensed;
 use design_engine::condense;
-use design_refusal::SizeFault;
 use mat_int::Mat;
-use qp_model::{Design, Quantity};
+use qp_model::{Design, Quantity, SizeFault};
 use std::alloc::{AllocError, Global};
 use std::test::Fail;
 use trials_worked_designs::design;

@@ -1,7 +1,6 @@
 // Why a design is not condensed.
 use condensed_form::Condensed;
-use design_refusal::SizeFault;
-use qp_model::Quantity;
+use qp_model::{Quantity, SizeFault};
 use std::alloc::AllocError;
 
 /// The quantity that is too wide, none where there is a form; an error where memory ran out, so that it is taken for no answer.

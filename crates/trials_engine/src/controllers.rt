@@ -6,10 +6,9 @@ use approx_inverse::solve_all;
 use controller_maker::{Settings, controller_of};
 use design_engine::condense;
 use design_files::read_design;
-use design_refusal::SizeFault;
 use mat_int::Mat;
 use overflow_check::Controller;
-use qp_model::{ControllerParts, Design, Quantity};
+use qp_model::{ControllerParts, Design, Quantity, SizeFault};
 use std::alloc::{AllocError, Global};
 use std::test::Fail;
 

@@ -5,10 +5,9 @@ ghost use Rattle.qp_model.specs.problem.Policy.{plans_of, IsPolicyFor};
 
 use condensed_form::Condensed;
 use design_engine::condense;
-use design_refusal::SizeFault;
 use plan_excess::excess;
 use policy_file::read_policy;
-use qp_model::{Design, Policy, Quantity};
+use qp_model::{Design, Policy, Quantity, SizeFault};
 use std::alloc::{AllocError, Global};
 use std::test::Fail;
 use trials_worked_designs::{Changed, DESIGN, FINE, FINE_STILL, FORCED, changed_design};

@@ -1,11 +1,10 @@
 // The lines that tell of answers, and the commands.
 use command_line::{Command, Field, Status, command_of, is_json, status_line};
 use controller_text::BadController;
-use design_refusal::Refusal;
 use frac_scaled::Frac;
 use io_edge::Words;
 use number_text::TextFault;
-use qp_model::Quantity;
+use qp_model::{Quantity, Refusal};
 use std::alloc::{AllocError, Global};
 use std::test::Fail;
 

@@ -8,7 +8,7 @@ use Rattle.condensed_form.specs.Form.{IsFormOf, held}
 use Rattle.condensed_form.specs.declared.condensed.Condensed.{Condensed}
 use Rattle.approx_inverse.specs.Inverse.{SolvesForm}
 use Rattle.approx_inverse.specs.Fault.{IsFault}
-use Rattle.design_refusal.specs.declared.size_fault.SizeFault.{SizeFault}
+use Rattle.qp_model.specs.declared.size_fault.SizeFault.{SizeFault}
 use Rattle.approx_inverse.specs.declared.inverse.Inverse.{Inverse}
 use Rattle.approx_inverse.proofs.DesignLaws.{solvable_from, descent_equal, inverse_from}
 use Rattle.approx_inverse.proofs.FormLaws.{fault_gives, if_err, if_ok, ok_gives, refusal_of, room_from}

@@ -5,9 +5,9 @@ use Rattle.command_line.specs.StatusLine.{status_words, status_line}
 use Rattle.command_line.specs.Status.{status_number}
 use Rattle.command_line.specs.declared.status.Status.{Status}
 use Rattle.command_line.specs.declared.status.Status.TheVariants.{Done, Refused}
-use Rattle.design_refusal.specs.Words.{refusal_words}
-use Rattle.design_refusal.specs.declared.refusal.Refusal.{Refusal}
-use Rattle.design_refusal.specs.declared.refusal.Refusal.TheVariants.{Memory, NoMargin, Curvature, TooManySteps, TooFine, TooWide}
+use Rattle.qp_model.specs.refusal.Words.{refusal_words}
+use Rattle.qp_model.specs.declared.refusal.Refusal.{Refusal}
+use Rattle.qp_model.specs.declared.refusal.Refusal.TheVariants.{Memory, NoMargin, Curvature, TooManySteps, TooFine, TooWide}
 use Rattle.command_line.proofs.error_line.status_line.Goals as goal
 use Rattle.command_line.proofs.error_line.status_line.Goals.{in-Done, in_default}
 

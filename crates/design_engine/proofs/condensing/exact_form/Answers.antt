@@ -5,7 +5,7 @@ use Rattle.qp_model.specs.problem.Parts.{design_of}
 use Rattle.qp_model.specs.form.Quantities.{prediction_size}
 use Rattle.qp_model.specs.form.FineSizes.{is_fine}
 use Rattle.condensed_form.specs.Form.{IsFormIn}
-use Rattle.design_refusal.specs.declared.size_fault.SizeFault.{SizeFault}
+use Rattle.qp_model.specs.declared.size_fault.SizeFault.{SizeFault}
 use Rattle.design_engine.proofs.ClassFacts.{limited_class, wide_class, chosen, kept}
 use Rattle.design_engine.proofs.condensing.exact_form.Goals as goal
 

@@ -2,8 +2,8 @@ use Rattle.std.proofs.Common.{◌≡◌, inl, inr, Err, true, ap, ◌∙◌}
 use Rattle.std.proofs.lemmas.Result.{err_from_is_err_and}
 use Rattle.qp_model.specs.declared.quantity.Quantity.{Quantity}
 use Rattle.qp_model.specs.problem.Parts.{design_of}
-use Rattle.design_refusal.specs.declared.size_fault.SizeFault.{SizeFault}
-use Rattle.design_refusal.specs.declared.size_fault.SizeFault.TheVariants.{TooWide}
+use Rattle.qp_model.specs.declared.size_fault.SizeFault.{SizeFault}
+use Rattle.qp_model.specs.declared.size_fault.SizeFault.TheVariants.{TooWide}
 use Rattle.condensed_form.specs.Fault.{IsFirstWideIn}
 use Rattle.fine_condense.proofs.FaultFacts.{refused, none_wide, same_fault, memory_apart}
 use Rattle.fine_condense.proofs.form.condense_fine.Goals as goal

@@ -1,0 +1,45 @@
+ghost use Rattle.std.specs.Prelude.{◌≡◌};
+ghost use Rattle.qp_model.specs.declared.refusal.Refusal.TheVariants.{Memory as no_memory, TooWide as too_wide};
+
+use crate::quantity::{Quantity, Wide};
+use frac_scaled::Frac;
+use std::alloc::AllocError;
+use thiserror::Error;
+
+/// Why a design with a policy has no controller.
+#[derive(Clone, Copy, Debug, PartialEq, Eq, Error)]
+pub enum Refusal {
+    #[error("memory")]
+    Memory,
+    /// The plan of that corner has less slack than `2^-16` in that row, both counted from 1; it is the first.
+    #[error("no margin")]
+    NoMargin { corner: u32, row: u32, slack: Frac },
+    /// No exponent of the step is at most 40.
+    #[error("curvature")]
+    Curvature,
+    /// A run would need `k` steps, more than 4194304.
+    #[error("too many steps")]
+    TooManySteps { k: i128 },
+    /// The errors of a step cost `eps` over `2^40` with the most bits, which is more than the targets leave.
+    #[error("too fine")]
+    TooFine { eps: i128 },
+    /// The quantity is above `2^126`.
+    #[error("too wide")]
+    TooWide { quantity: Quantity },
+}
+
+impl From<AllocError> for Refusal {
+    ghost from_gives = { λ _ e. e ≡ no_memory };
+
+    fn from(_: AllocError) -> Self {
+        Refusal::Memory
+    }
+}
+
+impl From<Wide> for Refusal {
+    ghost from_gives = { λ fault e. e ≡ too_wide fault.0 };
+
+    fn from(fault: Wide) -> Self {
+        Refusal::TooWide { quantity: fault.0 }
+    }
+}
