@@ -14,7 +14,7 @@ use qp_model::{Bounds, Design, Policy, Refusal};
 use std::alloc::{AllocError, Global};
 
 /// The cell, from 1, whose design with its policy is refused, and why.
-#[derive(Clone, Copy, PartialEq, Eq)]
+#[derive(Clone, Copy)]
 pub struct CellRefusal {
     pub cell: u32,
     pub refusal: Refusal,

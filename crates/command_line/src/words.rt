@@ -7,7 +7,7 @@ use io_edge::Words;
 use number_text::number_word;
 
 /// A command, with its number where it has one.
-#[derive(Clone, Copy, PartialEq, Eq)]
+#[derive(Clone, Copy)]
 pub enum Command {
     Generate,
     Solve,

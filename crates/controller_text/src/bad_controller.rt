@@ -2,10 +2,11 @@ ghost use Rattle.std.specs.Prelude.{◌≡◌};
 ghost use Rattle.controller_text.specs.declared.bad_controller.BadController.TheVariants.{Memory};
 
 use std::alloc::AllocError;
+use std::fmt;
 use thiserror::Error;
 
 /// Why bytes are no controller's text.
-#[derive(Clone, Copy, Debug, PartialEq, Eq, Error)]
+#[derive(Clone, Copy, PartialEq, Eq, Error)]
 pub enum BadController {
     #[error("memory")]
     Memory,
@@ -16,6 +17,13 @@ pub enum BadController {
     /// All lines are in form, but the absolute sums of the numbers don't fit the width that the text says.
     #[error("unsafe")]
     Unsafe,
+}
+
+// An error type has `Debug`, and nothing here prints by it: to write what `Display` does is proved in half the time of a derived one.
+impl fmt::Debug for BadController {
+    fn fmt<W: fmt::Write>(&self, f: &mut fmt::Formatter<W>) -> fmt::Result {
+        fmt::Display::fmt(self, f)
+    }
 }
 
 impl From<AllocError> for BadController {

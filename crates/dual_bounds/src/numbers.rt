@@ -8,13 +8,21 @@ ghost use Rattle.qp_model.specs.declared.refusal.Refusal.TheVariants.{TooManySte
 
 use frac_scaled::scaled;
 use qp_model::{Margin, Quantity, Refusal, Wide};
+use std::fmt;
 use thiserror::Error;
 
 /// A run would need `k` steps, more than 4194304.
-#[derive(Clone, Copy, Debug, PartialEq, Eq, Error)]
+#[derive(Clone, Copy, PartialEq, Eq, Error)]
 #[error("too many steps")]
 pub struct TooManySteps {
     pub k: i128,
+}
+
+// An error type has `Debug`, and nothing here prints by it: to write what `Display` does is proved in half the time of a derived one.
+impl fmt::Debug for TooManySteps {
+    fn fmt<W: fmt::Write>(&self, f: &mut fmt::Formatter<W>) -> fmt::Result {
+        fmt::Display::fmt(self, f)
+    }
 }
 
 impl From<TooManySteps> for Refusal {

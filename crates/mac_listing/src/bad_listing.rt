@@ -2,10 +2,11 @@ ghost use Rattle.std.specs.Prelude.{◌≡◌};
 ghost use Rattle.mac_listing.specs.declared.bad_listing.BadListing.TheVariants.{Memory};
 
 use std::alloc::AllocError;
+use std::fmt;
 use thiserror::Error;
 
 /// Why bytes are no listing's text.
-#[derive(Clone, Copy, Debug, PartialEq, Eq, Error)]
+#[derive(Clone, Copy, PartialEq, Eq, Error)]
 pub enum BadListing {
     #[error("memory")]
     Memory,
@@ -13,6 +14,13 @@ pub enum BadListing {
     /// such a line, an absent line counts as the next, and so do bytes after the line `end`.
     #[error("line")]
     Line { line: u32 },
+}
+
+// An error type has `Debug`, and nothing here prints by it: to write what `Display` does is proved in half the time of a derived one.
+impl fmt::Debug for BadListing {
+    fn fmt<W: fmt::Write>(&self, f: &mut fmt::Formatter<W>) -> fmt::Result {
+        fmt::Display::fmt(self, f)
+    }
 }
 
 impl From<AllocError> for BadListing {

@@ -8,6 +8,7 @@ ghost use Rattle.qp_model.specs.declared.refusal.Refusal.TheVariants.{TooFine as
 use crate::errors::epsilon;
 use crate::sums::ErrorSums;
 use qp_model::Refusal;
+use std::fmt;
 use thiserror::Error;
 
 /// A number of fraction bits, and what the errors of a step cost with it.
@@ -20,10 +21,17 @@ pub struct Choice {
 }
 
 /// Even with 48 fraction bits the errors of a step cost `eps` over `2^40`, which is too much.
-#[derive(Clone, Copy, Debug, PartialEq, Eq, Error)]
+#[derive(Clone, Copy, PartialEq, Eq, Error)]
 #[error("too fine")]
 pub struct TooFine {
     pub eps: i128,
+}
+
+// An error type has `Debug`, and nothing here prints by it: to write what `Display` does is proved in half the time of a derived one.
+impl fmt::Debug for TooFine {
+    fn fmt<W: fmt::Write>(&self, f: &mut fmt::Formatter<W>) -> fmt::Result {
+        fmt::Display::fmt(self, f)
+    }
 }
 
 impl From<TooFine> for Refusal {

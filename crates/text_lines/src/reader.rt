@@ -24,7 +24,9 @@ pub fn lines_in<'a, G: Grammar>(
     // What is after the last line feed is no line.
     let whole = &pieces[..pieces.len() - 1];
     let lines = right_lines::<G>(alloc, whole)?;
-    if is_text::<G>(&lines, whole.len(), pieces[whole.len()]) {
+    let right = is_text::<G>(&lines, whole.len(), pieces[whole.len()]);
+    drop(pieces);
+    if right {
         Ok(Ok(lines))
     } else {
         Ok(Err(lines.len() as u32 + 1))

@@ -21,12 +21,12 @@ index-requires g c =
 pub overflow_cast-result : goal.overflow_cast-result
 overflow_cast-result g c =
     let items = c.in_ok-lines.lines.items in
-    record { fits = omega (arith, few_right g.G.Grammar.whole c.requires (views items) c.in_ok-lines.ensures.beginning, length-map items view, c.len-else-is_text.ensures, c.in_ok-lines.lines.ok.0) }
+    record { fits = omega (arith, few_right g.G.Grammar.whole c.requires (views items) c.in_ok-lines.ensures.beginning, length-map items view, c.len-else-right.ensures, c.in_ok-lines.lines.ok.0) }
 
 pub overflow_add-result : goal.overflow_add-result
 overflow_add-result g c =
     let items = c.in_ok-lines.lines.items in
-    record { fits = omega (arith, few_right g.G.Grammar.whole c.requires (views items) c.in_ok-lines.ensures.beginning, length-map items view, c.len-else-is_text.ensures, c.in_ok-lines.lines.ok.0) }
+    record { fits = omega (arith, few_right g.G.Grammar.whole c.requires (views items) c.in_ok-lines.ensures.beginning, length-map items view, c.len-else-right.ensures, c.in_ok-lines.lines.ok.0) }
 
 -- the last piece as it is read
 last_is : (ps items : List (Bor (List ℕ))) (x : Bor (List ℕ)) (n k : ℕ) → ps ≡ items → n ≡ k → n < length items → x ≡ get_or items n x → x ≡ get_or ps k none_read
@@ -50,8 +50,8 @@ cut_is bytes ps items k x same cut count read =
 spelled_so : (items : List Line) (whole : List (List ℕ)) → map spelled (views items) ≡ take (length items) whole → map spelled (views items) ≡ take (length (views items)) whole
 spelled_so items whole e = e ∙ ap (λ (n : ℕ). take n whole) (sym (length-map items view))
 
-pub returns-then-is_text : goal.returns-then-is_text
-returns-then-is_text g c =
+pub returns-then-right : goal.returns-then-right
+returns-then-right g c =
     let bytes = c.args.bytes.now in
     let ps = c.deref.result.now in
     let k = c.len.result in
@@ -59,7 +59,7 @@ returns-then-is_text g c =
     let front = take (k - 1) ps in
     let whole = map (λ (x : Bor (List ℕ)). x.now) front in
     let cut = cut_is bytes ps c.in_ok-pieces.pieces.items k c.index.result.now c.deref.ensures.value c.in_ok-pieces.ensures (omega (arith, c.deref.ensures.len, c.len.ensures)) c.index.ensures in
-    let test = c.is_text.ensures.0 c.if-is_text.true in
+    let test = c.is_text-right.ensures.0 c.if-right.true in
     let empty : (get_or ps (k - 1) none_read).now ≡ [] = ap (λ (x : Bor (List ℕ)). x.now) (sym cut.last) ∙ test.1 in
     let same = c.deref-2.ensures.value in
     let all : length (views items) ≡ length whole = length-map items view ∙ ap length (sym same) ∙ test.0 ∙ sym (length-map front (λ (x : Bor (List ℕ)). x.now)) in
@@ -75,9 +75,9 @@ returns g c =
     let whole = map (λ (x : Bor (List ℕ)). x.now) front in
     let cut = cut_is bytes ps c.in_ok-pieces.pieces.items k c.index.result.now c.deref.ensures.value c.in_ok-pieces.ensures (omega (arith, c.deref.ensures.len, c.len.ensures)) c.index.ensures in
     let same = c.deref-2.ensures.value in
-    let counted : length (views items) ≡ c.len-else-is_text.result = omega (arith, length-map items view, c.len-else-is_text.ensures, c.in_ok-lines.lines.ok.0) in
+    let counted : length (views items) ≡ c.len-else-right.result = omega (arith, length-map items view, c.len-else-right.ensures, c.in_ok-lines.lines.ok.0) in
     let most = subst (λ (n : ℕ). IsMost g.G.Grammar.whole whole n) (sym (length-map items view)) c.in_ok-lines.ensures.most in
     let bad = bad_line g.G.Grammar.whole c.requires bytes whole (get_or ps (k - 1) none_read).now (views items) cut.split c.in_ok-lines.ensures.beginning (spelled_so items whole c.in_ok-lines.ensures.spelling) most
-    (λ h. false≢true (sym c.if-is_text.false ∙ c.is_text.ensures.1
+    (λ h. false≢true (sym c.if-right.false ∙ c.is_text-right.ensures.1
     (ap length same ∙ sym (length-map items view) ∙ h.0 ∙ length-map front (λ (x : Bor (List ℕ)). x.now), ap (λ (x : Bor (List ℕ)). x.now) cut.last ∙ h.1, subst (λ (ls : List Line). g.G.Grammar.whole (views ls)) (sym same) h.2))) in
     subst (λ (n : ℕ). IsBadLineOf (IsTextOf g.G.Grammar.whole) bytes (n + 1)) counted bad
