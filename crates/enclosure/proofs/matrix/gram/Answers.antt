@@ -23,7 +23,7 @@ loop-j-preserved c =
     let j = c.loop-j.j in
     let near : (l : ℕ) → l < n → gram_magnitude (length weights) (at weights) x j l ≤ℤ pos (2 ^ 126) = search rules in
     let all : (i : ℕ) → i < j + 1 → (l : ℕ) → l < n → gram_magnitude (length weights) (at weights) x i l ≤ℤ pos (2 ^ 126) =
-        below_more _ _ (λ i p l q. c.loop-j.invariant.near i l p q) near in
+    below_more _ _ (λ i p l q. c.loop-j.invariant.near i l p q) near in
     record { made = search rules; near = λ i l p q. all i p l q }
 
 pub returns-clause-value : goal.returns-clause-value
