@@ -1,9 +1,9 @@
 -- Products of columns, and matrices made row by row.
 use Rattle.std.proofs.Common.{◌≡◌, ℕ, zero, suc, ◌+◌, ◌*◌, ◌^◌, ◌<◌, ◌≤◌, ℤ, pos, negsuc, ◌+ℤ◌, ◌*ℤ◌, ◌≤ℤ◌, List, [], length, replicate, refl, get_or, unsigned_abs, arith, sym, ap, ◌∙◌, below_more, lit<, set, inl, inr}
 use Rattle.std.specs.Prelude.{All}
-use Rattle.std.proofs.lemmas.Int.{unsigned_abs-mul}
+use Rattle.std.proofs.lemmas.Int.{unsigned_abs-mul, ints}
 use Rattle.std.proofs.lemmas.Bool.{cases_eq, cases_lt}
-use Rattle.std.proofs.lemmas.List.{length-replicate, length-set, set_past, get_or-set_same, get_or-set_other}
+use Rattle.std.proofs.lemmas.List.{length-replicate, get_or-replicate, length-set, set_past, get_or-set_same, get_or-set_other}
 use Rattle.std.proofs.lemmas.List.Elements.{All-replicate}
 use Rattle.integer_algebra.specs.Bounds.{absolute}
 use Rattle.integer_algebra.specs.Sums.{at}
@@ -134,6 +134,16 @@ set_keeps P xs i k y d h o = elim (cases_eq k i) [
   ]
   | inr n ↦ rw (get_or-set_other xs i k y d n) o
 ]
+
+-- zeros with radius 0
+pub none_negative : (rows cols : ℕ) → AreEnclosures (zero_matrix rows cols) (zero_matrix rows cols)
+none_negative rows cols = record {
+  rows = refl;
+  cols = refl;
+  nonnegative = λ i j p q.
+      (let inside : i < rows = omega (arith, length-replicate rows (replicate cols (pos 0)), p) in
+      rw (get_or-replicate rows i (replicate cols (pos 0)) [] inside, get_or-replicate cols j (pos 0) (pos 0) q) (omega (arith, ints)));
+}
 
 -- one entry put
 pub entry_put : (mid rad : Matrix) (i j : ℕ) (u v : ℤ) → pos 0 ≤ℤ v → AreEnclosures mid rad → AreEnclosures (with_entry mid i j u) (with_entry rad i j v)
