@@ -1,10 +1,9 @@
 use Rattle.std.proofs.Common.{◌≡◌, ℕ, ◌+◌, ◌^◌, ◌<◌, ◌≤ℤ◌, pos, rules, arith, sym, subst, length, below_more}
 use Rattle.integer_algebra.specs.Sums.{at}
 use Rattle.frac_scaled.specs.Enclosures.{Enclosure}
-use Rattle.mat_int.specs.Enclosures.{enclosure_at, weighted_gram, gram_magnitude, HasEnclosures}
+use Rattle.mat_int.specs.Enclosures.{enclosure_at, gram_magnitude}
 use Rattle.mat_int.proofs.EnclosureLaws.{gram_law}
 use Rattle.enclosure.specs.Laws.{EnclosesGram}
-use Rattle.enclosure.specs.Rows.{AreBegun}
 use Rattle.enclosure.proofs.RoomLaws.{same_pair}
 use Rattle.enclosure.proofs.GramLaws.{are_none, are_all}
 use Rattle.enclosure.proofs.matrix.gram.Goals as goal
