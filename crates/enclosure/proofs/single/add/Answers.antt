@@ -21,12 +21,6 @@ overflow_add-result c =
     let g : FitsSigned w128 c.args.b.mid = search rules in
     rw (to_z-of_z w128 _ f, to_z-of_z w128 _ g) (near_fits c.args.a.mid c.args.b.mid (unsigned_abs c.args.a.rad) _ c.magnitude.result _ (rw c.magnitude.ensures (le_refl _)) c.magnitude-2.ensures c.in_ok-limited_sum.ensures.0)
 
-pub overflow_add-result-2 : goal.overflow_add-result-2
-overflow_add-result-2 c =
-    let h : FitsSigned w128 c.args.a.rad = search rules in
-    let k : FitsSigned w128 c.args.b.rad = search rules in
-    rw (to_z-of_z w128 _ h, to_z-of_z w128 _ k) (near_fits_too c.args.a.rad c.args.b.rad (unsigned_abs c.args.a.mid) _ c.magnitude.result _ (rw c.magnitude.ensures (le_refl _)) c.magnitude-2.ensures c.in_ok-limited_sum.ensures.0)
-
 pub returns-clause-value : goal.returns-clause-value
 returns-clause-value c =
     let f : FitsSigned w128 c.args.a.mid = search rules in
