@@ -1,10 +1,9 @@
 -- Products of columns, and matrices made row by row.
-use Rattle.std.proofs.Common.{◌≡◌, ℕ, zero, suc, ◌+◌, ◌*◌, ◌^◌, ◌<◌, ◌≤◌, ℤ, pos, negsuc, ◌+ℤ◌, ◌*ℤ◌, ◌≤ℤ◌, List, [], ◌∷◌, ◌++◌, length, get_or, unsigned_abs, arith, sym, ap, ◌∙◌, below_more, lit<, set, inl, inr}
-use Rattle.std.specs.Prelude.{All}
-use Rattle.std.proofs.lemmas.Int.{unsigned_abs-mul}
+use Rattle.std.proofs.Common.{◌≡◌, ℕ, zero, suc, ◌+◌, ◌*◌, ◌^◌, ◌<◌, ◌≤◌, ℤ, pos, negsuc, ◌+ℤ◌, ◌*ℤ◌, ◌≤ℤ◌, List, [], length, replicate, refl, get_or, unsigned_abs, arith, sym, ap, ◌∙◌, below_more, lit<, set, inl, inr}
+use Rattle.std.proofs.lemmas.Int.{unsigned_abs-mul, ints}
 use Rattle.std.proofs.lemmas.Bool.{cases_eq, cases_lt}
-use Rattle.std.proofs.lemmas.List.{length_push, get_or_push, get_or_append_left, length-set, set_past, get_or-set_same, get_or-set_other}
-use Rattle.std.proofs.lemmas.List.Elements.{All-append}
+use Rattle.std.proofs.lemmas.List.{length-replicate, get_or-replicate, length-set, set_past, get_or-set_same, get_or-set_other}
+use Rattle.std.proofs.lemmas.List.Elements.{All-replicate}
 use Rattle.integer_algebra.specs.Bounds.{absolute}
 use Rattle.integer_algebra.specs.Sums.{at}
 use Rattle.integer_algebra.proofs.BoundLaws.{absolute_nonneg}
@@ -12,9 +11,10 @@ use Rattle.integer_algebra.proofs.OrderLaws.{add_nonneg_z, mul_nonneg_z}
 use Rattle.integer_algebra.proofs.SumLaws.{total_same, total_nonneg}
 use Rattle.integer_algebra.proofs.SizeLaws.{total_amount}
 use Rattle.frac_scaled.specs.Enclosures.{Enclosure, whole_product, magnitude}
-use Rattle.mat_int.specs.Matrix.{Matrix, row_of, entry_of, with_entry, HasEntries}
-use Rattle.mat_int.specs.Enclosures.{gram_sum, weighted_gram, gram_magnitude, AreEnclosures}
-use Rattle.enclosure.specs.Rows.{HasRow}
+use Rattle.mat_int.specs.Matrix.{Matrix, row_of, entry_of, with_entry, zero_matrix, HasEntries}
+use Rattle.mat_int.proofs.MatrixLaws.{entry_here, entry_beside, entry_elsewhere, even_kept}
+use Rattle.mat_int.specs.Enclosures.{gram_sum, weighted_gram, gram_magnitude, AreEnclosures, HasEnclosures}
+use Rattle.enclosure.specs.Rows.{HasBegun, AreBegun}
 use Rattle.enclosure.proofs.RoomLaws.{reach_is, reach_mul_is, ceil_small, inexact_small}
 use Rattle.enclosure.proofs.SumLaws.{combination_size}
 
@@ -70,20 +70,59 @@ gram_nonneg n w x j l h =
     (inexact_small (gram_sum n w x j l).mid (2 ^ 40)).0
 
 -- ---- matrices
--- one row more
-pub pushed : (h w : ℕ) (f : ℕ → ℕ → ℤ) (m n : Matrix) (row : List ℤ) → n ≡ record m { rows = m.rows ++ row ∷ [] } → HasEntries h w f m → HasRow w (f h) row →
-    HasEntries (h + 1) w f n
-pushed h w f m n row e k r =
-    let all : (i : ℕ) → i < h + 1 → (j : ℕ) → j < w → at (get_or (m.rows ++ row ∷ []) i []) j ≡ f i j = below_more _ _
-    (λ i p j q. ap (λ (row : List ℤ). at row j) (get_or_append_left m.rows (row ∷ []) [] i (omega (arith, k.rows))) ∙ k.entries i j p q)
-    (λ j q. ap (λ (row : List ℤ). at row j) (get_or_push m.rows row [] h k.rows) ∙ r.entries j q) in
-    let last : All (λ row. length row ≡ w) (row ∷ []) = λ i d p. (let first : i ≡ 0 = omega (arith, p) in rw first r.long) in
+-- no row yet
+begun_none : (n : ℕ) (f : ℕ → ℕ → ℤ) (m : Matrix) → m ≡ zero_matrix n n → HasBegun 0 0 n f m
+begun_none n f m e = rw e (record {
+  rows = length-replicate n (replicate n (pos 0));
+  cols = refl;
+  even = All-replicate (λ row. length row ≡ n) n (replicate n (pos 0)) (length-replicate n (pos 0));
+  entries = λ i j p q. absurd (omega arith);
+  next = λ j p. absurd (omega arith);
+})
+
+-- one entry more
+begun_more : (i j n : ℕ) (f : ℕ → ℕ → ℤ) (m k : Matrix) (v : ℤ) → HasBegun i j n f m → i < n → j < n → k ≡ with_entry m i j v → v ≡ f i j →
+    HasBegun i (j + 1) n f k
+begun_more i j n f m k v h p q e is =
+    let row : i < length m.rows = omega (arith, h.rows, p) in
+    let col : j < length (row_of m i) = omega (arith, h.even i [] row, q) in
     rw e (record {
-      rows = length_push m.rows row ∙ ap (λ n. n + 1) k.rows;
-      cols = k.cols;
-      even = All-append (λ row. length row ≡ w) m.rows (row ∷ []) k.even last;
-      entries = λ i j p q. all i p j q;
+      rows = length-set m.rows i _ ∙ h.rows;
+      cols = h.cols;
+      even = even_kept m n i j v h.even row;
+      entries = λ a b l s. entry_elsewhere m i j a b v (λ same. absurd (omega (arith, same, l))) ∙ h.entries a b l s;
+      next = below_more _ _ (λ b l. entry_beside m i j i b v (λ same. absurd (omega (arith, same, l))) row ∙ h.next b l) (entry_here m i j v row col ∙ is);
     })
+
+-- one row more
+begun_row : (i n : ℕ) (f : ℕ → ℕ → ℤ) (m : Matrix) → HasBegun i n n f m → HasBegun (i + 1) 0 n f m
+begun_row i n f m h =
+    let all : (a : ℕ) → a < i + 1 → (b : ℕ) → b < n → entry_of m a b ≡ f a b = below_more _ _ (λ a p b q. h.entries a b p q) h.next in
+    record {
+      rows = h.rows;
+      cols = h.cols;
+      even = h.even;
+      entries = λ a b p q. all a p b q;
+      next = λ j p. absurd (omega arith);
+    }
+
+-- all rows
+begun_all : (n : ℕ) (f : ℕ → ℕ → ℤ) (m : Matrix) → HasBegun n 0 n f m → HasEntries n n f m
+begun_all n f m h = record { rows = h.rows; cols = h.cols; even = h.even; entries = h.entries }
+
+-- the same of both matrices
+pub are_none : (n : ℕ) (f : ℕ → ℕ → Enclosure) (mid rad : Matrix) → mid ≡ zero_matrix n n → rad ≡ zero_matrix n n → AreBegun 0 0 n f mid rad
+are_none n f mid rad e d = record { mids = begun_none n _ mid e; rads = begun_none n _ rad d }
+
+pub are_more : (i j n : ℕ) (f : ℕ → ℕ → Enclosure) (mid rad m r : Matrix) (u v : ℤ) → AreBegun i j n f mid rad → i < n → j < n →
+    m ≡ with_entry mid i j u → r ≡ with_entry rad i j v → u ≡ (f i j).mid → v ≡ (f i j).rad → AreBegun i (j + 1) n f m r
+are_more i j n f mid rad m r u v h p q e d is same = record { mids = begun_more i j n _ mid m u h.mids p q e is; rads = begun_more i j n _ rad r v h.rads p q d same }
+
+pub are_row : (i n : ℕ) (f : ℕ → ℕ → Enclosure) (mid rad : Matrix) → AreBegun i n n f mid rad → AreBegun (i + 1) 0 n f mid rad
+are_row i n f mid rad h = record { mids = begun_row i n _ mid h.mids; rads = begun_row i n _ rad h.rads }
+
+pub are_all : (n : ℕ) (f : ℕ → ℕ → Enclosure) (mid rad : Matrix) → AreBegun n 0 n f mid rad → HasEnclosures n n f mid rad
+are_all n f mid rad h = record { mids = begun_all n _ mid h.mids; rads = begun_all n _ rad h.rads }
 
 -- a fact of an element and of what is put into the list
 set_keeps : {X : Type 0} (P : X → Type 0) (xs : List X) (i k : ℕ) (y d : X) → P y → P (get_or xs k d) → P (get_or (set xs i y) k d)
@@ -94,6 +133,16 @@ set_keeps P xs i k y d h o = elim (cases_eq k i) [
   ]
   | inr n ↦ rw (get_or-set_other xs i k y d n) o
 ]
+
+-- zeros with radius 0
+pub none_negative : (rows cols : ℕ) → AreEnclosures (zero_matrix rows cols) (zero_matrix rows cols)
+none_negative rows cols = record {
+  rows = refl;
+  cols = refl;
+  nonnegative = λ i j p q.
+      (let inside : i < rows = omega (arith, length-replicate rows (replicate cols (pos 0)), p) in
+      rw (get_or-replicate rows i (replicate cols (pos 0)) [] inside, get_or-replicate cols j (pos 0) (pos 0) q) (omega (arith, ints)));
+}
 
 -- one entry put
 pub entry_put : (mid rad : Matrix) (i j : ℕ) (u v : ℤ) → pos 0 ≤ℤ v → AreEnclosures mid rad → AreEnclosures (with_entry mid i j u) (with_entry rad i j v)

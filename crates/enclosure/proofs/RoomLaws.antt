@@ -45,6 +45,19 @@ limit_is n z e = (λ h. omega (arith, ints, e, h), λ h. omega (arith, ints, e, 
 pub refused : {T : Type 0} (o : Option T) (n : ℕ) (z : ℤ) → o ≡ None → z ≡ pos n → ¬ (n ≤ 2 ^ 126) → IsSome o ↔ (z ≤ℤ pos (2 ^ 126))
 refused o n z e f h = rw e (λ s. cc, λ k. absurd (h ((limit_is n z f).1 k)))
 
+-- a sum whose terms are within the limit fits
+pub near_fits : (a b : ℤ) (p q m n : ℕ) → unsigned_abs a + p ≤ m → n ≡ unsigned_abs b + q → m + n ≤ 2 ^ 126 → FitsSigned w128 (a +ℤ b)
+near_fits a b p q m n h k l = omega (arith, ints, h, k, l)
+
+-- and one of the second numbers
+pub near_fits_too : (a b : ℤ) (p q m n : ℕ) → p + unsigned_abs a ≤ m → n ≡ q + unsigned_abs b → m + n ≤ 2 ^ 126 → FitsSigned w128 (a +ℤ b)
+near_fits_too a b p q m n h k l = omega (arith, ints, h, k, l)
+
+-- and what their sums reach
+pub reach_more : (a b r s : ℤ) (m n : ℕ) → unsigned_abs a + unsigned_abs r ≤ m → n ≡ unsigned_abs b + unsigned_abs s →
+    unsigned_abs (a +ℤ b) + unsigned_abs (r +ℤ s) ≤ m + n
+reach_more a b r s m n h k = omega (arith, ints, h, k)
+
 -- ---- quotients
 -- a quotient rounded up is between 0 and what is divided
 pub ceil_small : (z : ℤ) (d : ℕ) → pos 0 ≤ℤ z → 0 < d → (pos 0 ≤ℤ ceil_of z d) × (ceil_of z d ≤ℤ z)

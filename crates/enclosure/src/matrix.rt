@@ -5,7 +5,7 @@ ghost use Rattle.frac_scaled.specs.Enclosures.{multiple, whole_product};
 ghost use Rattle.mat_int.specs.Enclosures.{weighted_gram, gram_magnitude, enclosure_at, HasEnclosures, AllNear, SomeIsFar};
 ghost use Rattle.enclosure.specs.Values.{pair};
 ghost use Rattle.enclosure.specs.Laws.{EnclosesGram};
-ghost use Rattle.enclosure.specs.Rows.{HasRow, IsFarInRow};
+ghost use Rattle.enclosure.specs.Rows.{AreBegun, IsFarInRow};
 
 use crate::combination::multiple;
 use crate::single::{SCALE, divided, whole_product};
@@ -71,46 +71,32 @@ pub fn gram(alloc: Global, x: &EncMat, weights: &[i128]) -> Result<EncMat, MatFa
         EnclosesGram (length weights.now) (at weights.now) (enclosure_at x.now.mid x.now.rad) j l (enclosure_at g.mid g.rad j l)) }
 {
     let cols = x.mid.cols();
-    let mut mid = Mat::zero(alloc, 0, cols)?;
-    let mut rad = Mat::zero(alloc, 0, cols)?;
-    let mut mids = vec![in alloc; 0; cols]?;
-    let mut rads = vec![in alloc; 0; cols]?;
+    let mut made = EncMat::zero(alloc, cols, cols)?;
     for j in 0..cols {
-        if gram_row(x, weights, j, &mut mids, &mut rads).is_none() {
+        if gram_row(x, weights, j, &mut made).is_none() {
             return Err(MatFault::Wide);
         }
-        mid.push_row(alloc, &mids)?;
-        rad.push_row(alloc, &rads)?;
     }
-    Ok(EncMat { mid, rad })
+    Ok(made)
 }
 
-// Row j of it, as midpoints and radii. None where the magnitudes of the terms of some entry are together above `2^126`; then the rows hold anything.
-fn gram_row(
-    x: &EncMat,
-    weights: &[i128],
-    j: usize,
-    mids: &mut [i128],
-    rads: &mut [i128],
-) -> Option<()>
+// Puts row j into `made`, which has the rows before it. None where the magnitudes of the terms of some entry are together above `2^126`; then its row j
+// holds anything.
+fn gram_row(x: &EncMat, weights: &[i128], j: usize, made: &mut EncMat) -> Option<()>
     requires shape { length weights.now ≡ length x.now.mid.rows }
     requires signs { All (λ weight. pos 0 ≤ℤ weight) weights.now }
     requires row { j < x.now.mid.cols }
-    requires mids { length mids.old ≡ x.now.mid.cols }
-    requires rads { length rads.old ≡ x.now.mid.cols }
-    ensures mids { OnSome result (HasRow x.now.mid.cols
-        (λ l. (weighted_gram (length weights.now) (at weights.now) (enclosure_at x.now.mid x.now.rad) j l).mid) mids.new) }
-    ensures rads { OnSome result (HasRow x.now.mid.cols
-        (λ l. (weighted_gram (length weights.now) (at weights.now) (enclosure_at x.now.mid x.now.rad) j l).rad) rads.new) }
+    requires begun { AreBegun j 0 x.now.mid.cols
+        (weighted_gram (length weights.now) (at weights.now) (enclosure_at x.now.mid x.now.rad)) made.old.mid made.old.rad }
+    ensures made { OnSome result (AreBegun (j + 1) 0 x.now.mid.cols
+        (weighted_gram (length weights.now) (at weights.now) (enclosure_at x.now.mid x.now.rad)) made.new.mid made.new.rad) }
     ensures near { OnSome result ((l : ℕ) → l < x.now.mid.cols →
         gram_magnitude (length weights.now) (at weights.now) (enclosure_at x.now.mid x.now.rad) j l ≤ℤ pos (2 ^ 126)) }
     ensures far { result ≡ None → IsFarInRow x.now.mid.cols
         (gram_magnitude (length weights.now) (at weights.now) (enclosure_at x.now.mid x.now.rad) j) }
 {
     for l in 0..x.mid.cols() {
-        let entry = gram_entry(x, weights, j, l)?;
-        mids[l] = entry.mid;
-        rads[l] = entry.rad;
+        made.set(j, l, gram_entry(x, weights, j, l)?);
     }
     Some(())
 }

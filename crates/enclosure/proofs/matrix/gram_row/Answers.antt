@@ -1,6 +1,19 @@
-use Rattle.std.proofs.Common.{arith}
-use Rattle.std.proofs.lemmas.Grind.{common_steps}
+use Rattle.std.proofs.Common.{◌≡◌, ◌<◌, ap, arith, refl, below_more}
+use Rattle.frac_scaled.specs.Enclosures.{Enclosure}
+use Rattle.enclosure.proofs.GramLaws.{are_more, are_row}
 use Rattle.enclosure.proofs.matrix.gram_row.Goals as goal
 
 pub loop-l-preserved : goal.loop-l-preserved
-loop-l-preserved c = grind (arith, common_steps)
+loop-l-preserved c =
+    let l : c.loop-l.l < c.args.x.now.mid.cols = omega (arith, c.cols-l-end.ensures, c.loop-l-test.true) in
+    let value = c.in_ok-gram_entry.ensures.value in
+    record {
+      made = are_more c.args.j c.loop-l.l _ _ _ _ _ _ _ _ c.loop-l.invariant.made c.requires.row l c.set.ensures.mid c.set.ensures.rad
+          (ap (λ (e : Enclosure). e.mid) value) (ap (λ (e : Enclosure). e.rad) value);
+      near = below_more _ _ c.loop-l.invariant.near (c.in_ok-gram_entry.ensures.room.0 refl);
+    }
+
+pub returns-clause-made : goal.returns-clause-made
+returns-clause-made c =
+    let end : c.loop-l.l ≡ c.args.x.now.mid.cols = omega (arith, c.cols-l-end.ensures, c.loop-l.auto.l-end, c.loop-l-test.false) in
+    are_row _ _ _ _ _ (rw end at c.loop-l.invariant.made)

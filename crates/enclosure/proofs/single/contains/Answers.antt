@@ -1,8 +1,30 @@
 use Rattle.std.proofs.Common.{◌^◌, ◌-ℤ◌, ◌*ℤ◌, pos, rules, arith, refl, FitsSigned}
 use Rattle.std.specs.Int.{w128}
 use Rattle.std.proofs.lemmas.Int.{ints, to_z-of_z, fits_signed_from_abs}
-use Rattle.enclosure.proofs.RoomLaws.{limit_is, test_room, test_is, test_is_far}
+use Rattle.enclosure.proofs.RoomLaws.{limit_is, refused, test_room, test_is, test_is_far}
 use Rattle.enclosure.proofs.single.contains.Goals as goal
+
+pub returns-in_err-far-clause-room : goal.returns-in_err-far-clause-room
+returns-in_err-far-clause-room c =
+    let d = rw (to_z-of_z w128 _ c.ranges.den) at c.unsigned_abs.ensures.value in
+    let far = rw (c.magnitude.ensures, d) at c.in_err-far.ensures in
+    refused c.from_residual.result _ _ c.from_residual.ensures (test_is_far c.args.a.mid c.args.a.rad c.args.num c.args.den c.args.a.nonnegative c.requires)
+    (λ h. far (omega (arith, h)))
+
+pub returns-in_err-limited_product-clause-room : goal.returns-in_err-limited_product-clause-room
+returns-in_err-limited_product-clause-room c =
+    let n = rw (to_z-of_z w128 _ c.ranges.num) at c.unsigned_abs-2.ensures.value in
+    let far = rw n at c.in_err-limited_product.ensures in
+    refused c.from_residual-in_err-limited_product.result _ _ c.from_residual-in_err-limited_product.ensures
+    (test_is_far c.args.a.mid c.args.a.rad c.args.num c.args.den c.args.a.nonnegative c.requires) (λ h. far (omega (arith, h)))
+
+pub returns-in_err-limited_sum-clause-room : goal.returns-in_err-limited_sum-clause-room
+returns-in_err-limited_sum-clause-room c =
+    let n = rw (to_z-of_z w128 _ c.ranges.num) at c.unsigned_abs-2.ensures.value in
+    let d = rw (to_z-of_z w128 _ c.ranges.den) at c.unsigned_abs.ensures.value in
+    let far = rw (c.in_ok-limited_product.ensures.1, c.in_ok-far.ensures.1, c.magnitude.ensures, n, d) at c.in_err-limited_sum.ensures in
+    refused c.from_residual-in_err-limited_sum.result _ _ c.from_residual-in_err-limited_sum.ensures
+    (test_is_far c.args.a.mid c.args.a.rad c.args.num c.args.den c.args.a.nonnegative c.requires) far
 
 pub overflow_mul-off : goal.overflow_mul-off
 overflow_mul-off c =

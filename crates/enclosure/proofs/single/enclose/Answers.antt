@@ -1,14 +1,25 @@
-use Rattle.std.proofs.Common.{◌^◌, ◌*ℤ◌, ℤ, pos, unsigned_abs, rules, arith, refl, ◌∙◌, FitsSigned}
+use Rattle.std.proofs.Common.{◌^◌, ◌*◌, ◌*ℤ◌, ℤ, pos, unsigned_abs, rules, arith, refl, ◌∙◌, FitsSigned}
 use Rattle.std.proofs.Math.IntN.{*ℤ_comm}
 use Rattle.std.specs.Int.{w128}
 use Rattle.std.proofs.lemmas.Int.{ints, to_z-of_z}
 use Rattle.frac_scaled.specs.Enclosures.{inexact, enclosed}
-use Rattle.enclosure.proofs.RoomLaws.{same_pair, ceil_none}
+use Rattle.enclosure.proofs.RoomLaws.{same_pair, ceil_none, refused, limit_is}
 use Rattle.std.proofs.Common.{subst}
 use Rattle.frac_scaled.specs.Enclosures.{Encloses}
 use Rattle.frac_scaled.proofs.EnclosureLaws.{enclosed_law}
 use Rattle.enclosure.proofs.RoomLaws.{divisor_is}
 use Rattle.enclosure.proofs.single.enclose.Goals as goal
+
+pub returns-in_err-limited_product-clause-room : goal.returns-in_err-limited_product-clause-room
+returns-in_err-limited_product-clause-room c =
+    let n = rw (to_z-of_z w128 _ c.ranges.num) at c.unsigned_abs.ensures.value in
+    refused c.from_residual.result (2 ^ 40 * unsigned_abs c.args.num) _ c.from_residual.ensures refl (rw n at c.in_err-limited_product.ensures)
+
+pub returns-clause-room : goal.returns-clause-room
+returns-clause-room c =
+    let n = rw (to_z-of_z w128 _ c.ranges.num) at c.unsigned_abs.ensures.value in
+    let near = rw n at c.in_ok-limited_product.ensures.0 in
+    (λ h. (limit_is (2 ^ 40 * unsigned_abs c.args.num) _ refl).0 near, λ h. refl)
 
 pub returns-clause-value : goal.returns-clause-value
 returns-clause-value c =

@@ -1,4 +1,4 @@
-use Rattle.std.proofs.Common.{◌≡◌, ℕ, ◌^◌, ◌<◌, ◌≤◌, rules, arith, FitsSigned}
+use Rattle.std.proofs.Common.{◌≡◌, ℕ, ℤ, pos, neg_ℤ, ◌+ℤ◌, ◌≤ℤ◌, unsigned_abs, ◌+◌, ◌*◌, ◌^◌, ◌<◌, ◌≤◌, rules, arith, FitsSigned}
 use Rattle.std.specs.Int.{w128}
 use Rattle.std.proofs.lemmas.Int.{ints, to_z-of_z}
 use Rattle.std.proofs.Math.Nat.{pow-le-pow_right}
@@ -44,3 +44,11 @@ pub returns-clause-value : goal.returns-clause-value
 returns-clause-value c =
     let end : c.loop-step._step ≡ 40 = omega (arith, c.loop-step-test.false, c.loop-step.auto._step-end) in
     rw (end, to_z-of_z w128 _ c.ranges.num, to_z-of_z w128 _ c.ranges.den) at c.loop-step.invariant.value
+
+pub returns-clause-small : goal.returns-clause-small
+returns-clause-small c =
+    let end : c.loop-step._step ≡ 40 = omega (arith, c.loop-step-test.false, c.loop-step.auto._step-end) in
+    small c.loop-step.quotient.whole (rw end at c.loop-step.invariant.least) (rw end at c.loop-step.invariant.most)
+  where
+    small : (w : ℤ) → neg_ℤ (pos (2 ^ 86 * 2 ^ 40)) ≤ℤ w → (w +ℤ pos 1) ≤ℤ pos ((2 ^ 86 + 1) * 2 ^ 40) → unsigned_abs w ≤ 2 ^ 126 + 2 ^ 40
+    small w h k = omega (arith, ints, h, k)
