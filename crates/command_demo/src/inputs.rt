@@ -17,8 +17,9 @@ use design_files::read_design;
 use design_maker::{Texts, made_law, make};
 use number_text::TextFault;
 use packed_rows::PackedRows;
-use policy_file::{read_policy, read_states};
+use policy_file::read_policy;
 use qp_model::{Design, Policy};
+use state_files::read_states;
 use std::alloc::{AllocError, Global};
 
 /// The stages of a made design.

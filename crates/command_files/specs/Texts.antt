@@ -15,8 +15,8 @@ use Rattle.stay_check.specs.FaceForms.{FaceNumbers}
 use Rattle.stay_check.specs.FacesText.{IsFacesText, IsFacesTextFault}
 use Rattle.cell_split.specs.CutsText.{IsCutsText, IsCutsTextFault}
 use Rattle.cell_split.specs.PoliciesText.{ArePolicies, IsPoliciesFault}
-use Rattle.shift_file.specs.RangeText.{IsRangeText, IsRangeFault}
-use Rattle.shift_file.specs.TurnText.{IsShiftsText, IsShiftsFault}
+use Rattle.state_files.specs.RangeText.{IsRangeText, IsRangeFault}
+use Rattle.state_files.specs.TurnText.{IsShiftsText, IsShiftsFault}
 use Rattle.command_line.specs.declared.status.Status.{Status}
 use Rattle.command_line.specs.declared.status.Status.TheVariants.{Controller}
 use Rattle.command_design_files.specs.Texts.{TellsFault}

@@ -1,14 +1,14 @@
 // A file of a range of shifts.
 ghost use Rattle.std.specs.Prelude.{◌≡◌, IfOk, IfErr};
 ghost use Rattle.io_edge.specs.Faults.{NoneFalls};
-ghost use Rattle.shift_file.specs.RangeText.{IsShiftRange};
+ghost use Rattle.state_files.specs.RangeText.{IsShiftRange};
 ghost use Rattle.command_files.specs.Reading.{IsRangeRead, EndsRange};
 
 use command_design_files::{FILE_LIMIT, read_bytes, text_status};
 use command_line::Status;
 use io_edge::Store;
 use mat_int::Mat;
-use shift_file::read_shift_range;
+use state_files::read_shift_range;
 use std::alloc::Global;
 
 /// The range of the shifts of `n` coordinates, its least and its greatest in a row each, under the name at a position among the arguments, or the status

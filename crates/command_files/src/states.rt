@@ -7,7 +7,7 @@ use command_design_files::{FILE_LIMIT, read_bytes, text_status};
 use command_line::Status;
 use io_edge::Store;
 use packed_rows::PackedRows;
-use policy_file::read_states;
+use state_files::read_states;
 use std::alloc::Global;
 
 /// The states of `n` numbers each, a row each, under the name at a position among the arguments, or the status that ends the run.

@@ -7,7 +7,7 @@ use command_design_files::{FILE_LIMIT, read_bytes, text_status};
 use command_line::Status;
 use io_edge::Store;
 use packed_rows::PackedRows;
-use shift_file::read_shifts;
+use state_files::read_shifts;
 use std::alloc::Global;
 
 /// The shifts of `n` coordinates after each of `turns` turns, a row each, under the name at a position among the arguments, or the status that ends the run.

@@ -4,7 +4,7 @@ ghost use Rattle.io_edge.specs.Faults.{NoneFalls};
 ghost use Rattle.qp_model.specs.problem.Parts.{design_of};
 ghost use Rattle.qp_model.specs.problem.Policy.{plans_of, IsPolicyFor};
 ghost use Rattle.stay_check.specs.FaceForms.{faces_of, AreFacesFor};
-ghost use Rattle.shift_file.specs.RangeText.{IsShiftRange};
+ghost use Rattle.state_files.specs.RangeText.{IsShiftRange};
 ghost use Rattle.command_line.specs.Words.{IsLeanStay};
 ghost use Rattle.command_lean.specs.Reading.{AreLeanInputsRead};
 ghost use Rattle.command_lean_stay.specs.Reading.{AreLeanStayingTexts, AreLeanTextsUnder, IsLeanStayRefusedWith, EndsLeanStaying};

@@ -8,8 +8,8 @@ use Rattle.qp_model.specs.machine.Controller.{Numbers}
 use Rattle.qp_model.specs.problem.Parts.{design_of, design_numbers}
 use Rattle.qp_model.specs.machine.Successor.{IsFor}
 use Rattle.qp_model.specs.declared.design_parts.DesignParts.{DesignParts}
-use Rattle.shift_file.specs.TurnText.{IsShiftsText}
-use Rattle.shift_file.proofs.TurnFacts.{turns_small}
+use Rattle.state_files.specs.TurnText.{IsShiftsText}
+use Rattle.state_files.proofs.TurnFacts.{turns_small}
 use Rattle.command_line.specs.Words.{word_of}
 use Rattle.command_line.specs.Limit.{file_limit}
 use Rattle.command_line.specs.Answers.{Contents, IsTold, ForContents, IsAnswer}

@@ -5,7 +5,7 @@ ghost use Rattle.qp_model.specs.problem.Design.{rows};
 ghost use Rattle.qp_model.specs.problem.Parts.{design_of};
 ghost use Rattle.qp_model.specs.problem.Runs.{Holds};
 ghost use Rattle.stay_check.specs.FaceForms.{faces_of, AreFacesFor};
-ghost use Rattle.shift_file.specs.RangeText.{IsShiftRange};
+ghost use Rattle.state_files.specs.RangeText.{IsShiftRange};
 ghost use Rattle.command_stay.specs.Stay.{stay_status};
 ghost use Rattle.command_stay.specs.Checking.{AreSmall, made_excess, IsKeptWith, IsCaughtWith};
 

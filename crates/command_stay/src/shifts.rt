@@ -5,7 +5,7 @@ ghost use Rattle.qp_model.specs.problem.Parts.{design_of};
 ghost use Rattle.stay_check.specs.FaceForms.{faces_of, AreFacesFor};
 ghost use Rattle.command_line.specs.Words.{word_of};
 ghost use Rattle.command_files.specs.Reading.{AreFacesRead};
-ghost use Rattle.shift_file.specs.RangeText.{IsShiftRange};
+ghost use Rattle.state_files.specs.RangeText.{IsShiftRange};
 ghost use Rattle.command_stay.specs.Reading.{IsRangeTaken, EndsTaking, EndsFacesUnder};
 
 use command_files::{read_faces_file, read_range_file};

@@ -8,7 +8,7 @@ ghost use Rattle.qp_model.specs.problem.Policy.{plans_of, IsPolicyFor};
 ghost use Rattle.qp_model.specs.bounds.Printed.{printed};
 ghost use Rattle.qp_model.specs.text.ControllerText.{IsControllerText};
 ghost use Rattle.stay_check.specs.FaceForms.{faces_of, AreFacesFor};
-ghost use Rattle.shift_file.specs.RangeText.{IsShiftRange};
+ghost use Rattle.state_files.specs.RangeText.{IsShiftRange};
 ghost use Rattle.command_line.specs.Words.{IsStay};
 ghost use Rattle.command_generate.specs.Made.{IsReport};
 ghost use Rattle.command_generate.specs.Inputs.{AreInputsRead};

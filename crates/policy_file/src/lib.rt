@@ -1,4 +1,4 @@
-//! The policy text and the states text: records of whole numbers, read with their first fault.
+//! The policy text, and records of whole numbers in any layout, read with their first fault.
 #![tactic(auto)]
 
 mod headed;
@@ -9,6 +9,6 @@ mod text;
 
 pub use headed::{Headed, read_headed};
 pub use number::number_field;
-pub use read::{corner_count, read_plans, read_policy, read_rows, read_states};
+pub use read::{corner_count, read_plans, read_policy};
 pub use record::{Layout, numbers_of};
-pub use text::all_records;
+pub use text::{all_records, text_records};

@@ -1,68 +1,17 @@
-// Texts of records as matrices.
+// Texts of records as plans.
 ghost use Rattle.std.specs.Prelude.{◌≡◌, ◌⊎◌, ◌<◌, ◌≤◌, ◌^◌, length, IfOk, IfErr, MatchResult};
-ghost use Rattle.mat_int.specs.Matrix.{Matrix};
 ghost use Rattle.qp_model.specs.problem.Limits.{last_version, most_states};
 ghost use Rattle.qp_model.specs.problem.Parts.{design_of, IsDesign};
 ghost use Rattle.qp_model.specs.problem.Policy.{Plans, plans_of, IsPolicyFor};
 ghost use Rattle.number_text.specs.declared.text_fault.TextFault.{TextFault};
 ghost use Rattle.number_text.specs.declared.text_fault.TextFault.TheVariants.{Memory};
-ghost use Rattle.policy_file.specs.Records.{IsRowsText, IsRecordsFault, records_of};
-ghost use Rattle.policy_file.specs.Layout.{rule_of};
-ghost use Rattle.policy_file.specs.StatesText.{IsStatesText, IsStatesFault};
 ghost use Rattle.policy_file.specs.PolicyText.{IsPolicyText, IsPolicyFault, ArePlans, IsPlansFault};
 
 use crate::headed::{Headed, read_headed};
-use crate::record::{Layout, numbers_of};
-use crate::text::text_records;
+use crate::record::Layout;
 use number_text::TextFault;
-use packed_rows::PackedRows;
 use qp_model::{Design, DesignParts, Policy};
 use std::alloc::Global;
-
-/// The states of a text of records of `n` numbers over `2^grid`, a row for each record. The text has fewer than `2^32` bytes.
-///
-/// # Errors
-/// The first fault: for the records in turn `Fields` where one has another number of fields, then `Number` for its first field that
-/// holds no number.
-pub fn read_states(alloc: Global, bytes: &[u8], n: usize) -> Result<PackedRows, TextFault>
-    requires { length bytes.now < 2 ^ 32 }
-    ensures found { IfOk result (IsStatesText bytes.now n) }
-    ensures count { IfOk result (λ m. length m.rows < 2 ^ 32) }
-    ensures fault { IfErr result (λ e. (e ≡ Memory) ⊎ IsStatesFault bytes.now n e) }
-
-    // The other way round, with nothing but out of memory in between.
-    ensures right { (states : Matrix) → IsStatesText bytes.now n states → MatchResult result (λ m. m ≡ states) (λ e. e ≡ Memory) }
-    ensures first { (told : TextFault) → IsStatesFault bytes.now n told → MatchResult result (λ _. ⊥) (λ e. (e ≡ told) ⊎ (e ≡ Memory)) }
-{
-    read_rows(alloc, bytes, Layout::States, n)
-}
-
-/// The numbers of a text of records of `width` numbers, a row for each record. The text has fewer than `2^32` bytes.
-///
-/// # Errors
-/// The first fault: for the records in turn `Fields` where one has another number of fields, then `Number` for its first field that
-/// holds no number of the layout.
-pub fn read_rows(
-    alloc: Global,
-    bytes: &[u8],
-    layout: Layout,
-    width: usize,
-) -> Result<PackedRows, TextFault>
-    requires { length bytes.now < 2 ^ 32 }
-    ensures found { IfOk result (IsRowsText (rule_of layout.entry) width bytes.now) }
-    ensures fault { IfErr result (λ e. (e ≡ Memory) ⊎ IsRecordsFault (rule_of layout.entry) width (records_of bytes.now) e) }
-{
-    let mut packed = PackedRows::new(alloc, width);
-    for record in text_records(alloc, bytes) {
-        let Ok(record) = record else {
-            return Err(TextFault::Memory);
-        };
-        let entry = packed.rows() as u32 + 1;
-        let numbers = numbers_of(alloc, &record, layout, width, entry)?;
-        packed.push_row(&numbers)?;
-    }
-    Ok(packed)
-}
 
 /// The plans of a text of `2^n` records, one for each corner of the box of n states (16 at most in version 1, 64 in version 2), of a
 /// denominator `1 .. 2^40` and the numerators of a plan, stage by stage. The text has fewer than `2^32` bytes.

@@ -8,7 +8,7 @@ use csv::{ByteRecord, ByteRecordsIntoIter, ReaderBuilder};
 use std::alloc::{AllocError, Global};
 
 /// The records of a text, read one by one. The reader stands over bytes and takes records of any length, so that each error of it is out of memory.
-pub(crate) fn text_records(alloc: Global, text: &[u8]) -> ByteRecordsIntoIter<&[u8]>
+pub fn text_records(alloc: Global, text: &[u8]) -> ByteRecordsIntoIter<&[u8]>
     ensures { HasLeft result (records_of text.now) }
 {
     ReaderBuilder::new()

@@ -2,8 +2,9 @@
 use design_files::read_design;
 use design_maker::{Texts, made_law, make};
 use packed_rows::PackedRows;
-use policy_file::{read_policy, read_states};
+use policy_file::read_policy;
 use qp_model::{Design, DesignParts};
+use state_files::read_states;
 use std::alloc::Global;
 use std::test::Fail;
 

@@ -3,7 +3,8 @@ ghost use Rattle.std.specs.Prelude.{length, ◌<◌, ◌^◌};
 
 use number_text::TextFault;
 use packed_rows::PackedRows;
-use policy_file::{number_field, read_states};
+use policy_file::number_field;
+use state_files::read_states;
 use std::alloc::{AllocError, Global};
 use std::test::Fail;
 

@@ -1,6 +1,6 @@
 use Rattle.std.proofs.Common.{Err, sym, ap}
 use Rattle.number_text.specs.declared.text_fault.TextFault.TheVariants.{Memory as no_room}
-use Rattle.shift_file.specs.TurnText.{IsShiftsFault}
+use Rattle.state_files.specs.TurnText.{IsShiftsFault}
 use Rattle.command_line.specs.Limit.{file_limit}
 use Rattle.command_line.proofs.Results.{err_same}
 use Rattle.command_line.specs.declared.status.Status.TheVariants.{Text}

@@ -7,7 +7,7 @@ use Rattle.number_text.specs.declared.text_fault.TextFault.TheVariants.{Count}
 use Rattle.qp_model.specs.problem.Parts.{IsNumeratorList}
 use Rattle.policy_file.specs.Records.{HoldsNumbers, IsRecordFault, records_of, record_at}
 use Rattle.policy_file.specs.FloorRule.{floor_rule}
-use Rattle.shift_file.specs.ShiftRule.{least_shifts}
+use Rattle.state_files.specs.ShiftRule.{least_shifts}
 
 -- the floors of record e, from 0, of n shifts: the greatest are not below the least
 abbrev pub range_floors : (n : ℕ) → (least : List ℤ) → ℕ → List ℤ

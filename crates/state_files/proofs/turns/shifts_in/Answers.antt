@@ -1,9 +1,9 @@
 use Rattle.std.proofs.Common.{◌≡◌, arith, rules}
 use Rattle.policy_file.proofs.RecordFacts.{records_few}
 use Rattle.policy_file.proofs.TextFacts.{passed_on}
-use Rattle.shift_file.specs.ShiftRule.{least_shifts}
-use Rattle.shift_file.proofs.TurnFacts.{turns_found, turn_count, record_fault}
-use Rattle.shift_file.proofs.turns.shifts_in.Goals as goal
+use Rattle.state_files.specs.ShiftRule.{least_shifts}
+use Rattle.state_files.proofs.TurnFacts.{turns_found, turn_count, record_fault}
+use Rattle.state_files.proofs.turns.shifts_in.Goals as goal
 
 pub returns-in_err-shifts-clause-fault : goal.returns-in_err-shifts-clause-fault
 returns-in_err-shifts-clause-fault c =

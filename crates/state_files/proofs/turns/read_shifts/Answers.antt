@@ -1,5 +1,5 @@
-use Rattle.shift_file.proofs.TurnFacts.{turns_told, all_small}
-use Rattle.shift_file.proofs.turns.read_shifts.Goals as goal
+use Rattle.state_files.proofs.TurnFacts.{turns_told, all_small}
+use Rattle.state_files.proofs.turns.read_shifts.Goals as goal
 
 pub returns-clause-small : goal.returns-clause-small
 returns-clause-small c = all_small c.args.bytes.now c.args.n c.args.turns c.shifts_in.result c.shifts_in.ensures.found

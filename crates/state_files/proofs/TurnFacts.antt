@@ -12,8 +12,8 @@ use Rattle.policy_file.specs.Records.{IsRecordsFault, IsRowsText, records_of, re
 use Rattle.policy_file.proofs.MatrixFacts.{same_matrix}
 use Rattle.policy_file.proofs.UniqueFacts.{IsFunctional, same_number, same_numbers, held_or_wrong, same_first_fault, both_ways}
 use Rattle.policy_file.specs.FloorRule.{IsShiftFrom, floor_rule}
-use Rattle.shift_file.specs.ShiftRule.{least_shifts}
-use Rattle.shift_file.specs.TurnText.{turn_rule, IsShiftsText, IsTurnCountFault, IsShiftsFault}
+use Rattle.state_files.specs.ShiftRule.{least_shifts}
+use Rattle.state_files.specs.TurnText.{turn_rule, IsShiftsText, IsTurnCountFault, IsShiftsFault}
 
 -- ---- what the text is
 -- in the words of what reads the records, whose floors are these

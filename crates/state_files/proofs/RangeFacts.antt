@@ -16,8 +16,8 @@ use Rattle.policy_file.proofs.MatrixFacts.{same_matrix}
 use Rattle.policy_file.proofs.TextFacts.{records_count}
 use Rattle.policy_file.proofs.UniqueFacts.{IsFunctional, same_number, same_numbers, wrong_or_right, same_record_fault, both_ways}
 use Rattle.policy_file.specs.FloorRule.{floor_rule}
-use Rattle.shift_file.specs.ShiftRule.{least_shifts}
-use Rattle.shift_file.specs.RangeText.{range_floors, IsRangeText, HoldsShifts, IsRangeRecordFault, IsRangeFault, IsShiftRange}
+use Rattle.state_files.specs.ShiftRule.{least_shifts}
+use Rattle.state_files.specs.RangeText.{range_floors, IsRangeText, HoldsShifts, IsRangeRecordFault, IsRangeFault, IsShiftRange}
 
 -- ---- the records that were read are rows
 pub record AreRead (text : List ℕ) (n : ℕ) (range : Matrix) (i : ℕ) : Type 0 where

@@ -4,8 +4,8 @@ use Rattle.mat_int.specs.Matrix.{row_of}
 use Rattle.policy_file.specs.Layout.{rule_of}
 use Rattle.policy_file.proofs.LeftFacts.{GivenAt, none_read, read_more, rows_read, given_at, all_given, given_room, given_small, given_fault}
 use Rattle.policy_file.proofs.TextFacts.{passed_on}
-use Rattle.policy_file.proofs.read.read_rows.Goals as goal
-use Rattle.policy_file.proofs.read.read_rows.Goals.{In-Ok}
+use Rattle.state_files.proofs.states.read_rows.Goals as goal
+use Rattle.state_files.proofs.states.read_rows.Goals.{In-Ok}
 
 -- the record that was read is the next one
 next_given : (c : In-Ok) → GivenAt c.args.bytes.now (length c.loop-record.packed.rows) (fields_of c.in-Ok.record) c.next.new.self

@@ -6,8 +6,8 @@ ghost use Rattle.number_text.specs.declared.text_fault.TextFault.{TextFault};
 ghost use Rattle.number_text.specs.declared.text_fault.TextFault.TheVariants.{Memory};
 ghost use Rattle.policy_file.specs.Records.{HoldsNumbers, IsRecordFault, field_room};
 ghost use Rattle.policy_file.specs.FloorRule.{floor_rule};
-ghost use Rattle.shift_file.specs.ShiftRule.{least_shifts};
-ghost use Rattle.shift_file.specs.RangeText.{range_floors, IsRangeText, IsRangeFault, IsShiftRange};
+ghost use Rattle.state_files.specs.ShiftRule.{least_shifts};
+ghost use Rattle.state_files.specs.RangeText.{range_floors, IsRangeText, IsRangeFault, IsShiftRange};
 
 use csv::ByteRecord;
 use mat_int::Mat;

@@ -2,8 +2,8 @@ use Rattle.std.proofs.Common.{◌<◌, length, arith}
 use Rattle.std.proofs.lemmas.List.{get_or_read}
 use Rattle.policy_file.proofs.RecordFacts.{records_few}
 use Rattle.policy_file.proofs.TextFacts.{record_is, records_count, entry_small, room_small, passed_on}
-use Rattle.shift_file.proofs.RangeFacts.{read_more, range_found, record_fault, count_fault}
-use Rattle.shift_file.proofs.range.range_of.Goals as goal
+use Rattle.state_files.proofs.RangeFacts.{read_more, range_found, record_fault, count_fault}
+use Rattle.state_files.proofs.range.range_of.Goals as goal
 
 pub next_shifts-requires-clause-room : goal.next_shifts-requires-clause-room
 next_shifts-requires-clause-room c =

@@ -2,7 +2,7 @@ use Rattle.std.proofs.Common.{arith}
 use Rattle.std.proofs.lemmas.Result.{IfOk-weaker}
 use Rattle.policy_file.proofs.RecordFacts.{records_few}
 use Rattle.policy_file.proofs.UniqueFacts.{states_told}
-use Rattle.policy_file.proofs.read.read_states.Goals as goal
+use Rattle.state_files.proofs.states.read_states.Goals as goal
 
 pub returns-clause-found : goal.returns-clause-found
 returns-clause-found c = IfOk-weaker c.read_rows.result _ _ (λ m read. record { cols = read.cols; rows = read.rows; each = read.each }) c.read_rows.ensures.found

@@ -5,7 +5,7 @@ use Rattle.number_text.specs.declared.text_fault.TextFault.{TextFault}
 use Rattle.number_text.specs.declared.text_fault.TextFault.TheVariants.{Count}
 use Rattle.policy_file.specs.Records.{RecordRule, HoldsNumbers, HoldUpTo, IsRecordsFault, records_of, record_at}
 use Rattle.policy_file.specs.FloorRule.{floor_rule}
-use Rattle.shift_file.specs.ShiftRule.{least_shifts}
+use Rattle.state_files.specs.ShiftRule.{least_shifts}
 
 -- each field of n holds a shift, at most 2147483647 in absolute value
 abbrev pub turn_rule : ℕ → RecordRule

@@ -1,5 +1,5 @@
-use Rattle.shift_file.proofs.RangeFacts.{range_told, all_sized}
-use Rattle.shift_file.proofs.range.read_shift_range.Goals as goal
+use Rattle.state_files.proofs.RangeFacts.{range_told, all_sized}
+use Rattle.state_files.proofs.range.read_shift_range.Goals as goal
 
 pub returns-clause-sized : goal.returns-clause-sized
 returns-clause-sized c = all_sized c.args.bytes.now c.args.n c.range_of.result c.range_of.ensures.found

@@ -3,12 +3,13 @@ ghost use Rattle.std.specs.Prelude.{◌≡◌, ◌⊎◌, ℕ, ◌<◌, ◌^◌,
 ghost use Rattle.mat_int.specs.Matrix.{Matrix, entry_of};
 ghost use Rattle.number_text.specs.declared.text_fault.TextFault.{TextFault};
 ghost use Rattle.number_text.specs.declared.text_fault.TextFault.TheVariants.{Memory};
-ghost use Rattle.shift_file.specs.TurnText.{IsShiftsText, IsShiftsFault};
+ghost use Rattle.state_files.specs.TurnText.{IsShiftsText, IsShiftsFault};
 
 use crate::range::LEAST;
+use crate::states::read_rows;
 use number_text::TextFault;
 use packed_rows::PackedRows;
-use policy_file::{Layout, read_rows};
+use policy_file::Layout;
 use std::alloc::Global;
 
 /// The shifts of a text of a record of `n` numbers for each of `turns` turns, a row each. Each is at most 2147483647 in absolute value. The text has fewer

@@ -1,5 +1,0 @@
-use Rattle.shift_file.proofs.RangeFacts.{AreRead}
-use Rattle.shift_file.proofs.range.range_of.Given as goal
-
-abbrev pub invariant-loop-i : goal.invariant-loop-i
-invariant-loop-i l = AreRead l.bytes l.n l.range l.i
