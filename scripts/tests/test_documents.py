@@ -5,8 +5,8 @@ import unittest
 
 TOP = pathlib.Path(__file__).resolve().parents[2]
 # The most ways down from one crate, and from all together (`ways_down`).
-MOST_WAYS = 32_000
-ALL_WAYS = 240_000
+MOST_WAYS = 18_000
+ALL_WAYS = 132_000
 WORDS = {"fifteen": 15, "sixteen": 16, "seventeen": 17, "eighteen": 18, "nineteen": 19}
 
 
