@@ -156,6 +156,18 @@ class CratesFile(unittest.TestCase):
         self.assertLessEqual(sum(ways.values()), ALL_WAYS)
 
 
+class FilesOfTheGate(unittest.TestCase):
+    """The gate runs `mpc_generate` over files of its own crate, which are the first example's; what it must print is the worked report."""
+
+    def test_first_example(self):
+        for name in ("design.toml", "policy.csv"):
+            self.assertEqual(text_of(f"crates/mpc_generate/data/{name}"), text_of(f"examples/first/{name}"))
+
+    def test_report(self):
+        report = text_of("crates/mpc_generate/stdout").replace("\n", r"\n")
+        self.assertIn(f'pub const REPORT: &str = "{report}";', text_of("crates/trials_worked_designs/src/texts.rt"))
+
+
 class Architecture(unittest.TestCase):
     crates = crates_of(text_of("crates.txt"))
     named = named_in(rows_of(text_of("docs/ARCHITECTURE.md"), "The crates, from the bottom up"))
