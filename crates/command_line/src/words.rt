@@ -7,7 +7,7 @@ use io_edge::Words;
 use number_text::number_word;
 
 /// A command, with its number where it has one.
-#[derive(Clone, Copy)]
+#[derive(Clone, Copy, PartialEq, Eq)]
 pub enum Command {
     Generate,
     Solve,
