@@ -1,3 +1,4 @@
 pub mod ShiftRule
 pub mod RangeText
 pub mod TurnText
+pub mod RowAdded

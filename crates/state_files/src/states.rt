@@ -1,12 +1,15 @@
 // Texts of states, and of rows in any layout.
-ghost use Rattle.std.specs.Prelude.{◌≡◌, ◌⊎◌, ◌<◌, ◌^◌, length, IfOk, IfErr, MatchResult};
+ghost use Rattle.std.specs.Prelude.{◌≡◌, ◌⊎◌, ◌+◌, ◌≤◌, ◌<◌, ◌^◌, length, IfOk, IfErr, IsOkAnd, OnOk, MatchResult};
+ghost use Rattle.csv.specs.Records.{fields_of};
 ghost use Rattle.mat_int.specs.Matrix.{Matrix};
 ghost use Rattle.number_text.specs.declared.text_fault.TextFault.{TextFault};
 ghost use Rattle.number_text.specs.declared.text_fault.TextFault.TheVariants.{Memory};
-ghost use Rattle.policy_file.specs.Records.{IsRowsText, IsRecordsFault, records_of};
+ghost use Rattle.policy_file.specs.Records.{IsRowsText, IsRecordFault, IsRecordsFault, records_of, field_room};
 ghost use Rattle.policy_file.specs.Layout.{rule_of};
 ghost use Rattle.policy_file.specs.StatesText.{IsStatesText, IsStatesFault};
+ghost use Rattle.state_files.specs.RowAdded.{HasRowMore};
 
+use csv::{ByteRecord, Error};
 use number_text::TextFault;
 use packed_rows::PackedRows;
 use policy_file::{Layout, numbers_of, text_records};
@@ -47,12 +50,28 @@ pub fn read_rows(
 {
     let mut packed = PackedRows::new(alloc, width);
     for record in text_records(alloc, bytes) {
-        let Ok(record) = record else {
-            return Err(TextFault::Memory);
-        };
-        let entry = packed.rows() as u32 + 1;
-        let numbers = numbers_of(alloc, &record, layout, width, entry)?;
-        packed.push_row(&numbers)?;
+        push_record(alloc, record, layout, &mut packed)?;
     }
     Ok(packed)
+}
+
+// The numbers of a record that was read, as one more row.
+fn push_record(
+    alloc: Global,
+    read: Result<ByteRecord, Error>,
+    layout: Layout,
+    packed: &mut PackedRows,
+) -> Result<(), TextFault>
+    requires { IfOk read (λ r. (length packed.old.rows + 1 < 2 ^ 32) × (field_room (fields_of r) ≤ 2 ^ 32)) }
+    ensures found { OnOk result (IsOkAnd read (λ r. HasRowMore (rule_of layout.entry) (fields_of r) packed.old packed.new)) }
+    ensures fault { IfErr result (λ e. (e ≡ Memory) ⊎ IsOkAnd read (λ r. IsRecordFault (rule_of layout.entry) packed.old.cols (length packed.old.rows + 1) (fields_of r) e)) }
+{
+    let Ok(record) = read else {
+        return Err(TextFault::Memory);
+    };
+    let width = packed.cols();
+    let entry = packed.rows() as u32 + 1;
+    let numbers = numbers_of(alloc, &record, layout, width, entry)?;
+    packed.push_row(&numbers)?;
+    Ok(())
 }
