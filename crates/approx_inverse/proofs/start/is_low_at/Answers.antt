@@ -1,10 +1,14 @@
-use Rattle.std.proofs.Common.{rules, ◌≡◌, ◌^◌, ◌*ℤ◌, ◌+ℤ◌, ◌-ℤ◌, FitsSigned, pos, refl, to_z}
+use Rattle.std.proofs.Common.{rules, ◌≡◌, ◌^◌, ◌*ℤ◌, ◌+ℤ◌, ◌-ℤ◌, FitsSigned, pos, refl, to_z, IsTrue, false, ℤ, ℕ, ◌≤ℤ◌, length, arith}
 use Rattle.std.specs.Int.{w128}
-use Rattle.std.proofs.lemmas.Int.{to_z-of_z}
+use Rattle.std.proofs.lemmas.Int.{ints, to_z-of_z}
+use lib.Signed.{le_z}
 use Rattle.integer_algebra.specs.Sums.{at}
 use Rattle.approx_inverse.specs.Descent.{aim}
 use Rattle.approx_inverse.proofs.StartLaws.{sum_more}
 use Rattle.approx_inverse.proofs.start.is_low_at.Goals as goal
+
+not_true : ¬ IsTrue false
+not_true t = search rules
 
 pub loop-i-preserved : goal.loop-i-preserved
 loop-i-preserved c =
@@ -30,7 +34,15 @@ pub value_term-requires-clause-q_small : goal.value_term-requires-clause-q_small
 value_term-requires-clause-q_small c = c.requires.q_small
 
 pub returns-in_default : goal.returns-in_default
-returns-in_default c = λ yes. absurd (cc)
+returns-in_default c = λ yes. absurd (not_true yes)
 
 pub returns-in_default-checked_add : goal.returns-in_default-checked_add
-returns-in_default-checked_add c = λ yes. absurd (cc)
+returns-in_default-checked_add c = λ yes. absurd (not_true yes)
+
+pub returns : goal.returns
+returns c = λ yes.
+    let e : c.loop-i.i ≡ length c.args.c.now = omega (arith, c.loop-i-test.false, c.loop-i.auto.i-end) in
+    low _ (to_z w128 c.loop-i.sum-bits) c.args.p c.args.q (rw e at c.loop-i.invariant) yes
+  where
+    low : (a s : ℤ) (p q : ℕ) → a ≤ℤ (pos (2 ^ p) *ℤ pos (2 ^ q) *ℤ s) → IsTrue (le_z s (pos 0)) → a ≤ℤ pos 0
+    low a s p q h t = grind (arith, ints)

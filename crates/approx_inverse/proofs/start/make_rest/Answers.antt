@@ -1,10 +1,13 @@
-use Rattle.std.proofs.Common.{rules, ◌≡◌, FitsSigned, length, pos, arith, get_or-set_same, get_or-set_other, below_more, ◌∙◌}
+use Rattle.std.proofs.Common.{rules, ◌≡◌, FitsSigned, length, pos, arith, get_or-set_same, get_or-set_other, below_more, ◌∙◌, IsTrue, false}
 use Rattle.std.specs.Int.{w128}
 use Rattle.std.proofs.lemmas.Int.{to_z-of_z}
 use Rattle.integer_algebra.specs.Sums.{at}
 use Rattle.mat_int.specs.Matrix.{entry_of}
 use Rattle.approx_inverse.specs.Descent.{aim, system_residual}
 use Rattle.approx_inverse.proofs.start.make_rest.Goals as goal
+
+not_true : ¬ IsTrue false
+not_true t = search rules
 
 pub loop-i-preserved : goal.loop-i-preserved
 loop-i-preserved c =
@@ -22,4 +25,4 @@ pub returns : goal.returns
 returns c = λ yes i l. c.loop-i.invariant i (omega arith)
 
 pub returns-in_default : goal.returns-in_default
-returns-in_default c = λ yes. absurd (cc)
+returns-in_default c = λ yes. absurd (not_true yes)

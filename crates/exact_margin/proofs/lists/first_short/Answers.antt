@@ -1,4 +1,5 @@
-use Rattle.std.proofs.Common.{rules, FitsSigned, arith, below_more, refl}
+use Rattle.std.proofs.Common.{◌≡◌, ℕ, ◌^◌, ◌<◌, ◌≤◌, ℤ, pos, ◌*ℤ◌, ◌≤ℤ◌, ◌<ℤ◌, true, false, rules, FitsSigned, arith, below_more, refl, ◌∙◌}
+use lib.Signed.{lt_z}
 use Rattle.std.specs.Int.{w128}
 use Rattle.std.proofs.lemmas.Int.{ints, to_z-of_z}
 use Rattle.integer_algebra.specs.Sums.{at}
@@ -17,5 +18,27 @@ loop-i-preserved c =
     let xs = c.args.slacks.now in
     let x : FitsSigned w128 (at xs c.loop-i.i) = search rules in
     let s : FitsSigned w128 c.scaled.result = search rules in
-    let value = rw (to_z-of_z w128 _ x) at c.scaled.ensures in
-    below_more _ _ c.loop-i.invariant (omega (arith, ints, value, to_z-of_z w128 _ s, to_z-of_z w128 _ c.ranges.den, c.if-scaled-den.false))
+    below_more _ _ c.loop-i.invariant (keeps (at xs c.loop-i.i) _ _ (to_z-of_z w128 _ s ∙ rw (to_z-of_z w128 _ x) at c.scaled.ensures) c.if-scaled-den.false)
+  where
+    keeps : (x d s : ℤ) → s ≡ x *ℤ pos (2 ^ 16) → lt_z s d ≡ false → d ≤ℤ (pos (2 ^ 16) *ℤ x)
+    keeps x d s e t = omega (arith, ints, e, t)
+
+pub returns-then-scaled-den : goal.returns-then-scaled-den
+returns-then-scaled-den c =
+    let xs = c.args.slacks.now in
+    let x : FitsSigned w128 (at xs c.loop-i.i) = search rules in
+    let s : FitsSigned w128 c.scaled.result = search rules in
+    let den = to_z-of_z w128 _ c.ranges.den in (
+      c.loop-i-test.true,
+      short (at xs c.loop-i.i) _ _ (to_z-of_z w128 _ s ∙ rw (to_z-of_z w128 _ x) at c.scaled.ensures) (rw den at c.if-scaled-den.true),
+      λ k l. rw den at (c.loop-i.invariant k l),
+    )
+  where
+    short : (x d s : ℤ) → s ≡ x *ℤ pos (2 ^ 16) → lt_z s d ≡ true → (pos (2 ^ 16) *ℤ x) <ℤ d
+    short x d s e t = omega (arith, ints, e, t)
+
+pub returns : goal.returns
+returns c = λ k l. rw (to_z-of_z w128 _ c.ranges.den) at (c.loop-i.invariant k (within l c.loop-i-test.false))
+  where
+    within : {k n i : ℕ} → k < n → n ≤ i → k < i
+    within h g = omega (arith, h, g)

@@ -1,4 +1,4 @@
-use Rattle.std.proofs.Common.{◌≡◌, ℕ, ◌+◌, ◌^◌, ◌<◌, ◌≤◌, Err, false, arith, subst, rules}
+use Rattle.std.proofs.Common.{◌≡◌, ℕ, ◌+◌, ◌^◌, ◌<◌, ◌≤◌, Err, false, arith, le_refl, subst, rules}
 use Rattle.std.specs.Int.{w128}
 use mir.Val.{SFits}
 use Rattle.std.proofs.lemmas.Int.{to_z-of_z}
@@ -16,6 +16,28 @@ use Rattle.exact_margin.proofs.FaultFacts.{same_error, handed_error}
 use Rattle.exact_margin.proofs.MarginFacts.{exact_scales, one_margin, more_margin, min_some, max_some, all_slack, first_short, not_short}
 use Rattle.exact_margin.proofs.margin.margins_exact.Goals as goal
 
+-- ---- numbers of corners
+inside : {c e n m : ℕ} → e ≡ n → n ≡ m → c < e → c < m
+inside e f l = omega (arith, e, f, l)
+
+at_end : {c e n m : ℕ} → e ≡ n → n ≡ m → 1 ≤ m → e ≤ c → (1 ≤ e → c ≤ e) → c ≡ m
+at_end e f s l h = omega (arith, e, f, s, l, h)
+
+none_before : {b : ℕ} → 1 ≤ b → ¬ (b < 1)
+none_before a o = omega (arith, a, o)
+
+some_next : (c : ℕ) → 1 ≤ c + 1
+some_next c = omega arith
+
+next : {c m : ℕ} → c < m → c + 1 ≤ m
+next l = omega (arith, l)
+
+up_to : {c m : ℕ} → c < m → c ≤ m
+up_to l = omega (arith, l)
+
+before : {b c : ℕ} → b < c + 1 → b ≤ c
+before o = omega (arith, o)
+
 pub powers_of-requires-clause-fits : goal.powers_of-requires-clause-fits
 powers_of-requires-clause-fits c = last_power_room (design_of c.parts-parts.result.now) (plans_of c.args.policy.now) c.in_ok-test_room.ensures.room
 
@@ -27,14 +49,14 @@ returns-in_err-margin-clause-short c = λ corner row slack e.
     let back : c.corner_margin.result ≡ Err (NoMargin corner row slack) = same_error y.1 e c.in_err-margin.was y.2 in
     let short = c.corner_margin.ensures.short corner row slack back in
     rw (← c.parts-parts.ensures.value)
-    (c.in_ok-test_room.ensures.room, first_short false (design_of p) s 1 row corner slack short.0 (omega arith) (pow_pos p.states) (λ b a o. absurd (omega (arith, a, o))) short.1)
+    (c.in_ok-test_room.ensures.room, first_short false (design_of p) s 1 row corner slack short.0 (le_refl 1) (pow_pos p.states) (λ b a o. absurd (none_before a o)) short.1)
 
 pub loop-c-init : goal.loop-c-init
 loop-c-init c =
     let p = c.parts-parts.result.now in
     let s = plans_of c.args.policy.now in
     let k : IsCornerMargin (simulated (design_of p) s) (rows (design_of p)) 1 c.in_ok-margin.margin = c.in_ok-margin.ensures.margin in
-    rw (← c.parts-parts.ensures.value) (omega arith, (one_margin (simulated (design_of p) s) (rows (design_of p)) c.in_ok-margin.margin k, (k.units.some, k.cost.some)))
+    rw (← c.parts-parts.ensures.value) (le_refl 1, (one_margin (simulated (design_of p) s) (rows (design_of p)) c.in_ok-margin.margin k, (k.units.some, k.cost.some)))
 
 pub corner_margin-requires-in-loop-c-clause-setting : goal.corner_margin-requires-in-loop-c-clause-setting
 corner_margin-requires-in-loop-c-clause-setting c = record {
@@ -60,13 +82,13 @@ returns-in_err-next-clause-short c = λ corner row slack e.
     let y = err_from_is_err_and c.from_residual-in_err-next.result c.from_residual-in_err-next.ensures.1 in
     let back : c.corner_margin-in-loop-c.result ≡ Err (NoMargin corner row slack) = same_error y.1 e c.in_err-next.was y.2 in
     let short = c.corner_margin-in-loop-c.ensures.short corner row slack back in
-    let below : c.loop-c.c < 2 ^ c.parts-parts.result.now.states = omega (arith, c.loop-c-test.true, c.rows-c-end.ensures.count, f.rows) in
+    let below : c.loop-c.c < 2 ^ c.parts-parts.result.now.states = inside c.rows-c-end.ensures.count f.rows c.loop-c-test.true in
     let known : IsMarginOf (simulated (design_of p) s) (rows (design_of p)) c.loop-c.c c.loop-c.margin = rw c.parts-parts.ensures.value c.loop-c.invariant.1.0 in
     rw (← c.parts-parts.ensures.value) (
       c.in_ok-test_room.ensures.room,
-      first_short false (design_of p) s (c.loop-c.c + 1) row corner slack short.0 (omega arith) (omega (arith, below))
+      first_short false (design_of p) s (c.loop-c.c + 1) row corner slack short.0 (some_next c.loop-c.c) (next below)
           (λ b a o. all_slack (simulated (design_of p) s) (2 ^ p.states) (rows (design_of p)) c.loop-c.c c.loop-c.margin (exact_scales p s c.parts-parts.ensures.sound f)
-          (omega (arith, below)) known c.loop-c.invariant.1.1.0 b a (omega (arith, o))) short.1,
+          (up_to below) known c.loop-c.invariant.1.1.0 b a (before o)) short.1,
     )
 
 pub loop-c-preserved : goal.loop-c-preserved
@@ -74,7 +96,7 @@ loop-c-preserved c =
     let p = c.parts-parts.result.now in
     let s = plans_of c.args.policy.now in
     let f : IsPolicyFor (design_of p) s = rw c.parts-parts.ensures.value c.requires in
-    let below : c.loop-c.c < 2 ^ c.parts-parts.result.now.states = omega (arith, c.loop-c-test.true, c.rows-c-end.ensures.count, f.rows) in
+    let below : c.loop-c.c < 2 ^ c.parts-parts.result.now.states = inside c.rows-c-end.ensures.count f.rows c.loop-c-test.true in
     let known : IsMarginOf (simulated (design_of p) s) (rows (design_of p)) c.loop-c.c c.loop-c.margin = rw c.parts-parts.ensures.value c.loop-c.invariant.1.0 in
     let k : IsCornerMargin (simulated (design_of p) s) (rows (design_of p)) (c.loop-c.c + 1) c.in_ok-next.next = c.in_ok-next.ensures.margin in
     let fm : SFits w128 c.min.result = search rules in
@@ -84,7 +106,7 @@ loop-c-preserved c =
     let fnu : SFits w128 c.in_ok-next.next.units = search rules in
     let fnc : SFits w128 c.in_ok-next.next.cost = search rules in
     rw (← c.parts-parts.ensures.value, to_z-of_z w128 _ fm, to_z-of_z w128 _ fx, c.min.ensures.value, c.max.ensures.value, to_z-of_z w128 _ fmu, to_z-of_z w128 _ fmc, to_z-of_z w128 _ fnu, to_z-of_z w128 _ fnc) (
-      omega arith,
+      some_next c.loop-c.c,
       (
         more_margin (simulated (design_of p) s) (2 ^ p.states) (rows (design_of p)) c.loop-c.c c.loop-c.margin (exact_scales p s c.parts-parts.ensures.sound f) c.in_ok-next.next below known k,
         (min_some _ _ c.loop-c.invariant.1.1.0 k.units.some, max_some _ _ c.loop-c.invariant.1.1.1 k.cost.some),
@@ -97,7 +119,7 @@ returns-clause-margin c =
     let s = plans_of c.args.policy.now in
     let f : IsPolicyFor (design_of p) s = rw c.parts-parts.ensures.value c.requires in
     let some : 1 ≤ 2 ^ c.parts-parts.result.now.states = pow_pos c.parts-parts.result.now.states in
-    let all : c.loop-c.c ≡ 2 ^ c.parts-parts.result.now.states = omega (arith, c.loop-c-test.false, c.loop-c.auto.c-end (omega (arith, c.rows-c-end.ensures.count, f.rows, some)), c.rows-c-end.ensures.count, f.rows) in
+    let all : c.loop-c.c ≡ 2 ^ c.parts-parts.result.now.states = at_end c.rows-c-end.ensures.count f.rows some c.loop-c-test.false c.loop-c.auto.c-end in
     let known : IsMarginOf (simulated (design_of p) s) (rows (design_of p)) c.loop-c.c c.loop-c.margin = rw c.parts-parts.ensures.value c.loop-c.invariant.1.0 in
     rw (← c.parts-parts.ensures.value) (subst (λ (n : ℕ). IsMarginOf (simulated (design_of p) s) (rows (design_of p)) n c.loop-c.margin) all known)
 
@@ -114,7 +136,7 @@ returns-clause-no_give_up c = λ corner row slack w.
     let s = plans_of c.args.policy.now in
     let f : IsPolicyFor (design_of p) s = rw c.parts-parts.ensures.value c.requires in
     let some : 1 ≤ 2 ^ c.parts-parts.result.now.states = pow_pos c.parts-parts.result.now.states in
-    let all : c.loop-c.c ≡ 2 ^ c.parts-parts.result.now.states = omega (arith, c.loop-c-test.false, c.loop-c.auto.c-end (omega (arith, c.rows-c-end.ensures.count, f.rows, some)), c.rows-c-end.ensures.count, f.rows) in
+    let all : c.loop-c.c ≡ 2 ^ c.parts-parts.result.now.states = at_end c.rows-c-end.ensures.count f.rows some c.loop-c-test.false c.loop-c.auto.c-end in
     let known : IsMarginOf (simulated (design_of p) s) (rows (design_of p)) c.loop-c.c c.loop-c.margin = rw c.parts-parts.ensures.value c.loop-c.invariant.1.0 in
     let short : IsFirstShortIn false (design_of p) s corner row slack = rw c.parts-parts.ensures.value w in
     absurd (not_short false (design_of p) s c.loop-c.margin corner row slack (exact_scales p s c.parts-parts.ensures.sound f)

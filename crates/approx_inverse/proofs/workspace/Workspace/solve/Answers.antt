@@ -1,4 +1,4 @@
-use Rattle.std.proofs.Common.{rules, ◌≡◌, FitsSigned, length, refl, ap, sym, ◌∙◌}
+use Rattle.std.proofs.Common.{rules, ◌≡◌, FitsSigned, length, refl, ap, sym, ◌∙◌, IsTrue, false}
 use Rattle.std.specs.Int.{w128}
 use Rattle.std.proofs.lemmas.Int.{to_z-of_z}
 use Rattle.condensed_form.specs.Form.{held}
@@ -7,6 +7,9 @@ use Rattle.approx_inverse.proofs.WordLaws.{filled}
 use Rattle.approx_inverse.proofs.SizeLaws.{wide_column}
 use Rattle.approx_inverse.proofs.FormLaws.{system_from, solution_from, wide_from, on_ok, not_fit}
 use Rattle.approx_inverse.proofs.workspace.Workspace.solve.Goals as goal
+
+not_true : ¬ IsTrue false
+not_true t = search rules
 
 pub returns-then-not-put_column-clause-wide : goal.returns-then-not-put_column-clause-wide
 returns-then-not-put_column-clause-wide c = λ no.
@@ -65,7 +68,7 @@ returns-then-not-put_column-clause-work c = record {
 }
 
 pub returns-then-not-put_column-clause-solved : goal.returns-then-not-put_column-clause-solved
-returns-then-not-put_column-clause-solved c = λ t. absurd (cc)
+returns-then-not-put_column-clause-solved c = λ t. absurd (not_true t)
 
 pub guess-requires-clause-rows : goal.guess-requires-clause-rows
 guess-requires-clause-rows c =

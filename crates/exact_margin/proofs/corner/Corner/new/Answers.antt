@@ -2,6 +2,7 @@ use Rattle.std.proofs.Common.{◌≡◌, ◌+◌, ◌*◌, ◌^◌, ◌<◌, ℤ
 use Rattle.std.specs.Int.{w128}
 use mir.Val.{SFits}
 use Rattle.std.proofs.lemmas.Int.{to_z-of_z}
+use Rattle.std.proofs.lemmas.Result.{IfOk-from_err}
 use Rattle.integer_algebra.specs.Sums.{at}
 use Rattle.mat_int.specs.Matrix.{entry_of}
 use Rattle.qp_model.specs.problem.Box.{corner}
@@ -81,3 +82,15 @@ scaled-grid-requires-clause-fits c = grid_fits c.args.parts.now.grid c.requires.
 
 pub row-requires : goal.row-requires
 row-requires c = rw c.requires.setting.policy.rows c.requires.corner
+
+pub last_power-requires : goal.last_power-requires
+last_power-requires c = c.requires.setting.powers_are
+
+pub returns : goal.returns
+returns c = (refl, refl, refl)
+
+pub returns-in_err-plan : goal.returns-in_err-plan
+returns-in_err-plan c = IfOk-from_err _ _ c.from_residual-in_err-plan.ensures.0
+
+pub returns-in_err-start : goal.returns-in_err-start
+returns-in_err-start c = IfOk-from_err _ _ c.from_residual.ensures.0
