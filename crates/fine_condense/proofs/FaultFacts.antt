@@ -1,5 +1,5 @@
 -- The first quantity that is too wide is one alone.
-use Rattle.std.proofs.Common.{◌≡◌, ◌⊎◌, inl, inr, ℕ, ◌<◌, ◌≤◌, ◌^◌, Result, Err, true, arith, ap, refl}
+use Rattle.std.proofs.Common.{◌≡◌, ◌⊎◌, inl, inr, ℕ, ◌<◌, ◌≤◌, ◌^◌, Result, Ok, Err, IfOk, true, arith, ap, refl}
 use Rattle.qp_model.specs.declared.quantity.Quantity.{Quantity}
 use Rattle.qp_model.specs.declared.quantity.Quantity.TheVariants.{Prediction, Hessian, Rows}
 use Rattle.qp_model.specs.form.Class.{prediction_in, hessian_in, rows_in}
@@ -46,3 +46,14 @@ same_fault h k = cc
 -- want of memory is no quantity
 pub memory_apart : (q : Quantity) → Memory ≡ TooWide q → ⊥
 memory_apart q e = cc
+
+-- and a fault names one quantity
+pub same_quantity : {T : Type 0} {q r : Quantity} → ◌≡◌ {A = Result T SizeFault} (Err (TooWide q)) (Err (TooWide r)) → q ≡ r
+same_quantity e = cc
+
+-- what is made is no fault, and what is refused is not made
+pub made_apart : {T : Type 0} {v : T} {x : SizeFault} → ◌≡◌ {A = Result T SizeFault} (Ok v) (Err x) → ⊥
+made_apart e = cc
+
+pub none_made : {T : Type 0} {r : Result T SizeFault} {x : SizeFault} (P : T → Type 0) → r ≡ Err x → IfOk r P
+none_made P e = rw e tt
