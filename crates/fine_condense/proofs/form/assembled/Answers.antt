@@ -63,3 +63,9 @@ bend_floor-requires-clause-radius c = c.requires.costs.widest
 
 pub bend_floor-requires-clause-room : goal.bend_floor-requires-clause-room
 bend_floor-requires-clause-room c = c.requires.costs.room
+
+pub bend_floor-requires-clause-design : goal.bend_floor-requires-clause-design
+bend_floor-requires-clause-design c = c.requires.design
+
+pub brought_weight-requires-clause-design : goal.brought_weight-requires-clause-design
+brought_weight-requires-clause-design c = c.requires.design

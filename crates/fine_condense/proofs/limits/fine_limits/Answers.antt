@@ -51,3 +51,24 @@ returns-in_err-e-clause-limits c = none_made _ (err_from_is_err_and c.from_resid
 
 pub returns-in_err-bound-clause-limits : goal.returns-in_err-bound-clause-limits
 returns-in_err-bound-clause-limits c = none_made _ (err_from_is_err_and c.from_residual.result c.from_residual.ensures.1).1
+
+pub fine_rows_size-requires-clause-design : goal.fine_rows_size-requires-clause-design
+fine_rows_size-requires-clause-design c = c.requires.design
+
+pub fine_rows_size-requires-clause-reach : goal.fine_rows_size-requires-clause-reach
+fine_rows_size-requires-clause-reach c = c.requires.reach
+
+pub fine_plan_columns-requires-clause-design : goal.fine_plan_columns-requires-clause-design
+fine_plan_columns-requires-clause-design c = c.requires.design
+
+pub fine_plan_columns-requires-clause-prediction : goal.fine_plan_columns-requires-clause-prediction
+fine_plan_columns-requires-clause-prediction c = c.requires.prediction
+
+pub fine_state_columns-requires-clause-design : goal.fine_state_columns-requires-clause-design
+fine_state_columns-requires-clause-design c = c.requires.design
+
+pub fine_state_columns-requires-clause-prediction : goal.fine_state_columns-requires-clause-prediction
+fine_state_columns-requires-clause-prediction c = c.requires.prediction
+
+pub scaled_bounds-requires-clause-design : goal.scaled_bounds-requires-clause-design
+scaled_bounds-requires-clause-design c = c.requires.design
