@@ -15,7 +15,7 @@ use Rattle.enclosure.proofs.SumLaws.{pair_at_is}
 use Rattle.qp_model.specs.declared.design_parts.DesignParts.{DesignParts}
 use Rattle.qp_model.specs.problem.Design.{entries, rows}
 use Rattle.qp_model.specs.problem.Parts.{design_of, IsDesign}
-use Rattle.qp_model.proofs.VersionLaws.{design_states_le, design_stages_le}
+use Rattle.qp_model.proofs.VersionLaws.{design_states_le, design_stages_le, design_rows_le}
 use Rattle.qp_model.specs.form.Quantities.{cost_width, limit_width}
 use Rattle.qp_model.specs.problem.Runs.{unit, counts, Holds}
 use Rattle.qp_model.specs.form.FineForm.{wholes, counted_row, fine_cost, fine_costs, fine_limit}
@@ -116,6 +116,31 @@ module _ (p : DesignParts) (h : IsDesign p) where
 
   pub width_fits : Fits w64 (p.stages * p.inputs + p.states + 1)
   width_fits = record { fits = both_under }
+
+  -- and so do counts of numbers
+  pub area_fits : Fits w64 (p.stages * p.inputs * (p.stages * p.inputs + p.states + 1))
+  area_fits = record { fits = area (p.stages * p.inputs) p.states few_entries (design_states_le p h) }
+    where
+      area : (a b : ℕ) → a ≤ 90 → b ≤ 6 → a * (a + b + 1) < 2 ^ 64
+      area a b l m = last (mul-le-mul l (wide l m))
+        where
+          wide : a ≤ 90 → b ≤ 6 → a + b + 1 ≤ 97
+          wide l m = omega (arith, l, m)
+
+          last : {n : ℕ} → n ≤ 90 * 97 → n < 2 ^ 64
+          last l = omega (arith, l)
+
+  pub rows_area_fits : (n : ℕ) → n ≡ rows (design_of p) → Fits w64 ((p.stages * p.inputs + p.states + 1) * n)
+  rows_area_fits n e = record { fits = rw e (area (p.stages * p.inputs) p.states (rows (design_of p)) few_entries (design_states_le p h) (design_rows_le p h)) }
+    where
+      area : (a b m : ℕ) → a ≤ 90 → b ≤ 6 → m ≤ 372 → (a + b + 1) * m < 2 ^ 64
+      area a b m l k o = last (mul-le-mul (wide l k) o)
+        where
+          wide : a ≤ 90 → b ≤ 6 → a + b + 1 ≤ 97
+          wide l k = omega (arith, l, k)
+
+          last : {n : ℕ} → n ≤ 97 * 372 → n < 2 ^ 64
+          last l = omega (arith, l)
 
 -- ---- which column a run gives
 module _ (p q : DesignParts) (x v : ℕ → ℤ) (first : ℕ) (start plan : List Enc) (made : IsRunOfWholes p x v q first start plan) where

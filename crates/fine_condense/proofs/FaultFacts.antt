@@ -1,5 +1,5 @@
 -- The first quantity that is too wide is one alone.
-use Rattle.std.proofs.Common.{◌≡◌, ◌⊎◌, inl, inr, ℕ, ◌<◌, ◌≤◌, ◌^◌, Result, Err, true, arith, ap, refl}
+use Rattle.std.proofs.Common.{◌≡◌, ◌⊎◌, inl, inr, ℕ, ◌<◌, ◌≤◌, ◌^◌, Result, Ok, Err, IfOk, true, max, lt_of_not-le, arith, ap, ap₂, subst, ◌∙◌, refl}
 use Rattle.qp_model.specs.declared.quantity.Quantity.{Quantity}
 use Rattle.qp_model.specs.declared.quantity.Quantity.TheVariants.{Prediction, Hessian, Rows}
 use Rattle.qp_model.specs.form.Class.{prediction_in, hessian_in, rows_in}
@@ -46,3 +46,41 @@ same_fault h k = cc
 -- want of memory is no quantity
 pub memory_apart : (q : Quantity) → Memory ≡ TooWide q → ⊥
 memory_apart q e = cc
+
+-- and a fault names one quantity
+pub same_quantity : {T : Type 0} {q r : Quantity} → ◌≡◌ {A = Result T SizeFault} (Err (TooWide q)) (Err (TooWide r)) → q ≡ r
+same_quantity e = cc
+
+-- what is made is no fault, and what is refused is not made
+pub made_apart : {T : Type 0} {v : T} {x : SizeFault} → ◌≡◌ {A = Result T SizeFault} (Ok v) (Err x) → ⊥
+made_apart e = cc
+
+pub none_made : {T : Type 0} {r : Result T SizeFault} {x : SizeFault} (P : T → Type 0) → r ≡ Err x → IfOk r P
+none_made P e = rw e tt
+
+pub fault_of : {T : Type 0} {x y : SizeFault} → ◌≡◌ {A = Result T SizeFault} (Err x) (Err y) → x ≡ y
+fault_of e = cc
+
+-- the first quantity that is too wide, where those before it are not
+pub first_prediction : {T : Type 0} {q : Quantity} (d : Design) → ◌≡◌ {A = Result T SizeFault} (Err (TooWide Prediction)) (Err (TooWide q)) → 2 ^ 126 < prediction_in true d →
+    IsFirstWideIn true d q
+first_prediction d e h = subst (λ (r : Quantity). IsFirstWideIn true d r) (same_quantity e) h
+
+pub first_hessian : {q : Quantity} (d : Design) → q ≡ Hessian → prediction_in true d ≤ 2 ^ 126 → 2 ^ 126 < hessian_in true d → IsFirstWideIn true d q
+first_hessian d e h k = rw e (h, k)
+
+pub first_rows : {q : Quantity} (d : Design) → q ≡ Rows → prediction_in true d ≤ 2 ^ 126 → hessian_in true d ≤ 2 ^ 126 → 2 ^ 126 < rows_in true d → IsFirstWideIn true d q
+first_rows d e h k l = rw e (h, (k, l))
+
+-- ---- the greater of two quantities
+pub above_second : (a b : ℕ) {n : ℕ} → (b ≤ n → ⊥) → n < max a b
+above_second a b {n} h = over (lt_of_not-le h)
+  where
+    over : n < b → n < max a b
+    over k = omega (arith, k)
+
+pub within_both : (a b : ℕ) {n : ℕ} → a ≤ n → b ≤ n → max a b ≤ n
+within_both a b h k = omega (arith, h, k)
+
+pub greater_is : (a b r s t : ℕ) → r ≡ max s t → s ≡ a → t ≡ b → r ≡ max a b
+greater_is a b r s t e h k = e ∙ ap₂ max h k

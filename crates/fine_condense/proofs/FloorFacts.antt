@@ -104,6 +104,12 @@ pub den_is : (z : ℤ) → IsDenominator z → read z ≡ pos (unsigned_abs z)
 den_is z h = to_z-of_z w128 z (denominator_fits z h) ∙ natural z h.low
 
 -- a quantity
+pub size_fits : (n m : ℕ) → n ≡ m → m ≤ 2 ^ 126 → FitsSigned w128 (pos n)
+size_fits n m e h = rw e (bits m h)
+  where
+    bits : (n : ℕ) → n ≤ 2 ^ 126 → FitsSigned w128 (pos n)
+    bits n h = omega (arith, ints, h)
+
 pub size_is : (n m : ℕ) → n ≡ m → m ≤ 2 ^ 126 → to_z w128 n ≡ pos m
 size_is n m e h = rw e (bits m h)
   where

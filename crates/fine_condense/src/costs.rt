@@ -107,8 +107,8 @@ fn cost_of(
     requires room { fine_hessian_size (design_of parts.now) ≤ 2 ^ 126 }
     ensures { IfOk result (λ c. AreFineCosts parts.now c.hess.mid c.hess.rad c.lin.mid c.lin.rad c.off.items c.radius c.size) }
 {
-    let lin = linear_numbers(alloc, parts, products)?;
     let off = constant_numbers(alloc, parts, products)?;
+    let lin = linear_numbers(alloc, parts, products)?;
     Ok(FineCosts {
         hess,
         lin,

@@ -53,8 +53,13 @@ fn fine_numbers(alloc: Global, parts: &DesignParts) -> Result<FineNumbers, SizeF
         });
     };
     let costs = fine_costs(alloc, parts, reach)?;
-    let limits = fine_limits(alloc, parts, reach)?;
-    Ok(FineNumbers { costs, limits })
+    match fine_limits(alloc, parts, reach) {
+        Ok(limits) => Ok(FineNumbers { costs, limits }),
+        Err(fault) => {
+            drop(costs);
+            Err(fault)
+        }
+    }
 }
 
 // The midpoints.
@@ -141,8 +146,14 @@ fn form_of(
         numbers.limits.bound.items numbers.limits.size }
     ensures { IfOk result (IsFormIn true parts.now) }
 {
-    let off = split_constant(alloc, &numbers)?;
-    Ok(assembled(parts, numbers, off))
+    // What is given back is dropped by one call: else each of its matrices and lists is dropped beside the others.
+    match split_constant(alloc, &numbers) {
+        Ok(off) => Ok(assembled(parts, numbers, off)),
+        Err(fault) => {
+            drop(numbers);
+            Err(fault)
+        }
+    }
 }
 
 /// The condensed form of a design in enclosures. It refuses a design of which a quantity of these numbers, `prediction`, `hessian` or `rows`, is

@@ -38,8 +38,8 @@ pub fn fine_limits(alloc: Global, parts: &DesignParts, reach: u128) -> Result<Fi
             quantity: Quantity::Rows,
         });
     };
+    let bound = scaled_bounds(alloc, parts, 1 << 40)?;
     let g = fine_plan_columns(alloc, parts)?;
     let e = fine_state_columns(alloc, parts)?;
-    let bound = scaled_bounds(alloc, parts, 1 << 40)?;
     Ok(FineLimits { g, e, bound, size })
 }

@@ -31,3 +31,8 @@ factors_room (pos s) (pos m) h k l = (within l, more (within l))
         some s h = omega (arith, ints)
 factors_room (negsuc s) z h k l = absurd h.le
 factors_room (pos s) (negsuc m) h k l = absurd k.le
+
+-- and what misses a target
+pub gap_room : (t z : ℤ) (e g : Enclosure) → z ≡ t → e ≡ g → (magnitude g +ℤ absolute t) ≤ℤ pos (2 ^ 126) → (magnitude e +ℤ absolute z) ≤ℤ pos (2 ^ 126)
+gap_room t z e g h k l =
+    subst (λ (x : ℤ). (magnitude e +ℤ absolute x) ≤ℤ pos (2 ^ 126)) (sym h) (subst (λ (x : Enclosure). (magnitude x +ℤ absolute t) ≤ℤ pos (2 ^ 126)) (sym k) l)

@@ -36,6 +36,9 @@ below_len xs i n l e = omega (arith, xs.ok.0, l, e)
 pub below_both : (i k n m : ℕ) → i < k → k ≡ n → n ≡ m → i < m
 below_both i k n m l e f = omega arith
 
+pub some_rows : {k n m : ℕ} → k ≡ n → n ≡ m → 1 ≤ m → 1 ≤ k
+some_rows e f h = omega (arith, e, f, h)
+
 pub at_end : (i k n m : ℕ) → i ≤ k → k ≤ i → k ≡ n → n ≡ m → i ≡ m
 at_end i k n m l h e f = omega arith
 

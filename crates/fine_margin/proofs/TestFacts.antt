@@ -1,5 +1,10 @@
 -- What the tests of the quantities of corners in enclosures tell.
-use Rattle.std.proofs.Common.{◌≡◌, ℕ, mul_assoc, arith, ◌*◌, ◌^◌, ◌<◌, ◌≤◌, max, true, ap, subst, ◌∙◌}
+use Rattle.std.specs.Prelude.{OnOk}
+use Rattle.frac_scaled.specs.declared.fraction.Frac.{Frac}
+use Rattle.qp_model.specs.declared.quantity.Quantity.{Quantity}
+use Rattle.exact_margin.specs.declared.fault.MarginFault.{MarginFault}
+use Rattle.exact_margin.specs.declared.fault.MarginFault.TheVariants.{Memory, TooWide, NoMargin}
+use Rattle.std.proofs.Common.{◌≡◌, ℕ, mul_assoc, arith, ◌*◌, ◌^◌, ◌<◌, ◌≤◌, max, true, Result, Ok, Err, IfOk, ap, subst, ◌∙◌}
 use Rattle.qp_model.specs.problem.Design.{Design}
 use Rattle.qp_model.specs.problem.Policy.{Plans}
 use Rattle.qp_model.specs.form.Quantities.{growth, limit_width, cost_width, weight_sum}
@@ -48,3 +53,21 @@ module _ (w r g : ℕ) where
 
   pub parts_room : 2 ^ 17 * (w * r) ≤ 2 ^ 126 → g ≤ 2 ^ 126 → max (2 ^ 17 * w * r) g ≤ 2 ^ 126
   parts_room h k = omega (arith, h, k, brought)
+
+-- ---- results
+-- what is made is no fault, and what is refused is not made
+pub made_apart : {T : Type 0} {v : T} {x : MarginFault} → ◌≡◌ {A = Result T MarginFault} (Ok v) (Err x) → ⊥
+made_apart e = cc
+
+pub none_made : {T : Type 0} {r : Result T MarginFault} {x : MarginFault} (P : T → Type 0) → r ≡ Err x → IfOk r P
+none_made P e = rw e tt
+
+pub none_on : {T : Type 0} {r : Result T MarginFault} {x : MarginFault} (P : Type 0) → r ≡ Err x → OnOk r P
+none_on P e = rw e tt
+
+-- a fault is of one kind
+pub wide_unmemory : {T : Type 0} {q : Quantity} → ◌≡◌ {A = Result T MarginFault} (Err (TooWide q)) (Err Memory) → ⊥
+wide_unmemory e = cc
+
+pub wide_unshort : {T : Type 0} {q : Quantity} {c r : ℕ} {s : Frac} → ◌≡◌ {A = Result T MarginFault} (Err (TooWide q)) (Err (NoMargin c r s)) → ⊥
+wide_unshort e = cc

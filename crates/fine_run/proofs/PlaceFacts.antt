@@ -1,5 +1,5 @@
 -- Places in lists of all stages, and counts of rows: small, so that they fit a word.
-use Rattle.std.proofs.Common.{◌≡◌, ℕ, ◌+◌, ◌-◌, ◌*◌, ◌/◌, ◌%◌, ◌<◌, ◌≤◌, List, length, Fits, w64, arith, zero, suc}
+use Rattle.std.proofs.Common.{◌≡◌, ℕ, ◌+◌, ◌-◌, ◌*◌, ◌/◌, ◌%◌, ◌<◌, ◌≤◌, List, length, Fits, w64, arith, le_trans, zero, suc}
 use Rattle.std.proofs.Math.Nat.{mul-le-mul, mul-le-mul_left, div-lt_iff_lt-mul}
 use Rattle.enclosure.specs.declared.types.Enc.{Enc}
 use Rattle.qp_model.specs.declared.design_parts.DesignParts.{DesignParts}
@@ -8,24 +8,24 @@ use Rattle.qp_model.proofs.VersionLaws.{design_states_le, design_stages_le}
 use Rattle.qp_model.proofs.RowLaws.{remainder_inside}
 
 -- ---- what fits
-first_fits : (a b : ℕ) → a + b ≤ 180 → Fits w64 a
+first_fits : (a b : ℕ) → a + b ≤ 186 → Fits w64 a
 first_fits a b h = record { fits = omega arith }
 
-sum_fits : (a b : ℕ) → a + b ≤ 180 → Fits w64 (a + b)
+sum_fits : (a b : ℕ) → a + b ≤ 186 → Fits w64 (a + b)
 sum_fits a b h = record { fits = omega arith }
 
-bytes_fit : (a b : ℕ) → a + b ≤ 180 → Fits w64 (a * 32)
+bytes_fit : (a b : ℕ) → a + b ≤ 186 → Fits w64 (a * 32)
 bytes_fit a b h = record { fits = omega arith }
 
 -- ---- the numbers of a stage in a list of those of all stages
 stage_inside : (k m n : ℕ) → k < m → k * n + n ≤ m * n
 stage_inside k m n l = omega (arith, mul-le-mul_left n l)
 
-few : (k m n : ℕ) → k < m → m ≤ 30 → n ≤ 6 → k * n + n ≤ 180
+few : (k m n : ℕ) → k < m → m ≤ 30 → n ≤ 6 → k * n + n ≤ 186
 few k m n l h e = omega (arith, stage_inside k m n l, mul-le-mul h e)
 
 module _ (p : DesignParts) (h : IsDesign p) (k : ℕ) (l : k < p.stages) where
-  few_states : k * p.states + p.states ≤ 180
+  few_states : k * p.states + p.states ≤ 186
   few_states = few k p.stages p.states l (design_stages_le p h) (design_states_le p h)
 
   pub state_start : Fits w64 (k * p.states)
@@ -37,7 +37,7 @@ module _ (p : DesignParts) (h : IsDesign p) (k : ℕ) (l : k < p.stages) where
   pub state_bytes : Fits w64 (k * p.states * 32)
   state_bytes = bytes_fit (k * p.states) p.states few_states
 
-  few_inputs : k * p.inputs + p.inputs ≤ 180
+  few_inputs : k * p.inputs + p.inputs ≤ 186
   few_inputs = few k p.stages p.inputs l (design_stages_le p h) (more h.inputs.1)
     where
       more : {n : ℕ} → n ≤ 3 → n ≤ 6
@@ -52,12 +52,51 @@ module _ (p : DesignParts) (h : IsDesign p) (k : ℕ) (l : k < p.stages) where
   pub input_bytes : Fits w64 (k * p.inputs * 32)
   input_bytes = bytes_fit (k * p.inputs) p.inputs few_inputs
 
+-- the same up to the last stage, and of a row's part for the input
+module _ (p : DesignParts) (h : IsDesign p) (k : ℕ) (l : k ≤ p.stages) where
+  few_to_last : k * p.states + p.states ≤ 186
+  few_to_last = last k p.states l (design_stages_le p h) (design_states_le p h)
+    where
+      last : (k n : ℕ) {m : ℕ} → k ≤ m → m ≤ 30 → n ≤ 6 → k * n + n ≤ 186
+      last k n l h e = more (mul-le-mul (le_trans l h) e) e
+        where
+          more : k * n ≤ 30 * 6 → n ≤ 6 → k * n + n ≤ 186
+          more h e = omega (arith, h, e)
+
+  pub start_to_last : Fits w64 (k * p.states)
+  start_to_last = first_fits (k * p.states) p.states few_to_last
+
+  pub end_to_last : Fits w64 (k * p.states + p.states)
+  end_to_last = sum_fits (k * p.states) p.states few_to_last
+
+  pub bytes_to_last : Fits w64 (k * p.states * 32)
+  bytes_to_last = bytes_fit (k * p.states) p.states few_to_last
+
+module _ (p : DesignParts) (h : IsDesign p) where
+  pub row_end : Fits w64 (p.states + p.inputs)
+  row_end = both p.states p.inputs (design_states_le p h) h.inputs.1
+    where
+      both : (n m : ℕ) → n ≤ 6 → m ≤ 3 → Fits w64 (n + m)
+      both n m h k = record { fits = omega (arith, h, k) }
+
+  pub row_bytes : Fits w64 (p.states * 16)
+  row_bytes = one p.states (design_states_le p h)
+    where
+      one : (n : ℕ) → n ≤ 6 → Fits w64 (n * 16)
+      one n h = record { fits = omega (arith, h) }
+
 -- the part of a stage is in order, and ends within the list
 pub in_order : (a n : ℕ) → a ≤ a + n
 in_order a n = omega arith
 
 pub part_ends : (xs lent : List Enc) (k m n : ℕ) → lent ≡ xs → length xs ≡ m * n → k < m → k * n + n ≤ length lent
 part_ends xs lent k m n e long l = rw (e, long) (stage_inside k m n l)
+
+pub last_ends : (xs lent : List Enc) (k m n : ℕ) → lent ≡ xs → length xs ≡ (m + 1) * n → k ≤ m → k * n + n ≤ length lent
+last_ends xs lent k m n e long l = part_ends xs lent k (m + 1) n e long (more l)
+  where
+    more : {a b : ℕ} → a ≤ b → a < b + 1
+    more h = omega (arith, h)
 
 -- ---- rows of all stages
 module _ (s r n : ℕ) (few : s ≤ 30) (e : r ≡ n) (l : n ≤ 12) where

@@ -1,8 +1,8 @@
 -- What the rows have of a run in enclosures, as code makes it.
-use Rattle.std.proofs.Common.{◌≡◌, ℕ, ◌+◌, ◌-◌, ◌*◌, ◌/◌, ◌%◌, ◌^◌, ◌<◌, ◌≤◌, List, ℤ, pos, ◌+ℤ◌, ◌≤ℤ◌, length, take, drop, unsigned_abs, add-one, arith, sym, subst, refl}
+use Rattle.std.proofs.Common.{◌≡◌, ℕ, ◌+◌, ◌-◌, ◌*◌, ◌/◌, ◌%◌, ◌^◌, ◌<◌, ◌≤◌, List, ℤ, pos, ◌+ℤ◌, ◌≤ℤ◌, length, take, drop, unsigned_abs, add-one, arith, sym, subst, ◌∙◌, refl}
 use Rattle.std.proofs.lemmas.Int.{ints}
 use Rattle.std.proofs.lemmas.Bool.{lt-ltb, le-ltb}
-use Rattle.std.proofs.lemmas.List.{get_or-take}
+use Rattle.std.proofs.lemmas.List.{get_or-take, length-take-le}
 use Rattle.integer_algebra.specs.Sums.{at}
 use Rattle.integer_algebra.specs.Sizes.{size}
 use Rattle.frac_scaled.specs.Enclosures.{Enclosure, magnitude}
@@ -21,6 +21,7 @@ use Rattle.qp_model.proofs.RowLaws.{remainder_inside}
 use Rattle.qp_model.proofs.QuantityLaws.{narrow}
 use Rattle.condensed_form.specs.Lists.{row_of_numbers}
 use Rattle.condensed_form.proofs.StateFacts.{denominator_positive, at-part}
+use Rattle.condensed_form.proofs.StageFacts.{length-part}
 use Rattle.fine_run.specs.Lists.{HoldsEnclosures, IsFineReady}
 use Rattle.fine_run.proofs.ListFacts.{flat_run, combined_same, magnitude_same}
 use Rattle.fine_run.proofs.StateFacts.{stage_part, input_part}
@@ -42,6 +43,9 @@ module _ (d : Design) (x v : ℕ → Enclosure) (states lent : List Enc) (row : 
       more : {a b : ℕ} → a ≤ b → a < b + 1
       more h = omega (arith, h)
 
+  pub sum_lengths : d.states ≤ length row → length (take d.states row) ≡ length (take (k * d.states + d.states - k * d.states) (drop (k * d.states) lent))
+  sum_lengths o = length-take-le d.states row o ∙ sym held.long
+
   pub sum_room : combination_magnitude d.states (at row) (fine_run d x v k) ≤ℤ pos (2 ^ 126) →
       combination_magnitude (length (take (k * d.states + d.states - k * d.states) (drop (k * d.states) lent))) (at (take d.states row))
       (pair_at (take (k * d.states + d.states - k * d.states) (drop (k * d.states) lent))) ≤ℤ pos (2 ^ 126)
@@ -55,6 +59,9 @@ module _ (d : Design) (x v : ℕ → Enclosure) (states lent : List Enc) (row : 
 module _ (plan lent : List Enc) (row : List ℤ) (n p stages k : ℕ) (e : lent ≡ plan) (long : length plan ≡ stages * p) (l : k < stages) where
   part : HoldsEnclosures (take (k * p + p - k * p) (drop (k * p) lent)) p (λ l. pair_at plan (k * p + l))
   part = input_part plan lent stages p k e long l
+
+  pub input_lengths : n + p ≤ length row → length (take (n + p - n) (drop n row)) ≡ length (take (k * p + p - k * p) (drop (k * p) lent))
+  input_lengths o = length-part row n p o ∙ sym part.long
 
   pub input_room : combination_magnitude p (λ l. at row (n + l)) (λ l. pair_at plan (k * p + l)) ≤ℤ pos (2 ^ 126) →
       combination_magnitude (length (take (k * p + p - k * p) (drop (k * p) lent))) (at (take (n + p - n) (drop n row))) (pair_at (take (k * p + p - k * p) (drop (k * p) lent))) ≤ℤ pos (2 ^ 126)

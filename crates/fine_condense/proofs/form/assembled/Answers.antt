@@ -4,7 +4,7 @@ use Rattle.std.proofs.lemmas.Int.{to_z-of_z}
 use Rattle.qp_model.specs.problem.Parts.{design_of}
 use Rattle.condensed_form.specs.Form.{IsLeastInput}
 use Rattle.condensed_form.proofs.DenominatorFacts.{least_weight}
-use Rattle.fine_condense.proofs.FloorFacts.{shifted_fits, denominator_weight, hess_den_is, row_den_is, den_is, size_is}
+use Rattle.fine_condense.proofs.FloorFacts.{shifted_fits, denominator_weight, hess_den_is, row_den_is, den_is, size_fits, size_is}
 use Rattle.fine_condense.proofs.FormLaws.{numbers_of, form_of}
 use Rattle.fine_condense.proofs.form.assembled.Goals as goal
 
@@ -51,3 +51,21 @@ pub least_of-input_floor-requires : goal.least_of-input_floor-requires
 least_of-input_floor-requires c =
     let count : length c.deref.result.now ≡ c.args.parts.now.inputs = ap (λ (xs : List ℤ). length xs) c.deref.ensures.value ∙ c.requires.design.input_count in
     omega (arith, count, c.requires.design.inputs)
+
+pub overflow_cast-result : goal.overflow_cast-result
+overflow_cast-result c = size_fits c.args.numbers.costs.size _ c.requires.costs.quantity c.requires.costs.room
+
+pub overflow_cast-result-2 : goal.overflow_cast-result-2
+overflow_cast-result-2 c = size_fits c.args.numbers.limits.size _ c.requires.limits.quantity c.requires.limits.room
+
+pub bend_floor-requires-clause-radius : goal.bend_floor-requires-clause-radius
+bend_floor-requires-clause-radius c = c.requires.costs.widest
+
+pub bend_floor-requires-clause-room : goal.bend_floor-requires-clause-room
+bend_floor-requires-clause-room c = c.requires.costs.room
+
+pub bend_floor-requires-clause-design : goal.bend_floor-requires-clause-design
+bend_floor-requires-clause-design c = c.requires.design
+
+pub brought_weight-requires-clause-design : goal.brought_weight-requires-clause-design
+brought_weight-requires-clause-design c = c.requires.design

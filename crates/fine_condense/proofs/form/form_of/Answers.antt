@@ -10,10 +10,10 @@ pub assembled-requires-clause-limits : goal.assembled-requires-clause-limits
 assembled-requires-clause-limits c = c.requires.limits
 
 pub assembled-requires-clause-mids : goal.assembled-requires-clause-mids
-assembled-requires-clause-mids c = c.in_ok-off.ensures.mids
+assembled-requires-clause-mids c = c.in-Ok.ensures.mids
 
 pub assembled-requires-clause-rads : goal.assembled-requires-clause-rads
-assembled-requires-clause-rads c = c.in_ok-off.ensures.rads
+assembled-requires-clause-rads c = c.in-Ok.ensures.rads
 
-pub returns : goal.returns
-returns c = c.assembled.ensures
+pub returns-in-Ok : goal.returns-in-Ok
+returns-in-Ok c = c.assembled.ensures

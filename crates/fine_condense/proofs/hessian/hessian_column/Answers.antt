@@ -39,3 +39,6 @@ pub returns : goal.returns
 returns c =
     let p = c.args.parts.now in
     all_held c.loop-i.out.items c.loop-i.i (p.stages * p.inputs) (λ k. k) (λ i. fine_hessian (design_of p) i c.args.j) c.loop-i.auto.i-end c.loop-i-test.false c.loop-i.invariant
+
+pub own_cost-requires : goal.own_cost-requires
+own_cost-requires c = record { design = c.requires.products.design }

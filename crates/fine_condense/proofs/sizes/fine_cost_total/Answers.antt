@@ -6,7 +6,7 @@ use Rattle.qp_model.specs.problem.Parts.{design_of}
 use Rattle.qp_model.specs.form.Quantities.{cost_width, weight_sum}
 use Rattle.qp_model.specs.form.FineSizes.{fine_reach}
 use Rattle.qp_model.proofs.SizeFacts.{hessian_parts, hessian_value, some_weight, some_cost, some_entry}
-use Rattle.fine_condense.proofs.ColumnFacts.{entries_fit}
+use Rattle.fine_condense.proofs.ColumnFacts.{entries_fit, states_fit, width_fits, area_fits}
 use Rattle.fine_condense.proofs.sizes.fine_cost_total.Goals as goal
 
 pub returns-in_err-response : goal.returns-in_err-response
@@ -27,3 +27,12 @@ returns c =
 
 pub overflow_mul-entries : goal.overflow_mul-entries
 overflow_mul-entries c = entries_fit c.args.parts.now c.requires.design
+
+pub overflow_add-count : goal.overflow_add-count
+overflow_add-count c = states_fit c.args.parts.now c.requires.design
+
+pub overflow_add-count-2 : goal.overflow_add-count-2
+overflow_add-count-2 c = width_fits c.args.parts.now c.requires.design
+
+pub overflow_mul-count : goal.overflow_mul-count
+overflow_mul-count c = area_fits c.args.parts.now c.requires.design

@@ -5,7 +5,7 @@ use Rattle.qp_model.specs.problem.Parts.{design_of}
 use Rattle.qp_model.specs.form.Quantities.{limit_width}
 use Rattle.qp_model.specs.form.FineSizes.{fine_reach}
 use Rattle.qp_model.proofs.SizeFacts.{rows_parts, rows_value, some_limit, some_row}
-use Rattle.fine_condense.proofs.ColumnFacts.{entries_fit}
+use Rattle.fine_condense.proofs.ColumnFacts.{entries_fit, states_fit, width_fits, rows_area_fits}
 use Rattle.fine_condense.proofs.sizes.fine_rows_size.Goals as goal
 
 pub returns-in_err-entry : goal.returns-in_err-entry
@@ -24,3 +24,12 @@ returns c =
 
 pub overflow_mul-entries : goal.overflow_mul-entries
 overflow_mul-entries c = entries_fit c.args.parts.now c.requires.design
+
+pub overflow_add-count : goal.overflow_add-count
+overflow_add-count c = states_fit c.args.parts.now c.requires.design
+
+pub overflow_add-count-2 : goal.overflow_add-count-2
+overflow_add-count-2 c = width_fits c.args.parts.now c.requires.design
+
+pub overflow_mul-count : goal.overflow_mul-count
+overflow_mul-count c = rows_area_fits c.args.parts.now c.requires.design c.limit_count.result c.limit_count.ensures

@@ -7,7 +7,7 @@ use Rattle.integer_algebra.specs.Sums.{at}
 use Rattle.frac_scaled.specs.Enclosures.{Enclosure}
 use Rattle.enclosure.specs.Values.{pair_at}
 use Rattle.condensed_form.proofs.Pushes.{pushed}
-use Rattle.fine_margin.proofs.ListFacts.{element_is}
+use Rattle.fine_margin.proofs.ListFacts.{element_is, gap_room}
 use Rattle.fine_margin.proofs.lists.gaps.Goals as goal
 
 pub loop-i-preserved : goal.loop-i-preserved
@@ -18,3 +18,9 @@ loop-i-preserved c =
     pushed _ _ _ c.loop-i.i (λ i. absolute ((pair_at c.args.values.now i).mid -ℤ at c.args.targets.now i) +ℤ (pair_at c.args.values.now i).rad) c.in_ok-push.ensures.items
     (to_z-of_z w128 _ s ∙ c.gap.ensures ∙ ap₂ (λ (e : Enclosure) (t : ℤ). absolute (e.mid -ℤ t) +ℤ e.rad) x (to_z-of_z w128 _ f))
     c.loop-i.invariant
+
+pub gap-requires : goal.gap-requires
+gap-requires c =
+    let f : SFits w128 (get_or c.args.targets.now c.loop-i.i (pos 0)) = search rules in
+    let x = element_is c.args.values.now c.loop-i.i c.index-values-i.result c.index-values-i.is (rw c.requires.same c.loop-i-test.true) in
+    gap_room (at c.args.targets.now c.loop-i.i) _ _ (pair_at c.args.values.now c.loop-i.i) (to_z-of_z w128 _ f) x (c.requires.fits c.loop-i.i c.loop-i-test.true)

@@ -10,6 +10,7 @@ use Rattle.qp_model.specs.problem.Policy.{plans_of}
 use Rattle.exact_margin.specs.declared.fault.MarginFault.TheVariants.{TooWide, NoMargin}
 use Rattle.exact_margin.proofs.FaultFacts.{same_error, memory_unshort, memory_unwide}
 use Rattle.fine_margin.proofs.MarginFacts.{carried, HasMargin, HasShortRow}
+use Rattle.fine_margin.proofs.TestFacts.{made_apart, none_made}
 use Rattle.fine_margin.proofs.margin.corner_margin.Goals as goal
 
 pub returns-in_err-units-clause-short : goal.returns-in_err-units-clause-short
@@ -53,3 +54,18 @@ returns-in_err-units-clause-room c = λ q e.
     let y = err_from_is_err_and c.from_residual-in_err-units.result c.from_residual-in_err-units.ensures.1 in
     let back : c.units.result ≡ Err (TooWide q) = same_error y.1 e c.in_err-units.was y.2 in
     c.units.ensures.room q back
+
+pub returns-in_err-corner-clause-margin : goal.returns-in_err-corner-clause-margin
+returns-in_err-corner-clause-margin c = none_made _ (err_from_is_err_and c.from_residual.result c.from_residual.ensures.1).1
+
+pub returns-in_err-units-clause-margin : goal.returns-in_err-units-clause-margin
+returns-in_err-units-clause-margin c = none_made _ (err_from_is_err_and c.from_residual-in_err-units.result c.from_residual-in_err-units.ensures.1).1
+
+pub returns-in_err-cost-clause-margin : goal.returns-in_err-cost-clause-margin
+returns-in_err-cost-clause-margin c = none_made _ (err_from_is_err_and c.from_residual-in_err-cost.result c.from_residual-in_err-cost.ensures.1).1
+
+pub returns-clause-short : goal.returns-clause-short
+returns-clause-short c = λ corner row slack e. absurd (made_apart e)
+
+pub returns-clause-room : goal.returns-clause-room
+returns-clause-room c = λ q e. made_apart e

@@ -1,4 +1,4 @@
-use Rattle.std.proofs.Common.{◌≡◌, ◌^◌, ◌<◌, ◌≤◌, Err, true, arith, subst, sym, rules}
+use Rattle.std.proofs.Common.{◌≡◌, ◌^◌, ◌<◌, ◌≤◌, Err, true, subst, sym, rules}
 use Rattle.std.specs.Int.{w128}
 use mir.Val.{SFits}
 use Rattle.std.proofs.lemmas.Int.{to_z-of_z}
@@ -12,7 +12,8 @@ use Rattle.exact_margin.specs.Corners.{IsFirstWideCornerIn, IsFirstShortIn}
 use Rattle.exact_margin.specs.declared.fault.MarginFault.TheVariants.{TooWide, NoMargin}
 use Rattle.exact_margin.proofs.FaultFacts.{same_error}
 use Rattle.fine_margin.proofs.MarginFacts.{IsMarginUpTo, first_margin, next_margin, short_first, short_next, whole_margin, none_short}
-use Rattle.fine_margin.proofs.ReachFacts.{below_both}
+use Rattle.fine_margin.proofs.ReachFacts.{below_both, at_end, some_rows}
+use Rattle.fine_margin.proofs.TestFacts.{made_apart, none_made, none_on}
 use Rattle.fine_margin.proofs.margin.margins_fine.Goals as goal
 
 pub returns-in_err-margin-clause-short : goal.returns-in_err-margin-clause-short
@@ -40,7 +41,7 @@ returns-in_err-next-clause-wide c = λ q.
     let y = err_from_is_err_and c.from_residual-in_err-next.result c.from_residual-in_err-next.ensures.1 in (
       (λ e. (let back : c.corner_margin-in-loop-c.result ≡ Err (TooWide q) = same_error y.1 e c.in_err-next.was y.2 in absurd (c.corner_margin-in-loop-c.ensures.room q back))),
       (λ w. (let first : IsFirstWideCornerIn true (design_of c.parts-parts.result.now) (plans_of c.args.policy.now) q = rw c.parts-parts.ensures.value w in
-          let no = (c.in_ok-test_room.ensures.wide q).1 first in cc)),
+          let no = (c.in_ok-test_room.ensures.wide q).1 first in absurd (made_apart no))),
     )
 
 pub returns-in_err-next-clause-short : goal.returns-in_err-next-clause-short
@@ -51,7 +52,7 @@ returns-in_err-next-clause-short c = λ corner row slack e.
     let y = err_from_is_err_and c.from_residual-in_err-next.result c.from_residual-in_err-next.ensures.1 in
     let back : c.corner_margin-in-loop-c.result ≡ Err (NoMargin corner row slack) = same_error y.1 e c.in_err-next.was y.2 in
     let short = c.corner_margin-in-loop-c.ensures.short corner row slack back in
-    let below : c.loop-c.c < 2 ^ c.parts-parts.result.now.states = omega (arith, c.loop-c-test.true, c.rows-c-end.ensures.count, f.rows) in
+    let below : c.loop-c.c < 2 ^ c.parts-parts.result.now.states = below_both c.loop-c.c _ _ _ c.loop-c-test.true c.rows-c-end.ensures.count f.rows in
     let known : IsMarginUpTo p s c.loop-c.c c.loop-c.margin = rw c.parts-parts.ensures.value c.loop-c.invariant in
     rw (← c.parts-parts.ensures.value) (
       c.in_ok-test_room.ensures.room,
@@ -63,7 +64,7 @@ loop-c-preserved c =
     let p = c.parts-parts.result.now in
     let s = plans_of c.args.policy.now in
     let f : IsPolicyFor (design_of p) s = rw c.parts-parts.ensures.value c.requires in
-    let below : c.loop-c.c < 2 ^ c.parts-parts.result.now.states = omega (arith, c.loop-c-test.true, c.rows-c-end.ensures.count, f.rows) in
+    let below : c.loop-c.c < 2 ^ c.parts-parts.result.now.states = below_both c.loop-c.c _ _ _ c.loop-c-test.true c.rows-c-end.ensures.count f.rows in
     let known : IsMarginUpTo p s c.loop-c.c c.loop-c.margin = rw c.parts-parts.ensures.value c.loop-c.invariant in
     let fm : SFits w128 c.min.result = search rules in
     let fx : SFits w128 c.max.result = search rules in
@@ -80,16 +81,16 @@ returns-clause-margin c =
     let s = plans_of c.args.policy.now in
     let f : IsPolicyFor (design_of p) s = rw c.parts-parts.ensures.value c.requires in
     let some : 1 ≤ 2 ^ c.parts-parts.result.now.states = pow_pos c.parts-parts.result.now.states in
-    let all : c.loop-c.c ≡ 2 ^ c.parts-parts.result.now.states = omega (arith, c.loop-c-test.false, c.loop-c.auto.c-end (omega (arith, c.rows-c-end.ensures.count, f.rows, some)), c.rows-c-end.ensures.count, f.rows) in
+    let all : c.loop-c.c ≡ 2 ^ c.parts-parts.result.now.states = at_end c.loop-c.c _ _ _ (c.loop-c.auto.c-end (some_rows c.rows-c-end.ensures.count f.rows some)) c.loop-c-test.false c.rows-c-end.ensures.count f.rows in
     let known : IsMarginUpTo p s c.loop-c.c c.loop-c.margin = rw c.parts-parts.ensures.value c.loop-c.invariant in
     subst (λ (q : DesignParts). IsMarginIn true (design_of q) s c.loop-c.margin) c.parts-parts.ensures.value
     (whole_margin p s c.parts-parts.ensures.sound c.loop-c.c c.loop-c.margin known all)
 
 pub returns-clause-wide : goal.returns-clause-wide
 returns-clause-wide c = λ q. (
-  (λ e. (cc)),
+  (λ e. absurd (made_apart e)),
   (λ w. (let first : IsFirstWideCornerIn true (design_of c.parts-parts.result.now) (plans_of c.args.policy.now) q = rw c.parts-parts.ensures.value w in
-      let no = (c.in_ok-test_room.ensures.wide q).1 first in cc)),
+      let no = (c.in_ok-test_room.ensures.wide q).1 first in absurd (made_apart no))),
 )
 
 pub returns-clause-no_give_up : goal.returns-clause-no_give_up
@@ -98,7 +99,7 @@ returns-clause-no_give_up c = λ corner row slack w.
     let s = plans_of c.args.policy.now in
     let f : IsPolicyFor (design_of p) s = rw c.parts-parts.ensures.value c.requires in
     let some : 1 ≤ 2 ^ c.parts-parts.result.now.states = pow_pos c.parts-parts.result.now.states in
-    let all : c.loop-c.c ≡ 2 ^ c.parts-parts.result.now.states = omega (arith, c.loop-c-test.false, c.loop-c.auto.c-end (omega (arith, c.rows-c-end.ensures.count, f.rows, some)), c.rows-c-end.ensures.count, f.rows) in
+    let all : c.loop-c.c ≡ 2 ^ c.parts-parts.result.now.states = at_end c.loop-c.c _ _ _ (c.loop-c.auto.c-end (some_rows c.rows-c-end.ensures.count f.rows some)) c.loop-c-test.false c.rows-c-end.ensures.count f.rows in
     let known : IsMarginUpTo p s c.loop-c.c c.loop-c.margin = rw c.parts-parts.ensures.value c.loop-c.invariant in
     let short : IsFirstShortIn true (design_of p) s corner row slack = rw c.parts-parts.ensures.value w in
     absurd (none_short p s c.parts-parts.ensures.sound c.loop-c.c c.loop-c.margin known all corner row slack short)
@@ -153,7 +154,7 @@ returns-in_err-margin-clause-wide c = λ q.
     let y = err_from_is_err_and c.from_residual-in_err-margin.result c.from_residual-in_err-margin.ensures.1 in (
       (λ e. (let back : c.corner_margin.result ≡ Err (TooWide q) = same_error y.1 e c.in_err-margin.was y.2 in absurd (c.corner_margin.ensures.room q back))),
       (λ w. (let first : IsFirstWideCornerIn true (design_of c.parts-parts.result.now) (plans_of c.args.policy.now) q = rw c.parts-parts.ensures.value w in
-          let no = (c.in_ok-test_room.ensures.wide q).1 first in cc)),
+          let no = (c.in_ok-test_room.ensures.wide q).1 first in absurd (made_apart no))),
     )
 
 pub returns-clause-room : goal.returns-clause-room
@@ -166,4 +167,43 @@ pub returns-clause-cost : goal.returns-clause-cost
 returns-clause-cost c = c.loop-c.invariant.cost
 
 pub returns-clause-short : goal.returns-clause-short
-returns-clause-short c = λ corner row slack e. (cc)
+returns-clause-short c = λ corner row slack e. absurd (made_apart e)
+
+pub returns-in_err-test_room-clause-room : goal.returns-in_err-test_room-clause-room
+returns-in_err-test_room-clause-room c = none_on _ (err_from_is_err_and c.from_residual.result c.from_residual.ensures.1).1
+
+pub returns-in_err-test_room-clause-margin : goal.returns-in_err-test_room-clause-margin
+returns-in_err-test_room-clause-margin c = none_made _ (err_from_is_err_and c.from_residual.result c.from_residual.ensures.1).1
+
+pub returns-in_err-test_room-clause-slack : goal.returns-in_err-test_room-clause-slack
+returns-in_err-test_room-clause-slack c = none_made _ (err_from_is_err_and c.from_residual.result c.from_residual.ensures.1).1
+
+pub returns-in_err-test_room-clause-cost : goal.returns-in_err-test_room-clause-cost
+returns-in_err-test_room-clause-cost c = none_made _ (err_from_is_err_and c.from_residual.result c.from_residual.ensures.1).1
+
+pub returns-in_err-margin-clause-room : goal.returns-in_err-margin-clause-room
+returns-in_err-margin-clause-room c = none_on _ (err_from_is_err_and c.from_residual-in_err-margin.result c.from_residual-in_err-margin.ensures.1).1
+
+pub returns-in_err-margin-clause-margin : goal.returns-in_err-margin-clause-margin
+returns-in_err-margin-clause-margin c = none_made _ (err_from_is_err_and c.from_residual-in_err-margin.result c.from_residual-in_err-margin.ensures.1).1
+
+pub returns-in_err-margin-clause-slack : goal.returns-in_err-margin-clause-slack
+returns-in_err-margin-clause-slack c = none_made _ (err_from_is_err_and c.from_residual-in_err-margin.result c.from_residual-in_err-margin.ensures.1).1
+
+pub returns-in_err-margin-clause-cost : goal.returns-in_err-margin-clause-cost
+returns-in_err-margin-clause-cost c = none_made _ (err_from_is_err_and c.from_residual-in_err-margin.result c.from_residual-in_err-margin.ensures.1).1
+
+pub returns-in_err-next-clause-room : goal.returns-in_err-next-clause-room
+returns-in_err-next-clause-room c = none_on _ (err_from_is_err_and c.from_residual-in_err-next.result c.from_residual-in_err-next.ensures.1).1
+
+pub returns-in_err-next-clause-margin : goal.returns-in_err-next-clause-margin
+returns-in_err-next-clause-margin c = none_made _ (err_from_is_err_and c.from_residual-in_err-next.result c.from_residual-in_err-next.ensures.1).1
+
+pub returns-in_err-next-clause-slack : goal.returns-in_err-next-clause-slack
+returns-in_err-next-clause-slack c = none_made _ (err_from_is_err_and c.from_residual-in_err-next.result c.from_residual-in_err-next.ensures.1).1
+
+pub returns-in_err-next-clause-cost : goal.returns-in_err-next-clause-cost
+returns-in_err-next-clause-cost c = none_made _ (err_from_is_err_and c.from_residual-in_err-next.result c.from_residual-in_err-next.ensures.1).1
+
+pub test_room-requires-clause-first : goal.test_room-requires-clause-first
+test_room-requires-clause-first c = c.first_reach-first.ensures

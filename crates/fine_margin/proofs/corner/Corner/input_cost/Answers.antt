@@ -1,4 +1,4 @@
-use Rattle.std.proofs.Common.{◌<◌, ◌^◌, ℤ, pos, ◌*ℤ◌, ◌≤ℤ◌, List, length, arith, ap, ap₂, sym, subst, ◌∙◌, rules}
+use Rattle.std.proofs.Common.{◌<◌, ◌^◌, ℤ, pos, ◌*ℤ◌, ◌≤ℤ◌, List, length, ap, ap₂, sym, subst, ◌∙◌, rules}
 use Rattle.std.specs.Int.{w128}
 use mir.Val.{SFits}
 use Rattle.std.proofs.lemmas.Int.{to_z-of_z}
@@ -12,6 +12,7 @@ use Rattle.qp_model.specs.problem.Runs.{Holds}
 use Rattle.condensed_form.proofs.DenominatorFacts.{denominator_fits}
 use Rattle.condensed_form.proofs.Pushes.{holds_to}
 use Rattle.exact_margin.proofs.CostFacts.{squares_held, total_held}
+use Rattle.fine_margin.proofs.ReachFacts.{below}
 use Rattle.fine_margin.proofs.RoomFacts.{cost_side, square_room}
 use Rattle.fine_margin.proofs.CostFacts.{own, entry_weight, own_small, own_fits, inputs_are, inputs_room}
 use Rattle.fine_margin.proofs.corner.Corner.input_cost.Goals as goal
@@ -21,7 +22,7 @@ reaches-requires-clause-fits c =
     let self = c.args.self.now in
     let fr : SFits w128 c.args.self.now.run.parts.now.row_den = denominator_fits _ self.made.setting.design.row_den in
     λ j l.
-    let inside : j < entries (design_of c.args.self.now.run.parts.now) = omega (arith, l, ap (λ (xs : List Enc). length xs) c.deref.ensures.value, self.made.plan_is.long) in
+    let inside : j < entries (design_of c.args.self.now.run.parts.now) = below j _ _ l (ap (λ (xs : List Enc). length xs) c.deref.ensures.value ∙ self.made.plan_is.long) in
     let value = ap₂ (λ (r : ℤ) (e : Enclosure). r *ℤ magnitude e) (to_z-of_z w128 _ fr) (ap (λ (xs : List Enc). pair_at xs j) c.deref.ensures.value ∙ self.made.plan_is.is j inside) in
     subst (λ (z : ℤ). z ≤ℤ pos (2 ^ 126)) (sym value)
     (own_fits self.run.parts.now (plans_of self.policy.now) self.run.first self.number self.run.start.items self.run.plan.items self.made j inside)
@@ -54,3 +55,13 @@ returns c =
     rw c.deref-2.ensures.value c.in_ok-weights.ensures in
     to_z-of_z w128 _ r ∙ c.weighted_squares.ensures ∙ total_held (entries d) _ _ _ _ weights inputs ∙
     inputs_are self.run.parts.now (plans_of self.policy.now) self.run.first self.number self.run.start.items self.run.plan.items self.made
+
+pub weighted_squares-requires-clause-same : goal.weighted_squares-requires-clause-same
+weighted_squares-requires-clause-same c =
+    let count = ap (λ (xs : List ℤ). length xs) c.deref-3.ensures.value ∙ c.in_ok-inputs.ensures.long ∙ ap (λ (xs : List Enc). length xs) c.deref.ensures.value ∙ c.args.self.now.made.plan_is.long in
+    ap (λ (xs : List ℤ). length xs) c.deref-2.ensures.value ∙ c.in_ok-weights.ensures.long ∙ sym count
+
+pub reaches-requires-clause-scale : goal.reaches-requires-clause-scale
+reaches-requires-clause-scale c =
+    let h = c.args.self.now.made.setting.design.row_den in
+    rw (to_z-of_z w128 _ (denominator_fits _ h)) h.low

@@ -1,4 +1,4 @@
-use Rattle.std.proofs.Common.{◌+◌, ◌<◌, ℤ, List, length, arith, ap, ◌∙◌, rules}
+use Rattle.std.proofs.Common.{◌+◌, ◌<◌, ℤ, List, length, ap, sym, ◌∙◌, rules}
 use Rattle.std.specs.Int.{w128}
 use mir.Val.{SFits}
 use Rattle.std.proofs.lemmas.Int.{to_z-of_z}
@@ -13,6 +13,7 @@ use Rattle.qp_model.specs.problem.Runs.{Holds, counts}
 use Rattle.condensed_form.specs.Costs.{weight_of}
 use Rattle.condensed_form.proofs.Pushes.{holds_to}
 use Rattle.exact_margin.proofs.CostFacts.{squares_held, total_held}
+use Rattle.fine_margin.proofs.ReachFacts.{below}
 use Rattle.fine_margin.proofs.RoomFacts.{cost_side, square_room}
 use Rattle.fine_margin.proofs.CostFacts.{width_room, target_fits, value_fits, value_gap, gap_small, rows_are, rows_room}
 use Rattle.fine_margin.proofs.corner.Corner.row_cost.Goals as goal
@@ -32,7 +33,7 @@ gaps-requires-clause-fits c =
     let self = c.args.self.now in
     let d = design_of c.args.self.now.run.parts.now in
     λ i l.
-    let inside : i < counts d = omega (arith, l, ap (λ (xs : List ℤ). length xs) c.deref-2.ensures.value, c.in_ok-targets.ensures.long) in
+    let inside : i < counts d = below i _ _ l (ap (λ (xs : List ℤ). length xs) c.deref-2.ensures.value ∙ c.in_ok-targets.ensures.long) in
     value_fits self.run.parts.now (plans_of self.policy.now) self.run.first self.number self.run.start.items self.run.plan.items self.made i inside _ _
     (ap (λ (xs : List Enc). pair_at xs i) c.deref.ensures.value ∙ c.in_ok-values.ensures.is i inside)
     (ap (λ (xs : List ℤ). at xs i) c.deref-2.ensures.value ∙ c.in_ok-targets.ensures.is i inside)
@@ -67,3 +68,13 @@ returns c =
     let weights : Holds c.deref-3.result.now (counts d) (weight_of d) = rw c.deref-3.ensures.value c.in_ok-weights.ensures in
     to_z-of_z w128 _ r ∙ c.weighted_squares.ensures ∙ total_held (counts d) _ _ _ _ weights gaps ∙
     rows_are self.run.parts.now (plans_of self.policy.now) self.run.first self.number self.run.start.items self.run.plan.items self.made
+
+pub gaps-requires-clause-same : goal.gaps-requires-clause-same
+gaps-requires-clause-same c =
+    let count = ap (λ (xs : List ℤ). length xs) c.deref-2.ensures.value ∙ c.in_ok-targets.ensures.long in
+    ap (λ (xs : List Enc). length xs) c.deref.ensures.value ∙ c.in_ok-values.ensures.long ∙ sym count
+
+pub weighted_squares-requires-clause-same : goal.weighted_squares-requires-clause-same
+weighted_squares-requires-clause-same c =
+    let count = ap (λ (xs : List ℤ). length xs) c.deref-4.ensures.value ∙ c.in_ok-gaps.ensures.long ∙ ap (λ (xs : List ℤ). length xs) c.deref-2.ensures.value ∙ c.in_ok-targets.ensures.long in
+    ap (λ (xs : List ℤ). length xs) c.deref-3.ensures.value ∙ c.in_ok-weights.ensures.long ∙ sym count

@@ -17,6 +17,7 @@ use Rattle.exact_margin.proofs.RoomFacts.{over_is}
 use Rattle.exact_margin.proofs.SlackFacts.{short_row, units_of}
 use Rattle.exact_margin.proofs.FaultFacts.{no_margin_same, corner_few, memory_unshort, memory_unwide}
 use Rattle.fine_margin.proofs.SlackFacts.{slack_within, den_is, den_some, den_fits}
+use Rattle.fine_margin.proofs.TestFacts.{made_apart, none_made}
 use Rattle.fine_margin.proofs.corner.Corner.units.Goals as goal
 
 pub first_short-requires : goal.first_short-requires
@@ -140,3 +141,12 @@ pub returns-in_err-slacks-clause-room : goal.returns-in_err-slacks-clause-room
 returns-in_err-slacks-clause-room c = λ q e.
     let y = err_from_is_err_and c.from_residual.result c.from_residual.ensures.1 in
     memory_unwide y.1 y.2 e
+
+pub returns-in_err-slacks-clause-units : goal.returns-in_err-slacks-clause-units
+returns-in_err-slacks-clause-units c = none_made _ (err_from_is_err_and c.from_residual.result c.from_residual.ensures.1).1
+
+pub returns-clause-short : goal.returns-clause-short
+returns-clause-short c = λ corner row slack e. absurd (made_apart e)
+
+pub returns-clause-room : goal.returns-clause-room
+returns-clause-room c = λ q e. made_apart e
