@@ -7,8 +7,7 @@ ghost use Rattle.command_serve.specs.Served.{cell_states};
 ghost use Rattle.command_serve.specs.Serve.{ServeCalls, ServeReaches, ServeStarts, ServePrints};
 
 use crate::states::serve_states;
-use command_files::read_cells_file;
-use command_files::read_states_file;
+use command_files::{read_cells_file, read_states_file};
 use command_line::Status;
 use io_edge::{Sink, Store, Words};
 use overflow_check::Controller;

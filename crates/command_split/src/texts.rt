@@ -10,8 +10,8 @@ ghost use Rattle.command_split.specs.Reading.{AreSplitTexts, EndsSplit};
 
 use crate::cells::texts_of;
 use cell_split::Cuts;
-use command_files::{read_cell_policies_file, read_cuts_file};
 use command_design_files::read_design_file;
+use command_files::{read_cell_policies_file, read_cuts_file};
 use command_generate::Texts;
 use command_line::Status;
 use io_edge::{Store, Words};
