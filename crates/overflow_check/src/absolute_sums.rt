@@ -3,7 +3,7 @@ ghost use Rattle.std.specs.Prelude.{◌≡◌, ◌≤◌, ◌<◌, ◌+◌, ◌-
 ghost use Rattle.std.specs.Option.{SomeIff};
 ghost use Rattle.integer_algebra.specs.Division.{ceil_div};
 ghost use Rattle.qp_model.specs.machine.Controller.{numbers, IsSized};
-ghost use Rattle.qp_model.specs.machine.AbsoluteSums.{IsController, weighted_abs_sum, state_magnitudes, clamp_magnitudes, entry_absolute_sum, plan_magnitudes, row_absolute_sum, greatest_of, greatest_sum};
+ghost use Rattle.qp_model.specs.machine.AbsoluteSums.{IsController, weighted_abs_sum, state_magnitudes, clamp_magnitudes, entry_absolute_sum, plan_magnitudes, row_absolute_sum, next_magnitude, greatest_of, greatest_sum};
 ghost use Rattle.overflow_check.specs.Greatest.{greatest_entry_sum, greatest_row_sum, greatest_next_magnitude, greatest_run_sum};
 
 use qp_model::{ControllerParts, MOST_INPUTS, MOST_ROWS, MOST_STAGES, MOST_STATES};
@@ -258,6 +258,30 @@ pub fn plan_entry_magnitude(parts: &ControllerParts, j: usize) -> u128
     let clamps = clamp_magnitudes(parts);
     match entry_absolute_sum(parts, &states[..parts.n], &clamps[..parts.m], j) {
         Some(sum) => ceil_shift(sum, parts.f + parts.s),
+        None => unreachable!(),
+    }
+}
+
+/// How far coordinate `k` of a state of the box lies from 0 at most, over `2^f`.
+pub fn state_magnitude(parts: &ControllerParts, k: usize) -> u128
+    requires sized { IsSized (numbers parts.now) }
+    requires in_range { k < parts.now.n }
+    ensures { result ≡ slice_index_or (state_magnitudes (numbers parts.now)) k 0 }
+{
+    let states = state_magnitudes(parts);
+    states[k]
+}
+
+/// How far multiplier `i` lies from 0 at most before it is clamped. `plan` has the magnitudes of the plan's entries.
+pub fn next_magnitude(parts: &ControllerParts, plan: &[u128], i: usize) -> u128
+    requires sound { IsController (numbers parts.now) }
+    requires plan { plan.now ≡ plan_magnitudes (numbers parts.now) }
+    requires in_range { i < length parts.now.bound.items }
+    ensures { result ≡ next_magnitude (numbers parts.now) i }
+{
+    let states = state_magnitudes(parts);
+    match row_absolute_sum(parts, &states[..parts.n], plan, i) {
+        Some(sum) => parts.clamp.unsigned_abs() + ceil_shift(sum, parts.f),
         None => unreachable!(),
     }
 }

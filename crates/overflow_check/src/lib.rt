@@ -7,7 +7,9 @@ mod form;
 mod laws;
 mod word_width;
 
-pub use absolute_sums::{greatest_sum, plan_entry_magnitude, plan_sum};
+pub use absolute_sums::{
+    greatest_sum, next_magnitude, plan_entry_magnitude, plan_sum, state_magnitude,
+};
 pub use controller::{BadParts, Controller};
 pub use laws::{sub_sums_law, values_law};
 pub use word_width::width;

@@ -1,0 +1,148 @@
+-- The statements before the loop: the state is loaded, and what it adds to each plan entry and each row is made once.
+use Rattle.std.proofs.Common.{◌≡◌, ℕ, suc, ◌-◌, ◌*◌, ◌^◌, ◌<◌, ◌≤◌, ◌==◌, if◌then◌else◌, ltb, Bool, true, false, ℤ, pos, ◌*ℤ◌, List, [], ◌∷◌, length, map, unsigned_abs, refl, sym, ap, subst, ◌∙◌, arith, inl, inr}
+use Rattle.std.proofs.lemmas.Bool.{cases_eq, eq-eqb, ne_eqb, cond_both, both_ways}
+use Rattle.std.proofs.lemmas.Int.{unsigned_abs-mul}
+use Rattle.std.proofs.lemmas.Nat.{pow_below}
+use Rattle.std.proofs.lemmas.List.{get_or-map, length-map}
+use Rattle.std.proofs.Math.IntN.{*ℤ_comm}
+use Rattle.integer_algebra.specs.Sums.{at}
+use Rattle.qp_model.specs.machine.Controller.{Numbers}
+use Rattle.qp_model.specs.machine.Machine.{loaded}
+use Rattle.qp_model.specs.machine.AbsoluteSums.{state_magnitudes, sum_magnitude}
+use Rattle.qp_model.specs.machine.ValuesMet.{FitsWidth}
+use Rattle.qp_model.proofs.AbsoluteLaws.{le_times_pow}
+use Rattle.qp_model.proofs.MagnitudeLaws.{get_or-le-greatest}
+use Rattle.overflow_check.proofs.ValuesMet.{fits_width}
+use Rattle.c_program.specs.Syntax.{Variable, Kind, bits_of, Statement, groups}
+use Rattle.c_program.specs.Syntax.Kind.{Narrow, Wide}
+use Rattle.c_program.specs.Syntax.Family.{State, Loaded, EntryBase, RowBase, Multiplier, Sum}
+use Rattle.c_program.specs.Meaning.{Environment, with_value, new_value, variable_of, HasOperands, done, begun}
+use Rattle.c_program.specs.Of.{state_top, multiplier_top, kind_for, kind_of, loaded_statements, entry_base_statements, row_base_statements, zero_statements, before_of}
+use Rattle.c_program.proofs.Runs.{Runs, runs_none, runs_first, runs_append, runs_groups}
+use Rattle.c_program.proofs.Terms.{fits64, kind_fits}
+use Rattle.c_program.proofs.Parts.{Ready, entry_base, row_base, entry_base_made, row_base_made}
+
+-- ---- one statement
+abbrev pub kinds : Numbers → Variable → Kind
+kinds c v = kind_of c v.family v.number
+
+pub runs_one : (kind : Variable → Kind) (e : Environment) (s : Statement) (z : ℤ) (P : Environment → Type 0) → HasOperands e s → new_value e s ≡ z →
+    FitsWidth (bits_of (kind (variable_of s))) z → P (with_value e (variable_of s) z) → Runs kind e (s ∷ []) P
+runs_one kind e s z P operands is fits h =
+    runs_first kind e s [] P (record { operands = operands; fits = subst (FitsWidth (bits_of (kind (variable_of s)))) (sym is) fits })
+    (runs_none kind (done e s) P (subst (λ (y : ℤ). P (with_value e (variable_of s) y)) (sym is) h))
+
+-- one more variable of a family is put in its place
+pub put : (f g : ℕ → ℤ) (n : ℕ) (z : ℤ) → z ≡ g n → ((k : ℕ) → k < n → f k ≡ g k) → (k : ℕ) → k < suc n → (if n == k then z else f k) ≡ g k
+put f g n z new old k l = elim (cases_eq n k) [
+  | inl e ↦ rw (eq-eqb n k e) (new ∙ ap g e)
+  | inr e ↦ rw (ne_eqb n k e) (old k (omega (arith, l, e)))
+]
+
+-- the others of its family stay
+pub kept : (f g : ℕ → ℤ) (n m : ℕ) (z : ℤ) → ((k : ℕ) → n ≤ k → k < m → f k ≡ g k) → (k : ℕ) → suc n ≤ k → k < m → (if n == k then z else f k) ≡ g k
+kept f g n m z old k l h =
+    let e : (n ≡ k) → ⊥ = λ same. absurd (omega (arith, same, l)) in
+    rw (ne_eqb n k e) (old k (omega (arith, l)) h)
+
+-- the same of a family of which only some are declared
+pub put_where : (b : ℕ → Bool) (f g : ℕ → ℤ) (n : ℕ) (z : ℤ) → z ≡ g n → ((k : ℕ) → k < n → b k ≡ true → f k ≡ g k) → (k : ℕ) → k < suc n → b k ≡ true → (if n == k then z else f k) ≡ g k
+put_where b f g n z new old k l h = elim (cases_eq n k) [
+  | inl e ↦ rw (eq-eqb n k e) (new ∙ ap g e)
+  | inr e ↦ rw (ne_eqb n k e) (old k (omega (arith, l, e)) h)
+]
+
+pub skip_where : (b : ℕ → Bool) (f g : ℕ → ℤ) (n : ℕ) → b n ≡ false → ((k : ℕ) → k < n → b k ≡ true → f k ≡ g k) → (k : ℕ) → k < suc n → b k ≡ true → f k ≡ g k
+skip_where b f g n none old k l h = elim (cases_eq n k) [
+  | inl e ↦ absurd (both_ways (b k) (subst (λ (i : ℕ). b i ≡ false) e none) h)
+  | inr e ↦ old k (omega (arith, l, e)) h
+]
+
+-- ---- what the variables hold, so many of each family
+pub record Begins (c : Numbers) (xi : List ℤ) (a b d f g : ℕ) (e : Environment) : Type 0 where
+  pub state : (k : ℕ) → e State k ≡ at xi k
+  pub inputs : (k : ℕ) → k < a → e Loaded k ≡ at (loaded c xi) k
+  pub entries : (j : ℕ) → j < b → e EntryBase j ≡ entry_base c (loaded c xi) j
+  pub rows : (i : ℕ) → i < d → e RowBase i ≡ row_base c (loaded c xi) i
+  pub multipliers : (i : ℕ) → i < f → e Multiplier i ≡ pos 0
+  pub sums : (j : ℕ) → j < g → e Sum j ≡ pos 0
+
+begun_holds : (c : Numbers) (xi : List ℤ) → Begins c xi 0 0 0 0 0 (begun xi)
+begun_holds c xi = record {
+  state = λ k. refl;
+  inputs = λ k l. absurd (omega (arith, l));
+  entries = λ k l. absurd (omega (arith, l));
+  rows = λ k l. absurd (omega (arith, l));
+  multipliers = λ k l. absurd (omega (arith, l));
+  sums = λ k l. absurd (omega (arith, l));
+}
+
+zero_fits : (top : ℕ) → FitsWidth (bits_of (kind_for top)) (pos 0)
+zero_fits top =
+    cond_both (ltb top (2 ^ 31)) Narrow Wide (λ kind. FitsWidth (bits_of kind) (pos 0)) (λ e. fits_width 32 (pos 0) (omega arith)) (λ e. fits64 (pos 0) (omega arith))
+
+-- ---- loading
+loaded_at : (xs : List ℤ) (q : ℤ) (k : ℕ) → k < length (map (λ x. x *ℤ q) xs) → q *ℤ at xs k ≡ at (map (λ x. x *ℤ q) xs) k
+loaded_at xs q k l = *ℤ_comm q (at xs k) ∙ sym (get_or-map (λ x. x *ℤ q) xs k (pos 0) (pos 0) (omega (arith, l, length-map xs (λ x. x *ℤ q))))
+
+load_runs : (c : Numbers) (xi : List ℤ) (k : ℕ) (e : Environment) → Ready c (loaded c xi) → k < c.states → Begins c xi k 0 0 0 0 e → Runs (kinds c) e (loaded_statements c k) (Begins c xi (suc k) 0 0 0 0)
+load_runs c xi k e r l b =
+    let h = c.fraction_bits - c.grid_bits in
+    let q = pos (2 ^ h) in
+    let x = e State k in
+    let is : q *ℤ x ≡ at (loaded c xi) k = ap (λ (y : ℤ). q *ℤ y) (b.state k) ∙ loaded_at xi q k (omega (arith, l, r.long)) in
+    let top : state_top c k < 2 ^ 63 = omega (arith, get_or-le-greatest (state_magnitudes c) k, r.fit.states) in
+    let small : unsigned_abs (q *ℤ x) ≤ state_top c k = rw is (r.within.each k) in
+    let size : unsigned_abs (q *ℤ x) ≡ 2 ^ h * unsigned_abs x = unsigned_abs-mul q x in
+    let factor : unsigned_abs x ≤ 2 ^ h * unsigned_abs x = omega (arith, le_times_pow (unsigned_abs x) h) in
+    runs_one (kinds c) e _ (at (loaded c xi) k) (Begins c xi (suc k) 0 0 0 0)
+    (pow_below h 63 (omega (arith, r.short)), fits64 x (omega (arith, small, size, factor, top)), fits64 (q *ℤ x) (omega (arith, small, top))) is
+    (kind_fits (state_top c k) (at (loaded c xi) k) (r.within.each k) top)
+    (record { state = b.state; inputs = put (e Loaded) (at (loaded c xi)) k _ refl b.inputs; entries = b.entries; rows = b.rows; multipliers = b.multipliers; sums = b.sums })
+
+-- ---- what the state adds
+entry_base_runs : (c : Numbers) (xi : List ℤ) (j : ℕ) (e : Environment) → Ready c (loaded c xi) → j < length c.offsets → Begins c xi c.states j 0 0 0 e →
+    Runs (kinds c) e (entry_base_statements c j) (Begins c xi c.states (suc j) 0 0 0)
+entry_base_runs c xi j e r l b =
+    let m = entry_base_made c (loaded c xi) e j r l b.inputs in
+    runs_one (kinds c) e _ (entry_base c (loaded c xi) j) (Begins c xi c.states (suc j) 0 0 0) m.defined m.is
+    (fits64 _ (omega (arith, m.within, r.fit.entries j l)))
+    (record { state = b.state; inputs = b.inputs; entries = put (e EntryBase) (entry_base c (loaded c xi)) j _ refl b.entries; rows = b.rows; multipliers = b.multipliers; sums = b.sums })
+
+row_base_runs : (c : Numbers) (xi : List ℤ) (i : ℕ) (e : Environment) → Ready c (loaded c xi) → i < length c.bounds → Begins c xi c.states (length c.offsets) i 0 0 e →
+    Runs (kinds c) e (row_base_statements c i) (Begins c xi c.states (length c.offsets) (suc i) 0 0)
+row_base_runs c xi i e r l b =
+    let m = row_base_made c (loaded c xi) e i r l b.inputs in
+    runs_one (kinds c) e _ (row_base c (loaded c xi) i) (Begins c xi c.states (length c.offsets) (suc i) 0 0) m.defined m.is
+    (fits64 _ (omega (arith, m.within, r.fit.rows i l)))
+    (record { state = b.state; inputs = b.inputs; entries = b.entries; rows = put (e RowBase) (row_base c (loaded c xi)) i _ refl b.rows; multipliers = b.multipliers; sums = b.sums })
+
+-- ---- zeros
+multiplier_runs : (c : Numbers) (xi : List ℤ) (i : ℕ) (e : Environment) → Begins c xi c.states (length c.offsets) (length c.bounds) i 0 e →
+    Runs (kinds c) e (zero_statements Multiplier i) (Begins c xi c.states (length c.offsets) (length c.bounds) (suc i) 0)
+multiplier_runs c xi i e b =
+    runs_one (kinds c) e _ (pos 0) (Begins c xi c.states (length c.offsets) (length c.bounds) (suc i) 0) (omega arith) refl (zero_fits (multiplier_top c i))
+    (record { state = b.state; inputs = b.inputs; entries = b.entries; rows = b.rows; multipliers = put (e Multiplier) (λ k. pos 0) i _ refl b.multipliers; sums = b.sums })
+
+sum_runs : (c : Numbers) (xi : List ℤ) (j : ℕ) (e : Environment) → Begins c xi c.states (length c.offsets) (length c.bounds) (length c.bounds) j e →
+    Runs (kinds c) e (zero_statements Sum j) (Begins c xi c.states (length c.offsets) (length c.bounds) (length c.bounds) (suc j))
+sum_runs c xi j e b =
+    runs_one (kinds c) e _ (pos 0) (Begins c xi c.states (length c.offsets) (length c.bounds) (length c.bounds) (suc j)) (omega arith) refl (zero_fits (sum_magnitude c j))
+    (record { state = b.state; inputs = b.inputs; entries = b.entries; rows = b.rows; multipliers = b.multipliers; sums = put (e Sum) (λ k. pos 0) j _ refl b.sums })
+
+-- ---- all
+pub before_runs : (c : Numbers) (xi : List ℤ) → Ready c (loaded c xi) →
+    Runs (kinds c) (begun xi) (before_of c) (Begins c xi c.states (length c.offsets) (length c.bounds) (length c.bounds) (length c.offsets))
+before_runs c xi r =
+    let n = c.states in
+    let p = length c.offsets in
+    let m = length c.bounds in
+    let one = runs_groups (kinds c) (loaded_statements c) (λ k. Begins c xi k 0 0 0 0) n (begun xi) (begun_holds c xi) (λ k t l h. load_runs c xi k t r l h) in
+    let two = runs_append (kinds c) (begun xi) _ (groups (entry_base_statements c) p) (Begins c xi n 0 0 0 0) (Begins c xi n p 0 0 0) one
+    (λ e b. runs_groups (kinds c) (entry_base_statements c) (λ k. Begins c xi n k 0 0 0) p e b (λ k t l h. entry_base_runs c xi k t r l h)) in
+    let three = runs_append (kinds c) (begun xi) _ (groups (row_base_statements c) m) (Begins c xi n p 0 0 0) (Begins c xi n p m 0 0) two
+    (λ e b. runs_groups (kinds c) (row_base_statements c) (λ k. Begins c xi n p k 0 0) m e b (λ k t l h. row_base_runs c xi k t r l h)) in
+    let four = runs_append (kinds c) (begun xi) _ (groups (zero_statements Multiplier) m) (Begins c xi n p m 0 0) (Begins c xi n p m m 0) three
+    (λ e b. runs_groups (kinds c) (zero_statements Multiplier) (λ k. Begins c xi n p m k 0) m e b (λ k t l h. multiplier_runs c xi k t h)) in
+    runs_append (kinds c) (begun xi) _ (groups (zero_statements Sum) p) (Begins c xi n p m m 0) (Begins c xi n p m m p) four
+    (λ e b. runs_groups (kinds c) (zero_statements Sum) (λ k. Begins c xi n p m m k) p e b (λ k t l h. sum_runs c xi k t h))

@@ -1,0 +1,23 @@
+-- The lemmas by topic.
+
+-- ---- statements and expressions
+pub mod Runs
+pub mod Terms
+-- ---- the numbers of a controller
+pub mod Amounts
+pub mod Pairs
+pub mod Parts
+-- ---- runs
+pub mod Before
+pub mod Step
+pub mod Box
+pub mod Rounding
+pub mod ProgramLaw
+-- ---- the text
+pub mod Lists
+pub mod Rooms
+pub mod Texts
+pub mod Reading
+pub mod Statements
+-- ---- a worked program
+pub mod Worked

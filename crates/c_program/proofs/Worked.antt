@@ -1,0 +1,11 @@
+-- The worked program, as the definitions compute it.
+use Rattle.std.proofs.Common.{refl}
+use Rattle.std.specs.Fmt.{digits}
+use Rattle.std.specs.Int.Count.{count_trailing_zeros}
+use Rattle.c_program.specs.Syntax.{groups}
+use Rattle.c_program.specs.Of.{partner, is_first, is_second}
+use Rattle.c_program.specs.Worked.{WorkedLines}
+
+pub worked_lines : WorkedLines
+unfolding groups partner is_first is_second digits count_trailing_zeros
+worked_lines = refl

@@ -1,0 +1,9 @@
+use Rattle.std.proofs.Common.{◌≡◌, ◌++◌, codes, string_bytes}
+use Rattle.qp_model.specs.machine.Controller.{numbers}
+use Rattle.c_program.specs.Syntax.{groups}
+use Rattle.c_program.specs.Of.{difference_statements}
+use Rattle.c_program.specs.Terms.{block_text}
+use Rattle.c_program.proofs.plan.push_differences.Given as goal
+
+abbrev pub invariant-loop-i : goal.invariant-loop-i
+invariant-loop-i l = string_bytes l.text ≡ string_bytes l.fn.text ++ block_text (numbers l.c) (codes "        ") (groups (difference_statements (numbers l.c)) l.i)

@@ -1,0 +1,84 @@
+-- What the program of a controller does.
+use Rattle.std.specs.Prelude.{◌≡◌, ℕ, ◌+◌, ◌≤◌, ◌<◌, ℤ, List, length, map, All, unsigned_abs, ◌^◌}
+use Rattle.std.specs.List.{range_with_len}
+use Rattle.integer_algebra.specs.Division.{round_of}
+use Rattle.integer_algebra.specs.Sums.{at}
+use Rattle.qp_model.specs.machine.Controller.{Numbers}
+use Rattle.qp_model.specs.machine.Machine.{IsInside, IsAdmissible, averaged_plan}
+use Rattle.qp_model.specs.machine.AbsoluteSums.{IsController}
+use Rattle.qp_model.specs.machine.ValuesMet.{FitsWidth}
+use Rattle.c_program.specs.Syntax.{Variable, Kind, Expression, Statement}
+use Rattle.c_program.specs.Syntax.Kind.{Wide}
+use Rattle.c_program.specs.Syntax.Statement.{Declare, Assign, AtLeastZero, AtMost}
+use Rattle.c_program.specs.Syntax.Expression.{Constant, Value, Plus, Minus, Times, Quotient, Remainder, Shifted}
+use Rattle.c_program.specs.Text.{expression_text, statement_text}
+use Rattle.c_program.specs.Meaning.{first_outside, outcome_of, IsRun, averages_of, AreAveraged}
+use Rattle.c_program.specs.Meaning.Outcome.{Refused, Solved}
+use Rattle.c_program.specs.Of.{program_of}
+
+-- coordinate number k, from 1, lies outside the box, and each before it inside
+pub record IsFirstOutside (c : Numbers) (xi : List ℤ) (k : ℕ) : Type 0 where
+  pub low : 1 ≤ k
+  pub high : k ≤ c.states
+  pub outside : (i : ℕ) → i + 1 ≡ k → ¬ IsInside c xi i
+  pub before : (i : ℕ) → i + 1 < k → IsInside c xi i
+
+-- the averaged first inputs over 2^fraction_bits, to the nearest, ties upward
+abbrev pub first_inputs : Numbers → List ℤ → List ℤ
+first_inputs c xi = map (λ j. round_of (at (averaged_plan c xi) j) c.steps) (range_with_len 0 c.inputs)
+
+-- a grid state of the box can be handed in as numbers of 32 bits, C defines each statement of the run from it, and the averaged plan's numerators are put out;
+-- handed these, the second function is defined, and puts out the averaged first inputs
+pub record Solves (c : Numbers) (xi : List ℤ) : Type 0 where
+  pub state : All (FitsWidth 32) xi
+  pub run : IsRun (program_of c) xi
+  pub outcome : outcome_of (program_of c) xi ≡ Solved (averaged_plan c xi)
+  pub averaged : AreAveraged (program_of c) (averaged_plan c xi)
+  pub averages : averages_of (program_of c) (averaged_plan c xi) ≡ first_inputs c xi
+
+-- from any other state of this length the first coordinate outside the box is answered
+pub record Refuses (c : Numbers) (xi : List ℤ) : Type 0 where
+  pub first : IsFirstOutside c xi (first_outside (program_of c) xi)
+  pub outcome : outcome_of (program_of c) xi ≡ Refused (first_outside (program_of c) xi)
+
+pub record IsProgram (c : Numbers) : Type 0 where
+  pub inside : (xi : List ℤ) → IsAdmissible c xi → Solves c xi
+  pub outside : (xi : List ℤ) → length xi ≡ c.states → ¬ IsAdmissible c xi → Refuses c xi
+
+-- each number of an expression is below 2^64, as it is where C defines the expression
+abbrev pub HasShortNumbers : Expression → Type 0
+HasShortNumbers (Constant z) = unsigned_abs z < 2 ^ 64
+HasShortNumbers (Value v) = v.number < 2 ^ 64
+HasShortNumbers (Plus a b) = HasShortNumbers a × HasShortNumbers b
+HasShortNumbers (Minus a b) = HasShortNumbers a × HasShortNumbers b
+HasShortNumbers (Times a b) = HasShortNumbers a × HasShortNumbers b
+HasShortNumbers (Quotient a k) = HasShortNumbers a × (k < 2 ^ 64)
+HasShortNumbers (Remainder a k) = HasShortNumbers a × (k < 2 ^ 64)
+HasShortNumbers (Shifted a k) = HasShortNumbers a × (k < 2 ^ 64)
+
+-- two expressions never have one text
+abbrev pub ExpressionTextLaw : Type 0
+ExpressionTextLaw = (a b : Expression) → HasShortNumbers a → HasShortNumbers b → expression_text a ≡ expression_text b → a ≡ b
+
+-- each number of a statement is
+abbrev pub HasShortOperands : Statement → Type 0
+HasShortOperands (Declare v a) = (v.number < 2 ^ 64) × HasShortNumbers a
+HasShortOperands (Assign v a) = (v.number < 2 ^ 64) × HasShortNumbers a
+HasShortOperands (AtLeastZero v) = v.number < 2 ^ 64
+HasShortOperands (AtMost v top) = (v.number < 2 ^ 64) × (unsigned_abs top < 2 ^ 64)
+
+-- the type that a statement is written with
+abbrev pub kind_given : (Variable → Kind) → Statement → Kind
+kind_given kind (Declare v a) = kind v
+kind_given kind (Assign v a) = kind v
+kind_given kind (AtLeastZero v) = Wide
+kind_given kind (AtMost v top) = kind v
+
+-- two statements never have one text, and where one has a type the other has the same
+abbrev pub StatementTextLaw : Type 0
+StatementTextLaw =
+    (kind other : Variable → Kind) (s t : Statement) → HasShortOperands s → HasShortOperands t → statement_text kind s ≡ statement_text other t → (s ≡ t) × (kind_given kind s ≡ kind_given other t)
+
+-- of each controller of at most 64 bits
+abbrev pub ProgramLaw : Type 0
+ProgramLaw = (c : Numbers) → IsController c → c.width ≤ 64 → IsProgram c

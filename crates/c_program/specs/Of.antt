@@ -1,0 +1,194 @@
+-- The program of a controller: its numbers as literals, zeros left out, and each variable as narrow as its absolute sum lets it be.
+use Rattle.std.specs.Prelude.{ℕ, zero, suc, ◌+◌, ◌-◌, ◌*◌, ◌^◌, min, Bool, true, ◌&&◌, ◌==◌, nat_lt, if◌then◌else◌, ℤ, pos, ◌+ℤ◌, ◌*ℤ◌, neg_ℤ, List, [], ◌∷◌, ◌++◌, length, map, unsigned_abs, slice_index_or, ◌/◌}
+use Rattle.std.specs.List.{range_with_len}
+use Rattle.std.specs.Int.{w32, trailing_zeros}
+use Rattle.integer_algebra.specs.Sums.{at}
+use Rattle.mat_int.specs.Matrix.{row_of}
+use Rattle.qp_model.specs.machine.Controller.{Numbers}
+use Rattle.qp_model.specs.machine.Machine.{exponent_of, lowering_of, top_of}
+use Rattle.qp_model.specs.machine.AbsoluteSums.{state_magnitudes, plan_magnitudes, next_magnitude, sum_magnitude}
+use Rattle.c_program.specs.Syntax.{Family, Variable, variable, Kind, Expression, Statement, groups, Program}
+use Rattle.c_program.specs.Syntax.Family.{State, Loaded, EntryBase, RowBase, Multiplier, Difference, Entry, Gradient, Moved, Sum, Output}
+use Rattle.c_program.specs.Syntax.Kind.{Narrow, Wide}
+use Rattle.c_program.specs.Syntax.Expression.{Constant, Value, Plus, Minus, Times, Quotient, Remainder, Shifted}
+use Rattle.c_program.specs.Syntax.Statement.{Declare, Assign, AtLeastZero, AtMost}
+
+-- ---- what the variables are at most in absolute value
+abbrev pub state_top : Numbers → ℕ → ℕ
+state_top c k = slice_index_or (state_magnitudes c) k 0
+
+abbrev pub multiplier_top : Numbers → ℕ → ℕ
+multiplier_top c i = unsigned_abs (top_of c i)
+
+abbrev pub entry_top : Numbers → ℕ → ℕ
+entry_top c j = slice_index_or (plan_magnitudes c) j 0
+
+-- the type that holds numbers of at most this absolute value
+abbrev pub kind_for : ℕ → Kind
+kind_for top = if nat_lt top (2 ^ 31) then Narrow else Wide
+
+abbrev pub kind_of : Numbers → Family → ℕ → Kind
+kind_of c State k = Narrow
+kind_of c Loaded k = kind_for (state_top c k)
+kind_of c EntryBase j = Wide
+kind_of c RowBase i = Wide
+kind_of c Multiplier i = kind_for (multiplier_top c i)
+kind_of c Difference i = kind_for (multiplier_top c i)
+kind_of c Entry j = kind_for (entry_top c j)
+kind_of c Gradient i = Wide
+kind_of c Moved i = kind_for (next_magnitude c i)
+kind_of c Sum j = kind_for (sum_magnitude c j)
+kind_of c Output j = Wide
+
+-- ---- sums of products
+-- a coefficient times a variable of at most this absolute value, left out where that is always 0
+abbrev pub plus_product : Expression → (coefficient : ℤ) (top : ℕ) → Variable → Expression
+plus_product a c top v = if nat_lt 0 (unsigned_abs c * top) then Plus a (Times (Constant c) (Value v)) else a
+
+abbrev pub plus_products : Expression → (ℕ → ℤ) → (ℕ → ℕ) → (ℕ → Variable) → ℕ → Expression
+plus_products a c top v zero = a
+plus_products a c top v (suc n) = plus_product (plus_products a c top v n) (c n) (top n) (v n)
+
+-- ---- pairs of opposite rows, which share their products
+-- the first n numbers of the one are those of the other with the other sign
+abbrev pub are_negated : (ℕ → ℤ) → (ℕ → ℤ) → ℕ → Bool
+are_negated f g zero = true
+are_negated f g (suc n) = are_negated f g n && (unsigned_abs (f n +ℤ g n) == 0)
+
+-- rows k and i have opposite numbers and one exponent
+abbrev pub are_opposed : Numbers → ℕ → ℕ → Bool
+are_opposed c k i =
+    (exponent_of c k == exponent_of c i) && are_negated (at (row_of c.plan_rows k)) (at (row_of c.plan_rows i)) (length c.offsets)
+    && are_negated (λ j. at (row_of c.dual_gains j) k) (λ j. at (row_of c.dual_gains j) i) (length c.offsets)
+
+-- the first of the rows before row n that is opposite to row i, and n where none is
+abbrev pub first_opposed : Numbers → (i n : ℕ) → ℕ
+first_opposed c i zero = zero
+first_opposed c i (suc n) = if nat_lt (first_opposed c i n) n then first_opposed c i n else (if are_opposed c n i then n else suc n)
+
+unfoldable pub partner : Numbers → ℕ → ℕ
+partner c i = first_opposed c i (length c.bounds)
+
+-- two rows of which each is the first that is opposite to the other are a pair: row i is the first one of a pair, or the second
+unfoldable pub is_first : Numbers → ℕ → Bool
+is_first c i = nat_lt i (partner c i) && nat_lt (partner c i) (length c.bounds) && (partner c (partner c i) == i)
+
+unfoldable pub is_second : Numbers → ℕ → Bool
+is_second c i = nat_lt (partner c i) i && (partner c (partner c i) == i)
+
+-- ---- before the loop
+abbrev pub loaded_expression : Numbers → ℕ → Expression
+loaded_expression c k = Times (Constant (pos (2 ^ (c.fraction_bits - c.grid_bits)))) (Value (variable State k))
+
+abbrev pub loaded_statements : Numbers → ℕ → List Statement
+loaded_statements c k = Declare (variable Loaded k) (loaded_expression c k) ∷ []
+
+-- what the state and the offset add to plan entry j, over 2^(2 fraction_bits + step_exponent)
+abbrev pub entry_base_statements : Numbers → ℕ → List Statement
+entry_base_statements c j =
+    Declare (variable EntryBase j) (plus_products (Constant (at c.offsets j *ℤ pos (2 ^ c.fraction_bits) *ℤ pos (2 ^ c.step_exponent)))
+    (λ k. at (row_of c.state_gains j) k *ℤ pos (2 ^ c.step_exponent)) (state_top c) (variable Loaded) c.states) ∷ []
+
+-- what the state and the bound add to row i, over 2^(2 fraction_bits)
+abbrev pub row_base_statements : Numbers → ℕ → List Statement
+row_base_statements c i =
+    Declare (variable RowBase i) (plus_products (Constant (neg_ℤ (at c.bounds i *ℤ pos (2 ^ c.fraction_bits))))
+    (at (row_of c.state_rows i)) (state_top c) (variable Loaded) c.states) ∷ []
+
+abbrev pub zero_statements : Family → ℕ → List Statement
+zero_statements family i = Declare (variable family i) (Constant (pos 0)) ∷ []
+
+abbrev pub before_of : Numbers → List Statement
+before_of c =
+    groups (loaded_statements c) c.states ++ groups (entry_base_statements c) (length c.offsets) ++ groups (row_base_statements c) (length c.bounds)
+    ++ groups (zero_statements Multiplier) (length c.bounds) ++ groups (zero_statements Sum) (length c.offsets)
+
+-- ---- one step
+-- the difference of the multipliers of a pair
+abbrev pub difference_statements : Numbers → ℕ → List Statement
+difference_statements c i =
+    if is_first c i then Declare (variable Difference i) (Minus (Value (variable Multiplier i)) (Value (variable Multiplier (partner c i)))) ∷ [] else []
+
+-- what plan entry j multiplies the multiplier of row i with, over 2^(fraction_bits + step_exponent), or the difference of a pair, for both of its rows
+abbrev pub gain_of : Numbers → ℕ → ℕ → ℤ
+gain_of c j i = if is_second c i then pos 0 else (at (row_of c.dual_gains j) i *ℤ pos (2 ^ lowering_of c i))
+
+abbrev pub gain_variable : Numbers → ℕ → Variable
+gain_variable c i = variable (if is_first c i then Difference else Multiplier) i
+
+-- plan entry j; a shift of a number of 64 bits by more than 63 makes what one by 63 makes
+abbrev pub entry_expression : Numbers → ℕ → Expression
+entry_expression c j =
+    Minus (Constant (pos 0)) (Shifted (plus_products (Value (variable EntryBase j)) (gain_of c j) (multiplier_top c) (gain_variable c) (length c.bounds))
+    (min (c.fraction_bits + c.step_exponent) 63))
+
+abbrev pub entry_statements : Numbers → ℕ → List Statement
+entry_statements c j = Declare (variable Entry j) (entry_expression c j) ∷ []
+
+abbrev pub sum_statements : ℕ → List Statement
+sum_statements j = Assign (variable Sum j) (Plus (Value (variable Sum j)) (Value (variable Entry j))) ∷ []
+
+-- row i's products with the plan, added to an expression
+abbrev pub plus_plan : Numbers → ℕ → Expression → Expression
+plus_plan c i a = plus_products a (at (row_of c.plan_rows i)) (entry_top c) (variable Entry) (length c.offsets)
+
+-- a pair's products with the plan
+abbrev pub gradient_statements : Numbers → ℕ → List Statement
+gradient_statements c i = if is_first c i then Declare (variable Gradient i) (plus_plan c i (Constant (pos 0))) ∷ [] else []
+
+-- the sum of row i
+abbrev pub row_expression : Numbers → ℕ → Expression
+row_expression c i =
+    if is_first c i then Plus (Value (variable RowBase i)) (Value (variable Gradient i)) else
+    (if is_second c i then Minus (Value (variable RowBase i)) (Value (variable Gradient (partner c i))) else plus_plan c i (Value (variable RowBase i)))
+
+-- multiplier i, moved along its row and clamped
+abbrev pub moved_expression : Numbers → ℕ → Expression
+moved_expression c i = Plus (Value (variable Multiplier i)) (Shifted (row_expression c i) c.fraction_bits)
+
+abbrev pub move_statements : Numbers → ℕ → List Statement
+move_statements c i =
+    Declare (variable Moved i) (moved_expression c i)
+    ∷ AtLeastZero (variable Moved i) ∷ AtMost (variable Moved i) (top_of c i) ∷ Assign (variable Multiplier i) (Value (variable Moved i)) ∷ []
+
+abbrev pub row_statements : Numbers → ℕ → List Statement
+row_statements c i = gradient_statements c i ++ move_statements c i
+
+abbrev pub body_of : Numbers → List Statement
+body_of c =
+    groups (difference_statements c) (length c.bounds) ++ groups (entry_statements c) (length c.offsets) ++ groups sum_statements (length c.offsets)
+    ++ groups (row_statements c) (length c.bounds)
+
+-- ---- the averages
+-- a sum over so many steps, where these are 2^k
+abbrev pub shifted_average : (sum : Expression) (steps k : ℕ) → Expression
+shifted_average sum steps k = Shifted (Plus sum (Constant (pos (steps / 2)))) k
+
+-- otherwise: with the remainder r of the quotient, a shift by 63 makes 1 less where 2 r < -steps, and 1 more where 2 r >= steps
+abbrev pub doubled_rest : (sum : Expression) (steps : ℕ) → Expression
+doubled_rest sum steps = Times (Constant (pos 2)) (Remainder sum steps)
+
+abbrev pub divided_average : (sum : Expression) (steps : ℕ) → Expression
+divided_average sum steps =
+    Minus (Plus (Quotient sum steps) (Shifted (Plus (doubled_rest sum steps) (Constant (pos steps))) 63))
+    (Shifted (Minus (Constant (pos (steps - 1))) (doubled_rest sum steps)) 63)
+
+-- entry j of the averaged plan, over 2^fraction_bits, to the nearest, ties upward
+abbrev pub average_expression : Numbers → ℕ → Expression
+average_expression c j =
+    let sum = Value (variable Output j) in
+    let k = trailing_zeros w32 c.steps in
+    if c.steps == 2 ^ k then shifted_average sum c.steps k else divided_average sum c.steps
+
+-- ---- the whole
+abbrev pub program_of : Numbers → Program
+program_of c = record {
+  low = c.low;
+  high = c.high;
+  kind = λ v. kind_of c v.family v.number;
+  before = before_of c;
+  body = body_of c;
+  repetitions = c.steps;
+  outputs = map (variable Sum) (range_with_len 0 (length c.offsets));
+  averages = map (average_expression c) (range_with_len 0 c.inputs);
+}

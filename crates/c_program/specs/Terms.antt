@@ -1,0 +1,62 @@
+-- The text of a sum of products, as it grows behind what it is added to.
+use Rattle.std.specs.Prelude.{ℕ, zero, suc, ◌+◌, ◌*◌, nat_lt, if◌then◌else◌, ℤ, List, [], ◌∷◌, ◌++◌, length, map, codes, decimal, unsigned_abs}
+use Rattle.std.specs.List.{range_with_len}
+use Rattle.integer_algebra.specs.Sums.{at}
+use Rattle.mat_int.specs.Matrix.{row_of}
+use Rattle.number_text.specs.Lines.{text_of}
+use Rattle.qp_model.specs.machine.Controller.{Numbers}
+use Rattle.c_program.specs.Syntax.{variable, Statement, Program}
+use Rattle.c_program.specs.Syntax.Family.{Entry, Gradient}
+use Rattle.c_program.specs.Syntax.Expression.{Value}
+use Rattle.c_program.specs.Of.{partner, is_first, is_second, entry_top, program_of}
+use Rattle.c_program.specs.Text.{variable_text, constant_text, expression_text, statement_lines, shift_line, head_text}
+
+-- ---- pairs
+abbrev pub partners_of : Numbers → List ℕ
+partners_of c = map (partner c) (range_with_len 0 (length c.bounds))
+
+-- ---- text
+-- pieces, one behind the other
+abbrev pub joined : List (List ℕ) → List ℕ
+joined [] = []
+joined (piece ∷ pieces) = piece ++ joined pieces
+
+-- one product with the variable of this name
+abbrev pub term_text : ℤ → List ℕ → List ℕ
+term_text c name = codes " + (" ++ constant_text c ++ codes " * (int64_t)" ++ name ++ codes ")"
+
+abbrev pub product_text : ℤ → ℕ → List ℕ → List ℕ
+product_text c top name = if nat_lt 0 (unsigned_abs c * top) then term_text c name else []
+
+unfoldable pub products_text : (ℕ → ℤ) → (ℕ → ℕ) → (ℕ → List ℕ) → ℕ → List ℕ
+products_text c top name zero = []
+products_text c top name (suc n) = products_text c top name n ++ product_text (c n) (top n) (name n)
+
+-- ---- statements
+-- what stands before and behind the value that a variable of a type is given
+abbrev pub given_text : List ℕ → List ℕ → List ℕ
+given_text kind name = name ++ codes " = (" ++ kind ++ codes ")("
+
+abbrev pub declared_text : (indent kind name : List ℕ) → List ℕ
+declared_text indent kind name = indent ++ kind ++ codes " " ++ given_text kind name
+
+abbrev pub given_end : List ℕ
+given_end = codes ");" ++ 10 ∷ []
+
+-- the lines of statements of a controller's program
+abbrev pub block_text : Numbers → (indent : List ℕ) → List Statement → List ℕ
+block_text c indent ss = text_of (statement_lines (program_of c).kind indent ss)
+
+-- what stands behind the base in the sum of a row
+abbrev pub row_rest : Numbers → ℕ → List ℕ
+row_rest c i =
+    if is_first c i then (codes " + " ++ expression_text (Value (variable Gradient i))) else
+    (if is_second c i then (codes " - " ++ expression_text (Value (variable Gradient (partner c i)))) else
+    products_text (at (row_of c.plan_rows i)) (entry_top c) (λ j. variable_text (variable Entry j)) (length c.offsets))
+
+-- ---- the lines of a program
+abbrev pub opening_lines : List ℕ → Program → List (List ℕ)
+opening_lines name p = (codes "#include \"" ++ name ++ codes ".h\"") ∷ [] ∷ shift_line name ∷ [] ∷ head_text name p ∷ codes "{" ∷ []
+
+abbrev pub loop_line : Program → List ℕ
+loop_line p = codes "    for (int32_t step = 0; step < " ++ decimal p.repetitions ++ codes "; step++) {"

@@ -1,0 +1,24 @@
+// What the program of a controller does.
+ghost use Rattle.c_program.specs.Laws.{ExpressionTextLaw, ProgramLaw, StatementTextLaw};
+ghost use Rattle.c_program.specs.Worked.{WorkedLines};
+
+/// The program of a controller of at most 64 bits, run from a state of its box, is defined by C throughout and puts out the averaged plan's numerators, and of these the
+/// averaged first inputs. From any other state it answers the first coordinate outside.
+pub fn program_law()
+    ensures { ProgramLaw }
+{}
+
+/// Two expressions never have one text.
+pub fn expression_text_law()
+    ensures { ExpressionTextLaw }
+{}
+
+/// Two statements never have one text.
+pub fn statement_text_law()
+    ensures { StatementTextLaw }
+{}
+
+/// The lines of a worked program.
+pub fn worked_lines()
+    ensures { WorkedLines }
+{}

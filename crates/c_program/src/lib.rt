@@ -1,0 +1,22 @@
+//! The program of a controller in a small part of C, and why it makes what the controller's machine makes.
+#![tactic(auto)]
+
+mod averages;
+mod ending;
+mod header;
+mod laws;
+mod lines;
+mod name;
+mod opposite;
+mod plan;
+mod rows;
+mod start;
+mod sums;
+mod tops;
+mod words;
+mod writer;
+
+pub use header::write_header;
+pub use laws::{expression_text_law, program_law, statement_text_law, worked_lines};
+pub use name::is_name;
+pub use writer::write_program;

@@ -1,0 +1,95 @@
+// The greatest absolute values of variables.
+ghost use Rattle.std.specs.Prelude.{◌≡◌, ◌<◌, ◌≤◌, ◌*◌, ◌^◌, pos, ◌*ℤ◌, neg_ℤ, length, IfOk, unsigned_abs};
+ghost use Rattle.integer_algebra.specs.Sums.{at};
+ghost use Rattle.qp_model.specs.machine.Controller.{numbers};
+ghost use Rattle.qp_model.specs.machine.Machine.{lowering_of, top_of};
+ghost use Rattle.qp_model.specs.machine.AbsoluteSums.{IsController, state_magnitudes, plan_magnitudes, sum_magnitude};
+ghost use Rattle.c_program.specs.Of.{multiplier_top};
+
+use frac_scaled::{floor_shift, scaled};
+use overflow_check::{plan_entry_magnitude, state_magnitude};
+use qp_model::ControllerParts;
+use std::alloc::{AllocError, Global};
+
+// By how many bits the step exponent of row `i` is below the greatest.
+pub fn lowering_at(c: &ControllerParts, i: usize) -> u32
+    requires sound { IsController (numbers c.now) }
+    requires in_range { i < length c.now.bound.items }
+    ensures value { result ≡ lowering_of (numbers c.now) i }
+    ensures bits { result ≤ 40 }
+{
+    c.s - c.exps[i]
+}
+
+// The greatest multiplier of row `i`.
+pub fn top_at(c: &ControllerParts, i: usize) -> i128
+    requires sound { IsController (numbers c.now) }
+    requires in_range { i < length c.now.bound.items }
+    ensures value { result ≡ top_of (numbers c.now) i }
+    ensures small { unsigned_abs result < 2 ^ 127 }
+{
+    floor_shift(c.clamp, lowering_at(c, i))
+}
+
+// Of multiplier `i`.
+pub fn multiplier_top(c: &ControllerParts, i: usize) -> u128
+    requires sound { IsController (numbers c.now) }
+    requires in_range { i < length c.now.bound.items }
+    ensures { result ≡ multiplier_top (numbers c.now) i }
+{
+    floor_shift(c.clamp, lowering_at(c, i)).unsigned_abs()
+}
+
+// Of the plan's entries.
+pub fn plan_tops(alloc: Global, c: &ControllerParts) -> Result<Vec<u128>, AllocError>
+    requires { IsController (numbers c.now) }
+    ensures { IfOk result (λ v. v.items ≡ plan_magnitudes (numbers c.now)) }
+{
+    let mut tops = Vec::new(alloc);
+    for j in 0..c.t.len() {
+        tops.push(plan_entry_magnitude(c, j))?;
+    }
+    Ok(tops)
+}
+
+// Of the state.
+pub fn state_tops(alloc: Global, c: &ControllerParts) -> Result<Vec<u128>, AllocError>
+    requires { IsController (numbers c.now) }
+    ensures { IfOk result (λ v. v.items ≡ state_magnitudes (numbers c.now)) }
+{
+    let mut tops = Vec::new(alloc);
+    for k in 0..c.n {
+        tops.push(state_magnitude(c, k))?;
+    }
+    Ok(tops)
+}
+
+// Of the sum of plan entry `j`.
+pub fn sum_top(c: &ControllerParts, plan: &[u128], j: usize) -> u128
+    requires sound { IsController (numbers c.now) }
+    requires plan { plan.now ≡ plan_magnitudes (numbers c.now) }
+    requires in_range { j < length c.now.t.items }
+    ensures { result ≡ sum_magnitude (numbers c.now) j }
+{
+    u128::from(c.steps) * plan[j]
+}
+
+// The offset of plan entry `j`, over `2^(2f + s)`.
+pub fn offset_at(c: &ControllerParts, j: usize) -> i128
+    requires sound { IsController (numbers c.now) }
+    requires in_range { j < length c.now.t.items }
+    ensures value { result ≡ at c.now.t.items j *ℤ pos (2 ^ c.now.f) *ℤ pos (2 ^ c.now.s) }
+    ensures small { unsigned_abs result < 2 ^ 127 }
+{
+    scaled(scaled(c.t[j], c.f), c.s)
+}
+
+// The bound of row `i` with the other sign, over `2^(2f)`.
+pub fn bound_at(c: &ControllerParts, i: usize) -> i128
+    requires sound { IsController (numbers c.now) }
+    requires in_range { i < length c.now.bound.items }
+    ensures value { result ≡ neg_ℤ (at c.now.bound.items i *ℤ pos (2 ^ c.now.f)) }
+    ensures small { unsigned_abs result < 2 ^ 127 }
+{
+    -scaled(c.bound[i], c.f)
+}

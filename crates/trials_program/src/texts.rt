@@ -1,0 +1,128 @@
+// The text of a worked controller's program, line by line.
+use c_program::{is_name, write_header, write_program};
+use std::alloc::Global;
+use std::test::Fail;
+use trials_worked_controllers::controller;
+
+static LINES: [&str; 42] = [
+    "#include \"first.h\"",
+    "",
+    "typedef char first_shifts_round_down[((-INT64_C(3)) >> 1) == (-INT64_C(2)) ? 1 : -1];",
+    "",
+    "int first_solve(const int32_t state[1], int64_t sums[1])",
+    "{",
+    "    if (state[0] < INT64_C(0) || state[0] > INT64_C(1)) { return 1; }",
+    "    int32_t x0 = (int32_t)((INT64_C(1024) * (int64_t)state[0]));",
+    "    int64_t a0 = (int64_t)(INT64_C(0) + (INT64_C(1024) * (int64_t)x0));",
+    "    int64_t r0 = (int64_t)((-INT64_C(1048576)));",
+    "    int64_t r1 = (int64_t)((-INT64_C(1048576)));",
+    "    int64_t r2 = (int64_t)((-INT64_C(262144)) + (INT64_C(1024) * (int64_t)x0));",
+    "    int32_t l0 = (int32_t)(INT64_C(0));",
+    "    int32_t l1 = (int32_t)(INT64_C(0));",
+    "    int32_t l2 = (int32_t)(INT64_C(0));",
+    "    int32_t s0 = (int32_t)(INT64_C(0));",
+    "    for (int32_t step = 0; step < 4; step++) {",
+    "        int32_t d0 = (int32_t)((int64_t)l0 - (int64_t)l1);",
+    "        int32_t u0 = (int32_t)(INT64_C(0) - (((int64_t)a0 + (INT64_C(256) * (int64_t)d0) + (INT64_C(256) * (int64_t)l2)) >> 11));",
+    "        s0 = (int32_t)((int64_t)s0 + (int64_t)u0);",
+    "        int64_t g0 = (int64_t)(INT64_C(0) + (INT64_C(1024) * (int64_t)u0));",
+    "        int32_t t0 = (int32_t)((int64_t)l0 + (((int64_t)r0 + (int64_t)g0) >> 10));",
+    "        if (t0 < 0) { t0 = 0; }",
+    "        if (t0 > INT64_C(32768)) { t0 = (int32_t)(INT64_C(32768)); }",
+    "        l0 = (int32_t)((int64_t)t0);",
+    "        int32_t t1 = (int32_t)((int64_t)l1 + (((int64_t)r1 - (int64_t)g0) >> 10));",
+    "        if (t1 < 0) { t1 = 0; }",
+    "        if (t1 > INT64_C(32768)) { t1 = (int32_t)(INT64_C(32768)); }",
+    "        l1 = (int32_t)((int64_t)t1);",
+    "        int32_t t2 = (int32_t)((int64_t)l2 + (((int64_t)r2 + (INT64_C(1024) * (int64_t)u0)) >> 10));",
+    "        if (t2 < 0) { t2 = 0; }",
+    "        if (t2 > INT64_C(32768)) { t2 = (int32_t)(INT64_C(32768)); }",
+    "        l2 = (int32_t)((int64_t)t2);",
+    "    }",
+    "    sums[0] = (int64_t)s0;",
+    "    return 0;",
+    "}",
+    "",
+    "void first_first_inputs(const int64_t sums[1], int64_t inputs[1])",
+    "{",
+    "    inputs[0] = (((int64_t)sums[0] + INT64_C(2)) >> 2);",
+    "}",
+];
+
+static HEADER: [&str; 27] = [
+    "#ifndef first_H",
+    "#define first_H",
+    "",
+    "#include <stdint.h>",
+    "",
+    "#define first_STATES 1",
+    "#define first_INPUTS 1",
+    "#define first_STAGES 1",
+    "#define first_STEPS 4",
+    "#define first_BITS 10",
+    "#define first_GRID 0",
+    "",
+    "#ifdef __cplusplus",
+    "extern \"C\" {",
+    "#endif",
+    "",
+    "/* From a state over 2^GRID: 0, and the sums of the plans of all steps; or the first number, from 1, outside the box, and nothing is written. */",
+    "int first_solve(const int32_t state[1], int64_t sums[1]);",
+    "",
+    "/* From these sums: the averaged first inputs over 2^BITS, to the nearest, ties upward. */",
+    "void first_first_inputs(const int64_t sums[1], int64_t inputs[1]);",
+    "",
+    "#ifdef __cplusplus",
+    "}",
+    "#endif",
+    "",
+    "#endif",
+];
+
+// Whether a text has these lines.
+fn has_lines(alloc: Global, text: &str, lines: &[&str]) -> Result<bool, Fail> {
+    let mut whole = String::new(alloc);
+    for line in lines {
+        whole.push_str(line)?;
+        whole.push_str("\n")?;
+    }
+    Ok(whole.as_str() == text)
+}
+
+#[test]
+fn first_program(rt: HostRuntime) -> Result<(), Fail> {
+    let alloc = rt.alloc();
+    let c = controller(alloc, 1, 32768, 26, [1, 1, 1])?;
+    if c.parts().w > 64 {
+        return Err("too wide".into());
+    }
+    let text = write_program(alloc, &c, "first")?;
+    assert!(rt; has_lines(alloc, text.as_str(), &LINES)?);
+    Ok(())
+}
+
+#[test]
+fn first_header(rt: HostRuntime) -> Result<(), Fail> {
+    let alloc = rt.alloc();
+    let c = controller(alloc, 1, 32768, 26, [1, 1, 1])?;
+    let text = write_header(alloc, &c, "first")?;
+    assert!(rt; has_lines(alloc, text.as_str(), &HEADER)?);
+    Ok(())
+}
+
+static NAMES: [&str; 3] = ["a", "motor_2", "abcdefghijklmnopqrstuvwxyz_1234"];
+
+static OTHERS: [&str; 6] = [
+    "",
+    "2motor",
+    "_motor",
+    "Motor",
+    "mo-tor",
+    "abcdefghijklmnopqrstuvwxyz_12345",
+];
+
+#[test]
+fn names(rt: HostRuntime) -> Result<(), Fail> {
+    assert!(rt; NAMES.iter().all(|name| is_name(name)) && !OTHERS.iter().any(|name| is_name(name)));
+    Ok(())
+}
