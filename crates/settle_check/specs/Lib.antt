@@ -1,0 +1,13 @@
+pub mod Still
+pub mod StillSize
+pub mod ClosedRows
+pub mod TurnSize
+pub mod Tube
+pub mod Course
+pub mod Settling
+pub mod Answers
+pub mod Certificates
+pub mod Beyond
+pub mod Tubes
+pub mod Settles
+pub mod Worked

@@ -1,0 +1,35 @@
+// What the definitions give, as the contract of a function with nothing to do.
+ghost use Rattle.settle_check.specs.Still.{StillLaw};
+ghost use Rattle.settle_check.specs.ClosedRows.{RowLaw};
+ghost use Rattle.settle_check.specs.Tube.{RowsLaw, TubeLaw};
+ghost use Rattle.settle_check.specs.Settling.{SettlingLaw};
+ghost use Rattle.settle_check.specs.Worked.{WorkedSettling};
+
+/// From each state of a box that passes the test of every row, in a run of any controller in form, all multipliers are 0 after each step, and
+/// each plan is the one that these give.
+pub fn still_law()
+    ensures { StillLaw }
+{}
+
+/// From there, what the plant's next state has of a whole row, with any shift between two lists, is at most what the state has of any other, and
+/// what the turn adds at most.
+pub fn row_law()
+    ensures { RowLaw }
+{}
+
+/// As long as a loop's states lie in such a box, this holds for any rows, turn after turn, and the next state lies in the tube.
+pub fn tube_law()
+    ensures rows { RowsLaw }
+    ensures tube { TubeLaw }
+{}
+
+/// Where a certificate is met, every loop from the start box, under every list of shifts between two lists, lies in the box where no multiplier
+/// moves at each turn, for every number of turns, and from turn n on in the settled box.
+pub fn settling_law()
+    ensures { SettlingLaw }
+{}
+
+/// A worked loop, computed from the definitions: the test of its rows at the ends of the greatest box that passes, and where it lies turn by turn.
+pub fn worked_law()
+    ensures { WorkedSettling }
+{}

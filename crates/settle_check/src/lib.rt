@@ -1,0 +1,20 @@
+//! Whether every closed loop of a controller and a plant settles: in whole numbers, where no multiplier moves.
+#![tactic(auto)]
+
+mod certificate;
+mod check;
+mod closed;
+mod counted;
+mod course;
+mod fault;
+mod laws;
+mod rows;
+mod settle;
+mod still;
+mod tube;
+
+pub use certificate::{CertificateParts, StateBox};
+pub use check::test_still;
+pub use fault::SettleFault;
+pub use laws::{row_law, settling_law, still_law, tube_law, worked_law};
+pub use settle::check_settling;
