@@ -1,22 +1,15 @@
 -- How many rows a design has, and that its numbers are small.
-use Rattle.std.proofs.Common.{◌≡◌, ℕ, ◌+◌, ◌*◌, ◌^◌, ◌<◌, ◌≤◌, ℤ, pos, ◌*ℤ◌, List, [], length, arith, refl}
-use Rattle.std.specs.Prelude.{Vec, unsigned_abs}
-use Rattle.std.specs.declared.alloc.Global.{Global}
+use Rattle.std.proofs.Common.{◌≡◌, ℕ, ◌+◌, ◌*◌, ◌^◌, ◌<◌, ◌≤◌, ℤ, pos, ◌*ℤ◌, List, length, arith, refl}
+use Rattle.std.specs.Prelude.{unsigned_abs}
 use Rattle.std.proofs.lemmas.Int.{ints}
-use Rattle.mat_int.specs.Lines.{lists}
 use Rattle.qp_model.specs.declared.design_parts.DesignParts.{DesignParts}
 use Rattle.qp_model.specs.problem.Parts.{design_of, IsDesign}
 use Rattle.qp_model.specs.problem.Runs.{counts, Holds}
 use Rattle.qp_model.proofs.CountLaws.{counted_all}
 use Rattle.qp_model.proofs.TableLaws.{entry_small}
 use Rattle.condensed_form.specs.Costs.{weight_of}
-use Rattle.condensed_form.specs.Lists.{HoldsRows}
 use Rattle.condensed_form.proofs.Pushes.{holds_to}
 use Rattle.condensed_form.proofs.RowFacts.{stages_room}
-
--- no rows yet
-pub no_rows : (vs : List (Vec ℤ Global)) (n : ℕ) (f : ℕ → ℕ → ℤ) → vs ≡ [] → HoldsRows (lists vs) 0 n f
-no_rows vs n f e = rw e (record { long = refl; row = λ k l. absurd (omega arith) })
 
 -- a design has few counted cost rows
 pub costs_few : (p : DesignParts) → IsDesign p → counts (design_of p) ≤ 372

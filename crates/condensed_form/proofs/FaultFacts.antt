@@ -1,6 +1,5 @@
 -- The first quantity that is too wide.
-use Rattle.std.proofs.Common.{◌≡◌, ◌↔◌, Result, Ok, Err, ℕ, ◌^◌, ◌<◌, ◌≤◌, pos, Option, Some, None, is_some, true, false, arith, ap, to_z, refl}
-use Rattle.std.specs.Option.{SomeIff}
+use Rattle.std.proofs.Common.{◌≡◌, ◌↔◌, Result, Ok, Err, ℕ, ◌^◌, ◌<◌, ◌≤◌, pos, false, arith, ap, to_z, refl}
 use Rattle.std.specs.Int.{w128}
 use Rattle.std.proofs.lemmas.Int.{ints}
 use Rattle.qp_model.specs.declared.quantity.Quantity.{Quantity}
@@ -78,13 +77,3 @@ cast n size e h = rw e (omega (arith, ints))
 pub entry_sizes : (d : Design) (cost limit : ℕ) → (hessian_size d ≤ 2 ^ 126) × (cost ≡ hessian_size d) → (rows_size d ≤ 2 ^ 126) × (limit ≡ rows_size d) →
     AreEntrySizes d (to_z w128 cost) (to_z w128 limit)
 entry_sizes d cost limit h k = record { cost_is = cast cost _ h.1 h.0; cost_room = h.0; limit_is = cast limit _ k.1 k.0; limit_room = k.0 }
-
--- a test that was passed
-pub some_holds : (o : Option ℕ) (P : Type 0) (n : ℕ) → SomeIff o P n → is_some o ≡ true → P
-some_holds (Some x) P n h e = h.0
-some_holds None P n h e = cc
-
--- and one that was not
-pub none_fails : (o : Option ℕ) (P : Type 0) (n : ℕ) → SomeIff o P n → is_some o ≡ false → P → ⊥
-none_fails (Some x) P n h e p = cc
-none_fails None P n h e p = h p

@@ -3,8 +3,6 @@
 -- ---- sums that fit, and lists that grow
 pub mod Rooms
 pub mod Pushes
-pub mod PowerFacts
-pub mod SumFacts
 -- ---- states and rows of a run
 pub mod StateFacts
 pub mod StageFacts

@@ -1,12 +1,8 @@
 -- What the counted cost rows have of a plan's entries and of states, and the condensed cost as sums over them.
-use Rattle.std.specs.Prelude.{ℕ, ◌*◌, ◌%◌, ◌^◌, ◌≤◌, ℤ, pos, ◌*ℤ◌, List, nat_eq, if◌then◌else◌}
+use Rattle.std.specs.Prelude.{ℕ, ◌*◌, ◌%◌, ◌^◌, ℤ, pos, ◌*ℤ◌, nat_eq, if◌then◌else◌}
 use Rattle.integer_algebra.specs.Sums.{dot, none, square}
-use Rattle.qp_model.specs.declared.design_parts.DesignParts.{DesignParts}
-use Rattle.qp_model.specs.problem.Design.{Design, entries}
-use Rattle.qp_model.specs.problem.Parts.{design_of, IsDesign}
-use Rattle.qp_model.specs.problem.Runs.{unit, cost_run, counted, counts, Holds}
-use Rattle.qp_model.specs.form.Quantities.{cost_entry_size}
-use Rattle.condensed_form.specs.Lists.{HoldsRows}
+use Rattle.qp_model.specs.problem.Design.{Design}
+use Rattle.qp_model.specs.problem.Runs.{unit, cost_run, counted, counts}
 
 -- of entry j of the plan
 abbrev pub plan_cost : Design → ℕ → ℕ → ℤ
@@ -29,10 +25,3 @@ weighed d j f = pos 2 *ℤ dot (counts d) (plan_cost d j) (λ c. weight_of d c *
 -- what the inputs' own costs add to the hessian
 abbrev pub own_cost : Design → ℕ → ℕ → ℤ
 own_cost d i j = if nat_eq i j then pos 2 *ℤ (d.input_weight (i % d.inputs) *ℤ square (pos (d.row_denominator * d.plant_denominator ^ d.stages))) else pos 0
-
--- the weights, and what the rows have of each entry of the plan, as lists
-pub record AreCounted (p : DesignParts) (ws : List ℤ) (rs : List (List ℤ)) : Type 0 where
-  pub design : IsDesign p
-  pub weights : Holds ws (counts (design_of p)) (weight_of (design_of p))
-  pub plan : HoldsRows rs (entries (design_of p)) (counts (design_of p)) (plan_cost (design_of p))
-  pub fits : cost_entry_size (design_of p) ≤ 2 ^ 126

@@ -5,11 +5,11 @@ use Rattle.qp_model.specs.problem.Design.{Design}
 use Rattle.qp_model.specs.problem.Policy.{Plans}
 use Rattle.qp_model.specs.declared.bounds.Margin.{Margin}
 use Rattle.qp_model.specs.declared.quantity.Quantity.{Quantity}
-use Rattle.qp_model.specs.declared.quantity.Quantity.TheVariants.{Prediction, CornerSlack, CornerCost, Multiplier, Hessian, Rows, Curvature as curvature_named, Error, Descent, Width, Turn, Excess, Stay}
-use Rattle.exact_margin.specs.Corners.{HasCornerRoom, IsFirstShort, IsFirstWideCorner}
-use Rattle.exact_margin.specs.Refusing.{of_margin}
-use Rattle.exact_margin.specs.declared.fault.MarginFault.{MarginFault}
-use Rattle.exact_margin.specs.declared.fault.MarginFault.TheVariants.{Memory as margin_memory, TooWide as margin_wide, NoMargin as margin_none}
+use Rattle.qp_model.specs.declared.quantity.Quantity.TheVariants.{Prediction, CornerSlack, CornerCost, Multiplier, Hessian, Rows, Curvature as curvature_named, Error, Descent, Width, Turn, Excess, Stay, Settle}
+use Rattle.corner_margin.specs.Corners.{HasCornerRoom, IsFirstShort, IsFirstWideCorner}
+use Rattle.corner_margin.specs.Refusing.{of_margin}
+use Rattle.corner_margin.specs.declared.fault.MarginFault.{MarginFault}
+use Rattle.corner_margin.specs.declared.fault.MarginFault.TheVariants.{Memory as margin_memory, TooWide as margin_wide, NoMargin as margin_none}
 use Rattle.hessian_check.specs.Steps.{HasNoStep}
 use Rattle.design_engine.specs.Tests.{IsRefusedFor, PassesForm, IsFormWide, HasFormCause, IsAimWide}
 use Rattle.design_engine.specs.declared.aimed.Aim.{Aim}
@@ -19,7 +19,7 @@ use Rattle.qp_model.specs.declared.refusal.Refusal.TheVariants.{Memory, NoMargin
 -- ---- one quantity after the other
 module _ (W P : Quantity → Type 0) (prediction : W Prediction → P Prediction) (slack : W CornerSlack → P CornerSlack) (cost : W CornerCost → P CornerCost) (multiplier : W Multiplier → P Multiplier) (hessian : W Hessian → P Hessian)
     (rows : W Rows → P Rows) (curvature : W curvature_named → P curvature_named) (error : W Error → P Error) (descent : W Descent → P Descent)
-    (width : W Width → P Width) (turn : W Turn → P Turn) (excess : W Excess → P Excess) (stay : W Stay → P Stay) where
+    (width : W Width → P Width) (turn : W Turn → P Turn) (excess : W Excess → P Excess) (stay : W Stay → P Stay) (settle : W Settle → P Settle) where
   each_quantity : (quantity : Quantity) → W quantity → P quantity
   each_quantity Prediction h = prediction h
   each_quantity CornerSlack h = slack h
@@ -34,6 +34,7 @@ module _ (W P : Quantity → Type 0) (prediction : W Prediction → P Prediction
   each_quantity Turn h = turn h
   each_quantity Excess h = excess h
   each_quantity Stay h = stay h
+  each_quantity Settle h = settle h
 
 -- ---- a quantity of the corners, of the form, and of an aim
 module _ (d : Design) (P : Quantity → Type 0) where
@@ -41,17 +42,17 @@ module _ (d : Design) (P : Quantity → Type 0) where
       (IsFirstWideCorner d plans CornerCost → P CornerCost) → (quantity : Quantity) → IsFirstWideCorner d plans quantity → P quantity
   wide_corner plans prediction slack cost =
       each_quantity (IsFirstWideCorner d plans) P prediction slack cost
-      (λ h. absurd h) (λ h. absurd h) (λ h. absurd h) (λ h. absurd h) (λ h. absurd h) (λ h. absurd h) (λ h. absurd h) (λ h. absurd h) (λ h. absurd h) (λ h. absurd h)
+      (λ h. absurd h) (λ h. absurd h) (λ h. absurd h) (λ h. absurd h) (λ h. absurd h) (λ h. absurd h) (λ h. absurd h) (λ h. absurd h) (λ h. absurd h) (λ h. absurd h) (λ h. absurd h)
 
   pub wide_form : (IsFormWide d Prediction → P Prediction) → (IsFormWide d Hessian → P Hessian) → (IsFormWide d Rows → P Rows) →
       (IsFormWide d curvature_named → P curvature_named) → (quantity : Quantity) → IsFormWide d quantity → P quantity
   wide_form prediction hessian rows curvature =
-      each_quantity (IsFormWide d) P prediction (λ h. absurd h) (λ h. absurd h) (λ h. absurd h) hessian rows curvature (λ h. absurd h) (λ h. absurd h) (λ h. absurd h) (λ h. absurd h) (λ h. absurd h) (λ h. absurd h)
+      each_quantity (IsFormWide d) P prediction (λ h. absurd h) (λ h. absurd h) (λ h. absurd h) hessian rows curvature (λ h. absurd h) (λ h. absurd h) (λ h. absurd h) (λ h. absurd h) (λ h. absurd h) (λ h. absurd h) (λ h. absurd h)
 
   pub wide_aim : (a : Aim) (s : ℕ) → (IsAimWide d a s Error → P Error) → (IsAimWide d a s Descent → P Descent) → (IsAimWide d a s Width → P Width) →
       (quantity : Quantity) → IsAimWide d a s quantity → P quantity
   wide_aim a s error descent width =
-      each_quantity (IsAimWide d a s) P (λ h. absurd h) (λ h. absurd h) (λ h. absurd h) (λ h. absurd h) (λ h. absurd h) (λ h. absurd h) (λ h. absurd h) error descent width (λ h. absurd h) (λ h. absurd h) (λ h. absurd h)
+      each_quantity (IsAimWide d a s) P (λ h. absurd h) (λ h. absurd h) (λ h. absurd h) (λ h. absurd h) (λ h. absurd h) (λ h. absurd h) (λ h. absurd h) error descent width (λ h. absurd h) (λ h. absurd h) (λ h. absurd h) (λ h. absurd h)
 
 -- ---- a refusal by the corners, and by the form
 module _ (d : Design) (Cause : Refusal → Type 0) where

@@ -7,7 +7,7 @@ use Rattle.qp_model.specs.bounds.Choices.{multiplier_size_of}
 use Rattle.qp_model.specs.declared.design_parts.DesignParts.{DesignParts}
 use Rattle.qp_model.specs.declared.bounds.Margin.{Margin}
 use Rattle.qp_model.specs.declared.quantity.Quantity.{Quantity}
-use Rattle.qp_model.specs.declared.quantity.Quantity.TheVariants.{Prediction, CornerSlack, CornerCost, Multiplier, Hessian, Rows, Curvature as curvature_named, Error, Descent, Width, Turn, Excess, Stay}
+use Rattle.qp_model.specs.declared.quantity.Quantity.TheVariants.{Prediction, CornerSlack, CornerCost, Multiplier, Hessian, Rows, Curvature as curvature_named, Error, Descent, Width, Turn, Excess, Stay, Settle}
 use Rattle.design_engine.specs.Targets.{Targets}
 use Rattle.design_engine.specs.Aims.{aim_of}
 use Rattle.design_engine.specs.Refusals.{PassesMargin, PassesExponent, PassesAll, HasCause, IsTooWide, HasWideForm, HasWideAim, HasMissedAim}
@@ -61,6 +61,7 @@ module _ (d : Design) (t : Targets) (plans : Plans) where
   wide_told Turn h = absurd h
   wide_told Excess h = absurd h
   wide_told Stay h = absurd h
+  wide_told Settle h = absurd h
 
   told : (e : Refusal) → HasCause d t plans e → Whole d t plans e
   told Memory h = absurd h

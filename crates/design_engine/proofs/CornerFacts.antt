@@ -11,9 +11,9 @@ use Rattle.qp_model.specs.problem.Policy.{Plans}
 use Rattle.qp_model.specs.form.Quantities.{prediction_size}
 use Rattle.qp_model.specs.bounds.CornerSizes.{corner_slack_size, corner_cost_size}
 use Rattle.qp_model.specs.bounds.CornerClass.{has_fine_corners, IsMarginIn}
-use Rattle.exact_margin.specs.Corners.{HasCornerRoomIn, IsFirstWideCornerIn, IsFirstShortIn}
-use Rattle.exact_margin.specs.declared.fault.MarginFault.{MarginFault}
-use Rattle.exact_margin.specs.declared.fault.MarginFault.TheVariants.{TooWide, NoMargin}
+use Rattle.corner_margin.specs.Corners.{HasCornerRoomIn, IsFirstWideCornerIn, IsFirstShortIn}
+use Rattle.corner_margin.specs.declared.fault.MarginFault.{MarginFault}
+use Rattle.corner_margin.specs.declared.fault.MarginFault.TheVariants.{TooWide, NoMargin}
 
 -- ---- plain numbers
 first_above : (t a b c : ℕ) → t < a → nat_lt t (max a (max b c)) ≡ true

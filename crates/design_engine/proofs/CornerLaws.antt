@@ -5,7 +5,7 @@ use Rattle.qp_model.specs.problem.Sound.{IsSound}
 use Rattle.qp_model.specs.problem.Policy.{Plans, IsPolicyFor}
 use Rattle.qp_model.specs.bounds.Margin.{BoundsCorners}
 use Rattle.qp_model.specs.bounds.CornerClass.{has_fine_corners, shown_in, ShownLaw}
-use Rattle.fine_margin.proofs.CornerLaws.{fine_corners_law}
+use Rattle.corner_margin.proofs.CornerLaws.{fine_corners_law}
 
 of_class : (fine : Bool) (d : Design) (rho : ℕ) (p : Plans) → IsSound d rho → IsPolicyFor d p → BoundsCorners d p (shown_in fine d p)
 of_class true d rho p h k = fine_corners_law d rho p h k

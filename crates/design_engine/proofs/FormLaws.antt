@@ -7,7 +7,7 @@ use Rattle.qp_model.specs.form.FineSizes.{is_fine}
 use Rattle.qp_model.specs.form.Class.{form_in, hessian_in, FormLaw}
 use Rattle.qp_model.proofs.FormLaws.{exact_form_law}
 use Rattle.qp_model.proofs.SoundLaws.{sound}
-use Rattle.fine_condense.proofs.Laws.{fine_form_law}
+use Rattle.scaled_condense.proofs.Laws.{fine_form_law}
 
 of_class : (fine : Bool) (p : DesignParts) → IsDesign p → hessian_in fine (design_of p) ≤ 2 ^ 126 → IsFormFor (design_of p) (form_in fine (design_of p))
 of_class true p h k = fine_form_law (design_of p) (sound p h) k

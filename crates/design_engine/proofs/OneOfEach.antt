@@ -12,9 +12,9 @@ use Rattle.qp_model.specs.bounds.CornerClass.{has_fine_corners, shown, IsMargin}
 use Rattle.qp_model.specs.bounds.Errors.{ErrorSums, epsilon}
 use Rattle.qp_model.specs.declared.design_parts.DesignParts.{DesignParts}
 use Rattle.qp_model.specs.declared.bounds.Margin.{Margin}
-use Rattle.exact_margin.specs.Corners.{IsFirstShort}
-use Rattle.exact_margin.specs.Simulation.{HasScales}
-use Rattle.exact_margin.proofs.MarginFacts.{scales}
+use Rattle.corner_margin.specs.Corners.{IsFirstShort}
+use Rattle.corner_margin.specs.Simulation.{HasScales}
+use Rattle.corner_margin.proofs.MarginFacts.{scales}
 use Rattle.qp_model.specs.bounds.Least.{IsLeast}
 use Rattle.hessian_check.specs.Curvature.{IsFirst, IsChosen, IsDominantAt, HasPassingRootBelow}
 use Rattle.hessian_check.specs.Steps.{IsExponentOf, HasNoStep}

@@ -13,11 +13,11 @@ use Rattle.qp_model.specs.bounds.Errors as errors
 use Rattle.qp_model.specs.bounds.Errors.{error_size, error_sums_of, epsilon}
 use Rattle.qp_model.specs.declared.bounds.Margin.{Margin}
 use Rattle.qp_model.specs.declared.quantity.Quantity.{Quantity}
-use Rattle.qp_model.specs.declared.quantity.Quantity.TheVariants.{Prediction, CornerSlack, CornerCost, Multiplier, Hessian, Rows, Curvature as curvature_named, Error, Descent, Width, Turn, Excess, Stay}
-use Rattle.exact_margin.specs.Corners as corners
-use Rattle.exact_margin.specs.Corners.{HasCornerRoom, IsFirstShort}
-use Rattle.exact_margin.specs.declared.fault.MarginFault.{MarginFault}
-use Rattle.exact_margin.specs.declared.fault.MarginFault.TheVariants.{TooWide as margin_wide, NoMargin as margin_none}
+use Rattle.qp_model.specs.declared.quantity.Quantity.TheVariants.{Prediction, CornerSlack, CornerCost, Multiplier, Hessian, Rows, Curvature as curvature_named, Error, Descent, Width, Turn, Excess, Stay, Settle}
+use Rattle.corner_margin.specs.Corners as corners
+use Rattle.corner_margin.specs.Corners.{HasCornerRoom, IsFirstShort}
+use Rattle.corner_margin.specs.declared.fault.MarginFault.{MarginFault}
+use Rattle.corner_margin.specs.declared.fault.MarginFault.TheVariants.{TooWide as margin_wide, NoMargin as margin_none}
 use Rattle.condensed_form.specs.Fault as condensing
 use Rattle.condensed_form.specs.declared.condensed.Condensed.{Condensed}
 use Rattle.qp_model.specs.declared.size_fault.SizeFault.{SizeFault}
@@ -35,7 +35,7 @@ use Rattle.design_engine.specs.Aims.{steps_of, aim_of}
 use Rattle.design_engine.specs.Tests.{IsRefusedFor, PassesForm, IsFormWide, HasFormCause, PassesBits, HasAimCause}
 use Rattle.controller_maker.specs.Widest.{width_size}
 use Rattle.controller_maker.specs.Fault.{IsWidthFault}
-use Rattle.exact_margin.specs.Refusing.{of_margin}
+use Rattle.corner_margin.specs.Refusing.{of_margin}
 use Rattle.qp_model.specs.refusal.Refusing.{of_size}
 use Rattle.hessian_check.specs.Refusing.{of_curvature}
 use Rattle.qp_model.specs.refusal.Refusing.{of_size}
@@ -87,6 +87,7 @@ module _ (d : Design) where
   form_wide Turn k = absurd k
   form_wide Excess k = absurd k
   form_wide Stay k = absurd k
+  form_wide Settle k = absurd k
 
   pub condense_refused : (r : Result Condensed SizeFault) (fault : SizeFault) → r ≡ Err fault →
       ((quantity : Quantity) → r ≡ Err (condense_wide quantity) → condensing.IsFirstWideForm d quantity) →

@@ -13,8 +13,8 @@ use Rattle.qp_model.specs.bounds.Errors.{error_size, error_sums_of}
 use Rattle.qp_model.specs.declared.design_parts.DesignParts.{DesignParts}
 use Rattle.qp_model.specs.declared.bounds.Margin.{Margin}
 use Rattle.qp_model.specs.declared.quantity.Quantity.{Quantity}
-use Rattle.qp_model.specs.declared.quantity.Quantity.TheVariants.{Prediction, CornerSlack, CornerCost, Multiplier, Hessian, Rows, Curvature as curvature_named, Error, Descent, Width, Turn, Excess, Stay}
-use Rattle.exact_margin.specs.Corners.{HasCornerRoom, IsFirstShort, IsFirstWideCorner}
+use Rattle.qp_model.specs.declared.quantity.Quantity.TheVariants.{Prediction, CornerSlack, CornerCost, Multiplier, Hessian, Rows, Curvature as curvature_named, Error, Descent, Width, Turn, Excess, Stay, Settle}
+use Rattle.corner_margin.specs.Corners.{HasCornerRoom, IsFirstShort, IsFirstWideCorner}
 use Rattle.hessian_check.specs.Steps.{IsExponentOf, HasNoStep}
 use Rattle.step_error.proofs.SumFacts.{floor_range}
 use Rattle.design_engine.specs.Aims.{steps_of, AreBitsOf}
@@ -58,6 +58,7 @@ module _ (d : Design) (a : Aim) where
   aim_wide s Turn h = absurd h
   aim_wide s Excess h = absurd h
   aim_wide s Stay h = absurd h
+  aim_wide s Settle h = absurd h
 
   pub aim_told : (s : ℕ) (e : Refusal) → HasAimCause d a s e → OfAim s e
   aim_told s Memory h = absurd h
@@ -114,6 +115,7 @@ module _ (d : Design) (after : ℕ → Refusal → Type 0) where
   form_wide Turn h = absurd h
   form_wide Excess h = absurd h
   form_wide Stay h = absurd h
+  form_wide Settle h = absurd h
 
   -- a cause in the form, and one after it
   pub form_told : (e : Refusal) → HasFormCause d e → OfForm e
@@ -173,6 +175,7 @@ module _ (d : Design) (plans : Plans) (after : Margin → Refusal → Type 0) wh
   corner_told Turn h = absurd h
   corner_told Excess h = absurd h
   corner_told Stay h = absurd h
+  corner_told Settle h = absurd h
 
   pub corner_passed : (e : Refusal) (m : Margin) → HasCornerRoom d plans → IsMargin d plans m → pos 1 ≤ℤ m.units → after m e → OfCorners e
   corner_passed e m room margin slack a = roomy e room (inr (m, (margin, slack), a))

@@ -7,8 +7,8 @@ use Rattle.qp_model.specs.bounds.CornerClass.{IsMargin}
 use Rattle.qp_model.specs.bounds.Choices.{multiplier_size_of}
 use Rattle.qp_model.specs.declared.bounds.Margin.{Margin}
 use Rattle.qp_model.specs.declared.quantity.Quantity.{Quantity}
-use Rattle.qp_model.specs.declared.quantity.Quantity.TheVariants.{Prediction, CornerSlack, CornerCost, Multiplier, Hessian, Rows, Curvature as curvature_named, Error, Descent, Width, Turn, Excess, Stay}
-use Rattle.exact_margin.specs.Corners.{HasCornerRoom, IsFirstWideCorner, IsFirstShort}
+use Rattle.qp_model.specs.declared.quantity.Quantity.TheVariants.{Prediction, CornerSlack, CornerCost, Multiplier, Hessian, Rows, Curvature as curvature_named, Error, Descent, Width, Turn, Excess, Stay, Settle}
+use Rattle.corner_margin.specs.Corners.{HasCornerRoom, IsFirstWideCorner, IsFirstShort}
 use Rattle.hessian_check.specs.Steps.{IsExponentOf, HasNoStep}
 use Rattle.design_engine.specs.Targets.{Targets}
 use Rattle.design_engine.specs.Aims.{aim_of}
@@ -66,6 +66,7 @@ IsTooWide d t plans Width = HasWideAim d t plans Width
 IsTooWide d t plans Turn = ⊥
 IsTooWide d t plans Excess = ⊥
 IsTooWide d t plans Stay = ⊥
+IsTooWide d t plans Settle = ⊥
 
 -- the steps and the bits miss what the targets leave
 abbrev pub HasMissedAim : Design → Targets → Plans → Refusal → Type 0

@@ -8,9 +8,8 @@ ghost use Rattle.condensed_form.specs.Form.{IsFormIn, IsFormOf};
 ghost use Rattle.condensed_form.specs.Fault.{IsFirstWideForm};
 
 use condensed_form::{Condensed, is_curvature_limited};
-use exact_condense::condense_exact;
-use fine_condense::condense_fine;
 use qp_model::{Design, SizeFault};
+use scaled_condense::{condense_exact, condense_fine};
 use std::alloc::{AllocError, Global};
 
 /// Where the quantity `hessian` of a design is within its limit, a controller may be made of the form that the design's class calls for.

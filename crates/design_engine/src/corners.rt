@@ -5,10 +5,9 @@ ghost use Rattle.qp_model.specs.declared.quantity.Quantity.{Quantity};
 ghost use Rattle.qp_model.specs.bounds.CornerClass.{IsMargin, ShownLaw};
 ghost use Rattle.qp_model.specs.problem.Parts.{design_of};
 ghost use Rattle.qp_model.specs.problem.Policy.{plans_of, IsPolicyFor};
-ghost use Rattle.exact_margin.specs.Corners.{HasCornerRoom, IsFirstWideCorner, IsFirstShort};
+ghost use Rattle.corner_margin.specs.Corners.{HasCornerRoom, IsFirstWideCorner, IsFirstShort};
 
-use exact_margin::{MarginFault, margins_exact};
-use fine_margin::margins_fine;
+use corner_margin::{MarginFault, margins_in};
 use qp_model::{Design, Margin, Policy};
 use std::alloc::Global;
 
@@ -38,8 +37,8 @@ pub fn margins(alloc: Global, design: &Design, policy: &Policy) -> Result<Margin
     ensures no_give_up { (corner row : ℕ) (slack : Frac) →
         IsFirstShort (design_of design.now) (plans_of policy.now) corner row slack → IsErr result }
 {
-    match margins_exact(alloc, design, policy) {
-        Err(MarginFault::TooWide { .. }) => margins_fine(alloc, design, policy),
+    match margins_in(alloc, design, policy, false) {
+        Err(MarginFault::TooWide { .. }) => margins_in(alloc, design, policy, true),
         Ok(margin) => Ok(margin),
         Err(MarginFault::NoMargin { corner, row, slack }) => {
             Err(MarginFault::NoMargin { corner, row, slack })

@@ -2,3 +2,4 @@ pub mod Values
 pub mod Laws
 pub mod Rows
 pub mod Wide
+pub mod Products

@@ -13,7 +13,7 @@ mod types;
 mod wide;
 
 pub use combination::combine;
-pub use matrix::gram;
+pub use matrix::{gram, gram_over};
 pub use room::magnitude;
 pub use single::{add, contains, divided, enclose, mul};
 pub use types::{Enc, EncMat};

@@ -6,7 +6,7 @@ use Rattle.qp_model.specs.problem.Policy.{Plans, IsPolicyFor}
 use Rattle.qp_model.specs.declared.design_parts.DesignParts.{DesignParts}
 use Rattle.qp_model.specs.declared.bounds.Margin.{Margin}
 use Rattle.qp_model.specs.declared.quantity.Quantity.{Quantity}
-use Rattle.qp_model.specs.declared.quantity.Quantity.TheVariants.{Prediction, CornerSlack, CornerCost, Multiplier, Hessian, Rows, Curvature as curvature_named, Error, Descent, Width, Turn, Excess, Stay}
+use Rattle.qp_model.specs.declared.quantity.Quantity.TheVariants.{Prediction, CornerSlack, CornerCost, Multiplier, Hessian, Rows, Curvature as curvature_named, Error, Descent, Width, Turn, Excess, Stay, Settle}
 use Rattle.design_engine.specs.Targets.{Targets}
 use Rattle.design_engine.specs.Refusals.{PassesMargin}
 use Rattle.qp_model.specs.declared.refusal.Refusal.{Refusal}
@@ -62,6 +62,7 @@ module _ (d : Design) (t : Targets) (plans references : Plans) where
   wide_told Turn h = absurd h
   wide_told Excess h = from_scaling _ h.0 h.1 h.2 (inl (refl, h.3))
   wide_told Stay h = absurd h
+  wide_told Settle h = absurd h
 
   told : (e : Refusal) → HasLeanCause d t plans references e → Whole e
   told Memory h = absurd h

@@ -11,10 +11,10 @@ use Rattle.qp_model.specs.declared.design_parts.DesignParts.{DesignParts}
 use Rattle.qp_model.specs.declared.bounds.Margin.{Margin}
 use Rattle.qp_model.specs.declared.quantity.Quantity.{Quantity}
 use Rattle.qp_model.specs.declared.quantity.Quantity.TheVariants.{Excess}
-use Rattle.exact_margin.specs.Corners as corners
-use Rattle.exact_margin.specs.Corners.{HasCornerRoom, IsFirstShort}
-use Rattle.exact_margin.specs.declared.fault.MarginFault.{MarginFault}
-use Rattle.exact_margin.specs.declared.fault.MarginFault.TheVariants.{TooWide as margin_wide, NoMargin as margin_none}
+use Rattle.corner_margin.specs.Corners as corners
+use Rattle.corner_margin.specs.Corners.{HasCornerRoom, IsFirstShort}
+use Rattle.corner_margin.specs.declared.fault.MarginFault.{MarginFault}
+use Rattle.corner_margin.specs.declared.fault.MarginFault.TheVariants.{TooWide as margin_wide, NoMargin as margin_none}
 use Rattle.plan_excess.specs.Fault.{IsExcessFault}
 use Rattle.qp_model.specs.refusal.Refusing.{of_size}
 use Rattle.qp_model.specs.declared.size_fault.SizeFault.{SizeFault}
@@ -23,7 +23,7 @@ use Rattle.design_engine.specs.Targets.{Targets, floor_target}
 use Rattle.design_engine.specs.Tests.{IsWide, IsRefusedFor, HasFormCause, HasAimCause}
 use Rattle.design_engine.specs.Refusals.{PassesMargin}
 use Rattle.design_engine.proofs.CauseCases.{wide_corner, wide_form, wide_aim, margin_cases, form_cases}
-use Rattle.exact_margin.specs.Refusing.{of_margin}
+use Rattle.corner_margin.specs.Refusing.{of_margin}
 use Rattle.qp_model.specs.declared.refusal.Refusal.{Refusal}
 use Rattle.qp_model.specs.declared.refusal.Refusal.TheVariants.{Memory, NoMargin, Curvature, TooManySteps, TooFine, TooWide}
 use Rattle.lean_engine.specs.Refusals.{policy_excess_size, aim_at, PassesScaling, PassesBound, PassesLean, HasLeanCause, IsRefusedLean, IsTooWideLean}

@@ -8,8 +8,8 @@ use Rattle.qp_model.specs.bounds.Choices.{lean_multiplier_size}
 use Rattle.qp_model.specs.bounds.Excess.{excess_of, excess_size}
 use Rattle.qp_model.specs.declared.bounds.Margin.{Margin}
 use Rattle.qp_model.specs.declared.quantity.Quantity.{Quantity}
-use Rattle.qp_model.specs.declared.quantity.Quantity.TheVariants.{Prediction, CornerSlack, CornerCost, Multiplier, Hessian, Rows, Curvature as curvature_named, Error, Descent, Width, Turn, Excess, Stay}
-use Rattle.exact_margin.specs.Corners.{HasCornerRoom, IsFirstWideCorner, IsFirstShort}
+use Rattle.qp_model.specs.declared.quantity.Quantity.TheVariants.{Prediction, CornerSlack, CornerCost, Multiplier, Hessian, Rows, Curvature as curvature_named, Error, Descent, Width, Turn, Excess, Stay, Settle}
+use Rattle.corner_margin.specs.Corners.{HasCornerRoom, IsFirstWideCorner, IsFirstShort}
 use Rattle.hessian_check.specs.Steps.{IsExponentOf, HasNoStep}
 use Rattle.design_engine.specs.Targets.{Targets, floor_target}
 use Rattle.design_engine.specs.Tests.{IsWide, PassesForm, IsFormWide, PassesAim, IsAimWide, HasAimCause}
@@ -78,6 +78,7 @@ IsTooWideLean d t plans references Descent = HasWideLeanAim d t plans references
 IsTooWideLean d t plans references Width = HasWideLeanAim d t plans references Width
 IsTooWideLean d t plans references Turn = ⊥
 IsTooWideLean d t plans references Stay = ⊥
+IsTooWideLean d t plans references Settle = ⊥
 
 -- the steps and the bits miss what the targets leave
 abbrev pub HasMissedLeanAim : Design → Targets → (plans references : Plans) → Refusal → Type 0

@@ -13,7 +13,7 @@ use Rattle.condensed_form.specs.declared.condensed.Condensed.{Condensed}
 use Rattle.condensed_form.specs.Form.{held, IsFormOf}
 use Rattle.enclosure.specs.declared.types.Enc.{Enc}
 use Rattle.enclosure.specs.Values.{pair}
-use Rattle.fine_run.specs.Lists.{HoldsEnclosures}
+use Rattle.scaled_run.specs.Lists.{HoldsEnclosures}
 use Rattle.plan_excess.specs.declared.rows.Row.{Row}
 use Rattle.qp_model.specs.declared.size_fault.SizeFault.{SizeFault}
 use Rattle.qp_model.specs.declared.size_fault.SizeFault.TheVariants.{TooWide}

@@ -13,7 +13,7 @@ use Rattle.enclosure.proofs.SumLaws.{radius_nonneg}
 use Rattle.qp_model.specs.problem.Design.{Design, entries}
 use Rattle.qp_model.specs.form.Form.{Form}
 use Rattle.qp_model.specs.bounds.Excess.{hessian_at, linear_at, constant_at, of_plan, of_state, gradient_enclosure, gradient_size, step_enclosure, slope_enclosure, sum_reach}
-use Rattle.fine_run.proofs.ListFacts.{combined_same, magnitude_same}
+use Rattle.scaled_run.proofs.ListFacts.{combined_same, magnitude_same}
 use Rattle.plan_excess.specs.declared.rows.Row.{Row}
 use Rattle.plan_excess.specs.Rows.{IsGradientRow, gradient_by, gradient_size_by}
 

@@ -12,7 +12,7 @@ use Rattle.qp_model.specs.form.Quantities.{input_floor}
 use Rattle.qp_model.specs.bounds.Excess.{brought, hessian_at, linear_at, constant_at, of_plan, of_state, gradient_enclosure, step_enclosure, slope_enclosure, rise, steepness}
 use Rattle.qp_model.specs.bounds.Excess.{pull, excess_at, at_least_none, excess_of, reach, sum_reach, product_reach, number_size, gradient_size, slope_size, excess_size_at, excess_size}
 use Rattle.qp_model.proofs.SizeFacts.{greatest_same}
-use Rattle.fine_run.proofs.ListFacts.{combined_same, magnitude_same}
+use Rattle.scaled_run.proofs.ListFacts.{combined_same, magnitude_same}
 
 module _ (d : Design) (h k : Form) (same : HaveSameNumbers h k) (long : k.entries ≡ entries d) (wide : k.states ≡ d.states) where
   entry : (j : ℕ) → j < entries d → j < k.entries

@@ -8,7 +8,7 @@ use Rattle.qp_model.specs.problem.Design.{Design, entries}
 use Rattle.qp_model.specs.form.Form.{Form}
 use Rattle.qp_model.specs.form.Quantities.{greatest}
 use Rattle.qp_model.specs.bounds.Excess.{brought, hessian_at, linear_at, constant_at, reach, number_size, sum_reach}
-use Rattle.fine_run.specs.Lists.{HoldsEnclosures}
+use Rattle.scaled_run.specs.Lists.{HoldsEnclosures}
 use Rattle.plan_excess.specs.declared.rows.Row.{Row}
 
 -- row j of a matrix within that of the radii, both over the scale, and what its numbers reach

@@ -6,7 +6,7 @@ ghost use Rattle.qp_model.specs.problem.Policy.{plans_of, IsPolicyFor};
 ghost use Rattle.qp_model.specs.problem.Runs.{Holds};
 ghost use Rattle.plan_excess.specs.Slopes.{IsCornerOf};
 
-use exact_margin::coordinate;
+use corner_margin::coordinate;
 use frac_scaled::scaled;
 use qp_model::{DesignParts, Policy};
 use std::alloc::{AllocError, Global};

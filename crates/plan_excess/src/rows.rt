@@ -10,7 +10,7 @@ ghost use Rattle.qp_model.specs.declared.design_parts.DesignParts.{DesignParts};
 ghost use Rattle.qp_model.specs.form.Quantities.{greatest};
 ghost use Rattle.qp_model.specs.bounds.Excess.{brought, reach, number_size};
 ghost use Rattle.condensed_form.specs.Form.{held, IsFormOf};
-ghost use Rattle.fine_run.specs.Lists.{HoldsEnclosures};
+ghost use Rattle.scaled_run.specs.Lists.{HoldsEnclosures};
 ghost use Rattle.plan_excess.specs.Fault.{IsExcessFault};
 ghost use Rattle.plan_excess.specs.Rows.{line_at, line_size, IsGradientRow, AreGradientRows, AreRowsNear};
 ghost use Rattle.qp_model.specs.declared.size_fault.SizeFault.TheVariants.{TooWide as excess_wide};

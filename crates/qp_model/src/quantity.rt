@@ -16,6 +16,7 @@ pub enum Quantity {
     Turn,
     Excess,
     Stay,
+    Settle,
 }
 
 /// A quantity that passes `2^126`.

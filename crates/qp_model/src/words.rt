@@ -27,6 +27,7 @@ fn quantity_name(quantity: &Quantity) -> &'static str
         Quantity::Turn => "turn",
         Quantity::Excess => "excess",
         Quantity::Stay => "stay",
+        Quantity::Settle => "settle",
     }
 }
 

@@ -21,7 +21,7 @@ use Rattle.stay_check.proofs.FirstRowLaws.{form, next_state, first_bound}
 
 -- ---- over the box
 -- a number times one between two is at most one of the products with these
-product_le-max : (r x low high : ℤ) → low ≤ℤ x → x ≤ℤ high → (r *ℤ x) ≤ℤ int_max (r *ℤ low) (r *ℤ high)
+pub product_le-max : (r x low high : ℤ) → low ≤ℤ x → x ≤ℤ high → (r *ℤ x) ≤ℤ int_max (r *ℤ low) (r *ℤ high)
 product_le-max r x low high h k = by_lt_z r (pos 0)
     (λ l. le_trans_z (turned r x low (le_of_lt_z l) h) (max_left (r *ℤ low) (r *ℤ high)))
     (λ l. le_trans_z (mul-le-mul_left_z r l k) (max_right (r *ℤ low) (r *ℤ high)))

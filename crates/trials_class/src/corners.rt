@@ -3,7 +3,7 @@ ghost use Rattle.qp_model.specs.problem.Parts.{design_of};
 ghost use Rattle.qp_model.specs.problem.Policy.{plans_of, IsPolicyFor};
 
 use design_engine::margins;
-use exact_margin::MarginFault;
+use corner_margin::MarginFault;
 use frac_scaled::Frac;
 use policy_file::read_policy;
 use qp_model::{Design, Margin, Policy, Quantity};

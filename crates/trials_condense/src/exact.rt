@@ -1,9 +1,9 @@
 // Expected values are those of bench/condense/expected.py.
 use crate::refusal::wide;
 use condensed_form::Condensed;
-use exact_condense::condense_exact;
 use mat_int::Mat;
 use qp_model::{Design, Quantity};
+use scaled_condense::condense_exact;
 use std::alloc::Global;
 use std::test::Fail;
 use trials_worked_designs::{DESIGN, changed_design, design, has_rows};

@@ -1,8 +1,8 @@
 // Expected values are those of another program, in exact whole numbers.
 use crate::refusal::wide;
 use condensed_form::Condensed;
-use fine_condense::condense_fine;
 use qp_model::{Design, Quantity};
+use scaled_condense::condense_fine;
 use std::alloc::Global;
 use std::test::Fail;
 use trials_worked_designs::{changed_design, design, has_rows};

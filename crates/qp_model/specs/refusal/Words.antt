@@ -2,7 +2,7 @@
 use Rattle.std.specs.Prelude.{ℕ, List, [], ◌∷◌, codes}
 use Rattle.std.specs.Fmt.{decimal, signed_decimal}
 use Rattle.qp_model.specs.declared.quantity.Quantity.{Quantity}
-use Rattle.qp_model.specs.declared.quantity.Quantity.TheVariants.{Prediction, CornerSlack, CornerCost, Multiplier, Hessian, Rows, Curvature as CurvatureSize, Error, Descent, Width, Turn, Excess, Stay}
+use Rattle.qp_model.specs.declared.quantity.Quantity.TheVariants.{Prediction, CornerSlack, CornerCost, Multiplier, Hessian, Rows, Curvature as CurvatureSize, Error, Descent, Width, Turn, Excess, Stay, Settle}
 use Rattle.qp_model.specs.declared.refusal.Refusal.{Refusal}
 use Rattle.qp_model.specs.declared.refusal.Refusal.TheVariants.{Memory, NoMargin, Curvature, TooManySteps, TooFine, TooWide}
 
@@ -21,6 +21,7 @@ quantity_name Width = codes "width"
 quantity_name Turn = codes "turn"
 quantity_name Excess = codes "excess"
 quantity_name Stay = codes "stay"
+quantity_name Settle = codes "settle"
 
 -- the name of a refusal, and its numbers; a fraction is its numerator and then its denominator
 abbrev pub refusal_words : Refusal → List (List ℕ)

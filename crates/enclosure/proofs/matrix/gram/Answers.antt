@@ -1,39 +1,18 @@
-use Rattle.std.proofs.Common.{◌≡◌, ℕ, ◌+◌, ◌^◌, ◌<◌, ◌≤ℤ◌, pos, rules, arith, sym, subst, length, below_more}
+use Rattle.std.proofs.Common.{ℕ, ◌<◌, sym, subst, length}
+use Rattle.std.proofs.lemmas.Result.{IfOk-weaker}
 use Rattle.integer_algebra.specs.Sums.{at}
 use Rattle.frac_scaled.specs.Enclosures.{Enclosure}
-use Rattle.mat_int.specs.Enclosures.{enclosure_at, gram_magnitude}
+use Rattle.mat_int.specs.Enclosures.{enclosure_at}
 use Rattle.mat_int.proofs.EnclosureLaws.{gram_law}
 use Rattle.enclosure.specs.Laws.{EnclosesGram}
 use Rattle.enclosure.proofs.RoomLaws.{same_pair}
-use Rattle.enclosure.proofs.GramLaws.{are_none, are_all}
 use Rattle.enclosure.proofs.matrix.gram.Goals as goal
 
-pub loop-j-init : goal.loop-j-init
-loop-j-init c = record {
-  made = are_none _ _ _ _ (rw c.cols-cols.ensures at c.in_ok-made.ensures.mid) (rw c.cols-cols.ensures at c.in_ok-made.ensures.rad);
-  near = λ i j p q. absurd (omega arith);
-}
-
-pub loop-j-preserved : goal.loop-j-preserved
-loop-j-preserved c =
+pub returns-clause-encloses : goal.returns-clause-encloses
+returns-clause-encloses c =
     let weights = c.args.weights.now in
     let x = enclosure_at c.args.x.now.mid c.args.x.now.rad in
     let n = c.args.x.now.mid.cols in
-    let j = c.loop-j.j in
-    let near : (l : ℕ) → l < n → gram_magnitude (length weights) (at weights) x j l ≤ℤ pos (2 ^ 126) = search rules in
-    let all : (i : ℕ) → i < j + 1 → (l : ℕ) → l < n → gram_magnitude (length weights) (at weights) x i l ≤ℤ pos (2 ^ 126) =
-    below_more _ _ (λ i p l q. c.loop-j.invariant.near i l p q) near in
-    record { made = search rules; near = λ i l p q. all i p l q }
-
-pub returns-clause-value : goal.returns-clause-value
-returns-clause-value c =
-    let end : c.loop-j.j ≡ c.args.x.now.mid.cols = omega (arith, c.cols-cols.ensures, c.loop-j.auto.j-end, c.loop-j-test.false) in
-    are_all _ _ _ _ (rw end at c.loop-j.invariant.made)
-
-pub returns-clause-encloses : goal.returns-clause-encloses
-returns-clause-encloses c = λ j l p q.
-    let weights = c.args.weights.now in
-    let x = enclosure_at c.args.x.now.mid c.args.x.now.rad in
-    let made = returns-clause-value c in
-    subst (λ (e : Enclosure). EnclosesGram (length weights) (at weights) x j l e) (sym (same_pair (made.mids.entries j l p q) (made.rads.entries j l p q)))
-    (gram_law (length weights) (at weights) x j l)
+    IfOk-weaker c.gram_over.result _ (λ g. (j l : ℕ) → j < n → l < n → EnclosesGram (length weights) (at weights) x j l (enclosure_at g.mid g.rad j l))
+    (λ g made j l p q. subst (λ (e : Enclosure). EnclosesGram (length weights) (at weights) x j l e) (sym (same_pair (made.mids.entries j l p q) (made.rads.entries j l p q)))
+    (gram_law (length weights) (at weights) x j l)) c.gram_over.ensures.value

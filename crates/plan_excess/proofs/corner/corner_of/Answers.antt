@@ -5,8 +5,8 @@ use Rattle.std.proofs.lemmas.Int.{to_z-of_z}
 use Rattle.integer_algebra.specs.Sums.{at}
 use Rattle.qp_model.specs.problem.Parts.{design_of}
 use Rattle.qp_model.specs.problem.Policy.{plans_of}
-use Rattle.exact_margin.proofs.RoomFacts.{one_times, over_is}
-use Rattle.exact_margin.proofs.SlackFacts.{grid_fits}
+use Rattle.corner_margin.proofs.RoomFacts.{one_times, over_is}
+use Rattle.corner_margin.proofs.SlackFacts.{grid_fits}
 use Rattle.plan_excess.proofs.CornerFacts.{plan_made, plan_at, over_at}
 use Rattle.plan_excess.proofs.corner.corner_of.Goals as goal
 

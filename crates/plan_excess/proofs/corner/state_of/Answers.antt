@@ -4,7 +4,7 @@ use Rattle.std.proofs.lemmas.Int.{to_z-of_z}
 use Rattle.qp_model.specs.problem.Box.{corner}
 use Rattle.qp_model.specs.problem.Parts.{design_of}
 use Rattle.condensed_form.proofs.Pushes.{pushed}
-use Rattle.exact_margin.proofs.SlackFacts.{all_pushed}
+use Rattle.corner_margin.proofs.ListFacts.{all_pushed}
 use Rattle.plan_excess.proofs.corner.state_of.Goals as goal
 
 pub coordinate-requires-clause-state : goal.coordinate-requires-clause-state

@@ -4,9 +4,9 @@ use Rattle.std.proofs.lemmas.Int.{to_z-of_z}
 use Rattle.integer_algebra.specs.Sums.{at}
 use Rattle.qp_model.specs.bounds.Excess.{brought, reach}
 use Rattle.qp_model.specs.form.Quantities.{greatest}
-use Rattle.fine_run.specs.Lists.{HoldsEnclosures}
+use Rattle.scaled_run.specs.Lists.{HoldsEnclosures}
 use Rattle.condensed_form.proofs.Rooms.{read}
-use Rattle.fine_run.proofs.ListFacts.{one_pushed, all_held}
+use Rattle.scaled_run.proofs.ListFacts.{one_pushed, all_held}
 use Rattle.plan_excess.proofs.RoomFacts.{near_more, near_all, above_one}
 use Rattle.plan_excess.proofs.rows.numbers.Goals as goal
 

@@ -2,7 +2,7 @@ use Rattle.std.proofs.Common.{◌≤◌, ◌^◌, unsigned_abs}
 use Rattle.integer_algebra.specs.Sums.{at}
 use Rattle.qp_model.specs.form.Quantities.{greatest}
 use Rattle.qp_model.specs.bounds.Excess.{brought, reach}
-use Rattle.fine_run.specs.Lists.{HoldsEnclosures}
+use Rattle.scaled_run.specs.Lists.{HoldsEnclosures}
 use Rattle.plan_excess.proofs.rows.numbers.Given as goal
 
 abbrev pub invariant-loop-i : goal.invariant-loop-i

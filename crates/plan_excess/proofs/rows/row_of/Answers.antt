@@ -4,7 +4,7 @@ use Rattle.std.proofs.lemmas.Int.{to_z-of_z}
 use Rattle.integer_algebra.specs.Sums.{at}
 use Rattle.enclosure.specs.Values.{pair}
 use Rattle.qp_model.specs.bounds.Excess.{brought, reach}
-use Rattle.exact_margin.proofs.RoomFacts.{over_is}
+use Rattle.corner_margin.proofs.RoomFacts.{over_is}
 use Rattle.plan_excess.proofs.FormFacts.{plan_within, state_within, row_given, row_room, row_refused}
 use Rattle.plan_excess.proofs.RoomFacts.{fault_passed}
 use Rattle.plan_excess.proofs.rows.row_of.Goals as goal

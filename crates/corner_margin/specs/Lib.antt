@@ -1,0 +1,4 @@
+pub mod Corners
+pub mod Simulation
+pub mod Corner
+pub mod Refusing

@@ -1,9 +1,0 @@
-use Rattle.std.proofs.Common.{◌+◌, ◌*◌}
-use Rattle.qp_model.specs.problem.Parts.{design_of}
-use Rattle.qp_model.specs.problem.Runs.{counts}
-use Rattle.qp_model.specs.form.FineForm.{fine_costs}
-use Rattle.fine_condense.specs.Lists.{HoldsEncMatrix}
-use Rattle.fine_condense.proofs.columns.cost_columns.Given as goal
-
-abbrev pub invariant-loop-j : goal.invariant-loop-j
-invariant-loop-j l = HoldsEncMatrix l.mat.mid l.mat.rad (counts (design_of l.parts)) (l.parts.stages * l.parts.inputs + l.parts.states + 1) l.j (fine_costs (design_of l.parts))

@@ -1,9 +1,0 @@
-use Rattle.std.proofs.Common.{◌*◌}
-use Rattle.qp_model.specs.problem.Design.{rows}
-use Rattle.qp_model.specs.problem.Parts.{design_of}
-use Rattle.qp_model.specs.form.FineForm.{fine_by_plan}
-use Rattle.fine_condense.specs.Lists.{HoldsEncMatrix}
-use Rattle.fine_condense.proofs.columns.fine_plan_columns.Given as goal
-
-abbrev pub invariant-loop-j : goal.invariant-loop-j
-invariant-loop-j l = HoldsEncMatrix l.mat.mid l.mat.rad (rows (design_of l.parts)) (l.parts.stages * l.parts.inputs) l.j (fine_by_plan (design_of l.parts))

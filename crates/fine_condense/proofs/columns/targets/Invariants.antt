@@ -1,8 +1,0 @@
-use Rattle.frac_scaled.specs.Enclosures.{exactly}
-use Rattle.qp_model.specs.problem.Parts.{design_of}
-use Rattle.qp_model.specs.form.FineForm.{counted_row}
-use Rattle.fine_run.specs.Lists.{HoldsEnclosures}
-use Rattle.fine_condense.proofs.columns.targets.Given as goal
-
-abbrev pub invariant-loop-c : goal.invariant-loop-c
-invariant-loop-c l = HoldsEnclosures l.out.items l.c (λ c. exactly (counted_row (design_of l.parts) c).target)

@@ -1,5 +1,0 @@
-use Rattle.fine_condense.proofs.Laws as laws
-use Rattle.fine_condense.proofs.form.fine_law.Goals as goal
-
-pub returns : goal.returns
-returns c = laws.fine_law

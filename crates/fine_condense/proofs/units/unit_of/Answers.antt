@@ -1,6 +1,0 @@
-use Rattle.std.proofs.Common.{refl}
-use Rattle.fine_condense.proofs.UnitFacts.{unit_holds}
-use Rattle.fine_condense.proofs.units.unit_of.Goals as goal
-
-pub returns : goal.returns
-returns c = unit_holds c.in_ok-out.out.items _ c.args.count c.args.j c.whole.result refl c.whole.ensures c.requires c.in_ok-out.ensures

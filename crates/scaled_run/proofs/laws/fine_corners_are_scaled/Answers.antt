@@ -1,0 +1,5 @@
+use Rattle.scaled_run.proofs.CornerLaws as laws
+use Rattle.scaled_run.proofs.laws.fine_corners_are_scaled.Goals as goal
+
+pub returns : goal.returns
+returns c = laws.fine_corners_are_scaled

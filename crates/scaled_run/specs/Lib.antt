@@ -1,0 +1,5 @@
+pub mod Lists
+pub mod ScaledForm
+pub mod ScaledSizes
+pub mod ScaledLaws
+pub mod ScaledCorners
