@@ -9,12 +9,7 @@ pub mod Values
 pub mod Blocks
 -- ---- words of the code
 pub mod Rooms
-pub mod Narrowed
-pub mod SpanLaws
 pub mod Repeats
-pub mod Standing
-pub mod FusedLaws
-pub mod SafeLaws
 pub mod Inputs
 pub mod Stopping
 -- ---- runs

@@ -5,7 +5,6 @@ ghost use Rattle.mac_machine.specs.Machine.{NeverTraps};
 ghost use Rattle.mac_machine.specs.Box.{IsInBox, IsFirstOutsideBox};
 ghost use Rattle.mac_machine.specs.Traps.{Stops};
 
-use crate::block_form::{BlockForm, block_form, narrow_words};
 use crate::player::{count_after, first_outside, play};
 use crate::stop::Stop;
 use mac_listing::Listing;
@@ -19,10 +18,6 @@ pub struct Machine<'a> {
     listing: &'a Listing,
     words: Vec<i128>,
     count: u64,
-    // Words of 64 bits, where the width is at most that, and else none.
-    narrow: Vec<i64>,
-    // Only where the body can be run by blocks.
-    form: Option<BlockForm>,
 }
 
 impl<'a> Model for Machine<'a> {
@@ -42,15 +37,11 @@ impl<'a> Machine<'a> {
     pub fn prepare(alloc: Global, listing: &'a Listing) -> Result<Machine<'a>, AllocError>
         ensures { IfOk result (λ m. m ≡ prepared listing.now) }
     {
-        let form = block_form(alloc, listing.parts())?;
-        let narrow = narrow_words(alloc, listing.parts())?;
         let words = vec![in alloc; 0; listing.parts().words]?;
         Ok(Machine {
             listing,
             words,
             count: 0,
-            narrow,
-            form,
         })
     }
 
@@ -64,7 +55,7 @@ impl<'a> Machine<'a> {
         ensures listing { self.new.listing ≡ self.old.listing }
     {
         let parts = self.listing.parts();
-        let answer = play(parts, state, &self.form, &mut self.narrow, &mut self.words);
+        let answer = play(parts, state, &mut self.words);
         self.count = count_after(parts, &answer, self.count);
         answer
     }

@@ -5,14 +5,10 @@ ghost use Rattle.qp_model.specs.problem.Range.{LiesIn};
 ghost use Rattle.qp_model.specs.machine.ValuesMet.{FitsWidth};
 ghost use Rattle.mac_listing.specs.Listing.{instructions, IsOp, IsListing};
 ghost use Rattle.mac_machine.specs.Machine.{holding, played, OpsFit, repeated, inputs_of, begun, after_repetitions, NeverTraps};
-ghost use Rattle.mac_machine.specs.BlockForm.{IsBlockForm};
 ghost use Rattle.mac_machine.specs.Box.{IsInBox, IsFirstOutsideBox};
 ghost use Rattle.mac_machine.specs.Traps.{TrapsAt, StopsIn, Stops, IsNumbered, begun_till, begun_by, KeepsOutside};
 
 use crate::accumulator::carry_out;
-use crate::block_form::BlockForm;
-use crate::block_steps::play_where_bound;
-use crate::narrow_steps::play_narrow;
 use crate::stop::Stop;
 use crate::width::raised;
 use mac_listing::{ListingParts, Op};
@@ -40,34 +36,9 @@ fn play_body(body: &[Op], w: u32, acc: i128, words: &mut [i128]) -> Result<i128,
     Ok(sum)
 }
 
-// The same, by blocks where it begins within the bounds from which the body is safe.
-fn play_repetition(
-    l: &ListingParts,
-    form: &Option<BlockForm>,
-    acc: i128,
-    words: &mut [i128],
-) -> Result<i128, u32>
-    requires sound { IsListing (instructions l.now) }
-    requires form { IfSome form.now (IsBlockForm (instructions l.now)) }
-    requires long { length words.old ≡ l.now.words }
-    ensures room { OnOk result (OpsFit l.now.word l.now.body.items (holding acc words.old)) }
-    ensures ends { IfOk result (λ sum. played l.now.body.items (holding acc words.old) ≡ holding sum words.new) }
-    ensures counted { IfErr result (λ place. LiesIn 1 (length l.now.body.items) place) }
-    ensures traps { IfErr result (λ place. TrapsAt l.now.word l.now.body.items (holding acc words.old) (place - 1)) }
-    ensures long { length words.new ≡ length words.old }
-{
-    if let Some(form) = form {
-        if let Some(sum) = play_where_bound(l, form, acc, words) {
-            return Ok(sum);
-        }
-    }
-    play_body(&l.body, l.word, acc, words)
-}
-
 // All repetitions, from an accumulator of 0.
-fn play_steps(l: &ListingParts, form: &Option<BlockForm>, words: &mut [i128]) -> Result<(), Stop>
+fn play_steps(l: &ListingParts, words: &mut [i128]) -> Result<(), Stop>
     requires sound { IsListing (instructions l.now) }
-    requires form { IfSome form.now (IsBlockForm (instructions l.now)) }
     requires long { length words.old ≡ l.now.words }
     ensures room { OnOk result ((k : ℕ) → k < l.now.repeat → OpsFit l.now.word l.now.body.items (repeated l.now.body.items k (holding (pos 0) words.old))) }
     ensures ends { OnOk result (words.new ≡ (repeated l.now.body.items l.now.repeat (holding (pos 0) words.old)).words) }
@@ -77,7 +48,7 @@ fn play_steps(l: &ListingParts, form: &Option<BlockForm>, words: &mut [i128]) ->
 {
     let mut acc = 0;
     for step in 0..l.repeat {
-        match play_repetition(l, form, acc, words) {
+        match play_body(&l.body, l.word, acc, words) {
             Ok(next) => acc = next,
             Err(place) => {
                 return Err(Stop::Trap {
@@ -88,32 +59,6 @@ fn play_steps(l: &ListingParts, form: &Option<BlockForm>, words: &mut [i128]) ->
         }
     }
     Ok(())
-}
-
-// The same, in words of 64 bits where the width allows it and that comes to the end.
-fn play_repetitions(
-    l: &ListingParts,
-    form: &Option<BlockForm>,
-    narrow: &mut [i64],
-    words: &mut [i128],
-) -> Result<(), Stop>
-    requires sound { IsListing (instructions l.now) }
-    requires form { IfSome form.now (IsBlockForm (instructions l.now)) }
-    requires narrow { l.now.word ≤ 64 → length narrow.old ≡ l.now.words }
-    requires long { length words.old ≡ l.now.words }
-    ensures room { OnOk result ((k : ℕ) → k < l.now.repeat → OpsFit l.now.word l.now.body.items (repeated l.now.body.items k (holding (pos 0) words.old))) }
-    ensures ends { OnOk result (words.new ≡ (repeated l.now.body.items l.now.repeat (holding (pos 0) words.old)).words) }
-    ensures traps { IfErr result (StopsIn (instructions l.now) (holding (pos 0) words.old)) }
-    ensures numbered { IfErr result (IsNumbered (instructions l.now)) }
-    ensures narrow { length narrow.new ≡ length narrow.old }
-    ensures long { length words.new ≡ length words.old }
-{
-    if let Some(form) = form {
-        if l.word <= 64 && play_narrow(l, form, narrow, words) {
-            return Ok(());
-        }
-    }
-    play_steps(l, form, words)
 }
 
 // The state, shifted up, in the first words, and 0 in all others. Whether each has room.
@@ -159,16 +104,8 @@ pub fn first_outside(l: &ListingParts, state: &[i128]) -> Option<u32>
 }
 
 /// The whole run from a state.
-pub fn play(
-    l: &ListingParts,
-    state: &[i128],
-    form: &Option<BlockForm>,
-    narrow: &mut [i64],
-    words: &mut [i128],
-) -> Result<(), Stop>
+pub fn play(l: &ListingParts, state: &[i128], words: &mut [i128]) -> Result<(), Stop>
     requires sound { IsListing (instructions l.now) }
-    requires form { IfSome form.now (IsBlockForm (instructions l.now)) }
-    requires narrow { l.now.word ≤ 64 → length narrow.old ≡ l.now.words }
     requires state { length state.now ≡ l.now.inputs }
     requires long { length words.old ≡ l.now.words }
     ensures inside { OnOk result (IsInBox (instructions l.now) state.now) }
@@ -178,7 +115,6 @@ pub fn play(
     ensures numbered { IfErr result (IsNumbered (instructions l.now)) }
     ensures outside { IfErr result (λ stop. KeepsOutside stop words.old words.new) }
     ensures kept { length words.new ≡ length words.old }
-    ensures narrow { length narrow.new ≡ length narrow.old }
 {
     if let Some(coordinate) = first_outside(l, state) {
         return Err(Stop::OutsideBox { coordinate });
@@ -186,7 +122,7 @@ pub fn play(
     if !put_inputs(l, state, words) {
         return Err(Stop::Trap { step: 0, place: 0 });
     }
-    play_repetitions(l, form, narrow, words)
+    play_steps(l, words)
 }
 
 // How many instructions a run that stopped began.

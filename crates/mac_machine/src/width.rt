@@ -55,6 +55,10 @@ pub fn raised(w: u32, z: i128, k: u32) -> Option<i128>
     requires bits { k ≤ 126 }
     ensures { SomeIff result (FitsWidth w (z *ℤ pos (2 ^ k))) (z *ℤ pos (2 ^ k)) }
 {
+    // Most instructions shift by no bit, and the product with a power is the slowest part of one.
+    if k == 0 {
+        return roomy(w, z);
+    }
     match shift_left(z, k) {
         Some(z) => roomy(w, z),
         None => None,

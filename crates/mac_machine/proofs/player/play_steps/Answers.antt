@@ -17,11 +17,11 @@ loop-step-preserved c =
     let step = c.loop-step.step in
     let t = holding (to_z w128 c.loop-step.acc-bits) c.loop-step.words in
     let come : repeated body step start ≡ t = c.loop-step.invariant.ends in
-    let room : OpsFit w body t = c.in-Ok.ensures.room in
+    let room : OpsFit w body t = rw c.deref.ensures.value at c.in-Ok.ensures.room in
     let next : FitsSigned w128 c.in-Ok.next = search rules in
-    let ends : played body t ≡ holding c.in-Ok.next c.play_repetition.new.words = c.in-Ok.ensures.ends in
+    let ends : played body t ≡ holding c.in-Ok.next c.play_body.new.words = rw c.deref.ensures.value at c.in-Ok.ensures.ends in
     record {
       room = below_more (λ k. OpsFit w body (repeated body k start)) step c.loop-step.invariant.room (subst (λ (h : Held). OpsFit w body h) (sym come) room);
-      ends = repeated_more body step start ∙ ap (played body) come ∙ ends ∙ held_same _ _ c.play_repetition.new.words _ (sym (to_z-of_z w128 _ next)) refl;
+      ends = repeated_more body step start ∙ ap (played body) come ∙ ends ∙ held_same _ _ c.play_body.new.words _ (sym (to_z-of_z w128 _ next)) refl;
       long = c.in-Ok.ensures.long ∙ c.loop-step.invariant.long;
     }
