@@ -18,7 +18,7 @@ use Rattle.qp_model.specs.declared.design.Design.{Design}
 use Rattle.qp_model.proofs.RuleLaws.{all_hold, held_after, none_broken, one_fault}
 use Rattle.design_files.specs.Document.{document_of}
 use Rattle.design_files.specs.Numbers.{number_in, list_in, IsMatrix, IsLists}
-use Rattle.design_files.specs.Values.{Values, values_of, top_keys, plant_keys, cost_keys, limit_keys, box_keys, target_keys, further_keys}
+use Rattle.design_files.specs.Values.{Values, values_of, in_order, keys_stand, further_keys}
 use Rattle.design_files.specs.Places.{count_rules, denominator_rules, positive_rules, table_rules, cost_row_rules, input_rules, final_row_rules, low_rules, high_rules, size_places, plant_places}
 use Rattle.design_files.specs.Places.{cost_places, limit_places, box_places, target_places, place_rules, key_rules}
 use Rattle.design_files.specs.DesignText.{HasNumbers, IsDesignDocument, IsDesignText, rules_of, IsDesignFault}
@@ -264,9 +264,7 @@ same_design bytes p q first second = same (document_of bytes) p q first second
 -- no further key stands in a document whose keys are right
 pub no_further : (document : Members) → AllHold (key_rules document) → AllHold (further_keys document)
 unfolding key_rules
-no_further document held =
-    let v = values_of document in
-    held_after (top_keys v ++ plant_keys v ++ cost_keys v ++ limit_keys v ++ box_keys v ++ target_keys v) (further_keys document) held
+no_further document held = held_after (keys_stand 1 (in_order document)) (further_keys document) held
 
 -- ---- both ways
 pub every_text : (bytes : List ℕ) (answer : Result Design TextFault) → IfOk answer (λ design. IsDesignText bytes design) → IfErr answer (λ fault. (fault ≡ Memory) ⊎ IsDesignFault bytes fault)

@@ -6,7 +6,7 @@ use Rattle.qp_model.specs.problem.Range.{IsDenominator, IsNumerator, IsPositive}
 use Rattle.qp_model.specs.problem.Rules.{Rule, shape, range}
 use Rattle.qp_model.specs.problem.PartRules.{AreCosts, AreLimits, AreHighs}
 use Rattle.design_files.specs.Numbers.{IsNumber, IsIntegerList, IsLists, number_of, count_of, list_of, lists_of}
-use Rattle.design_files.specs.Values.{Values, values_of, top_keys, plant_keys, cost_keys, limit_keys, box_keys, target_keys, further_keys}
+use Rattle.design_files.specs.Values.{Values, in_order, keys_stand, further_keys}
 
 -- an integer from low to high
 abbrev pub count_rules : ℕ → ℕ → ℕ → Option Data → List Rule
@@ -84,6 +84,4 @@ place_rules v = rules_for (count_of v.states) (count_of v.inputs) v
 
 -- that the keys stand there, and no further one
 unfoldable pub key_rules : Members → List Rule
-key_rules document =
-    let v = values_of document in
-    top_keys v ++ (plant_keys v ++ (cost_keys v ++ (limit_keys v ++ (box_keys v ++ (target_keys v ++ further_keys document)))))
+key_rules document = keys_stand 1 (in_order document) ++ further_keys document

@@ -1,8 +1,8 @@
 -- The keys of a design text, in the order of their places, and the values that stand there.
-use Rattle.std.specs.Prelude.{ℕ, List, [], ◌∷◌, ◌++◌, codes, All, Contains, Option, IsSome, IfSome}
+use Rattle.std.specs.Prelude.{ℕ, ◌+◌, List, [], ◌∷◌, map, codes, All, Contains, Option, Some, None, IsSome, IfSome}
 use Rattle.toml.specs.Data.{Data, Members, no_members, member, get_member}
 use Rattle.qp_model.specs.problem.Rules.{Rule, key}
-use Rattle.design_files.specs.Document.{table_at, value_at}
+use Rattle.design_files.specs.Document.{table_at, value_at, standing}
 
 pub record Values : Type 0 where
   pub version : Option Data
@@ -71,28 +71,23 @@ further_keys document =
     ∷ key 0 (IfSome (table_at (codes "targets") document) (HasOnly (codes "den" ∷ codes "violation" ∷ codes "gap" ∷ [])))
     ∷ []
 
--- ---- that all stand there, by tables
-abbrev pub top_keys : Values → List Rule
-top_keys v = key 1 (IsSome v.version) ∷ key 2 (IsSome v.states) ∷ key 3 (IsSome v.inputs) ∷ key 4 (IsSome v.stages) ∷ []
+-- ---- that all stand there
+-- the table and the key of each place; the first four stand at the top
+abbrev pub places : List (Option (List ℕ) × List ℕ)
+places =
+    (None, codes "version") ∷ (None, codes "states") ∷ (None, codes "inputs") ∷ (None, codes "stages")
+    ∷ (Some (codes "plant"), codes "den") ∷ (Some (codes "plant"), codes "a") ∷ (Some (codes "plant"), codes "b")
+    ∷ (Some (codes "cost"), codes "den") ∷ (Some (codes "cost"), codes "row_den") ∷ (Some (codes "cost"), codes "input")
+    ∷ (Some (codes "cost"), codes "stage") ∷ (Some (codes "cost"), codes "final")
+    ∷ (Some (codes "limits"), codes "den") ∷ (Some (codes "limits"), codes "stage") ∷ (Some (codes "limits"), codes "final")
+    ∷ (Some (codes "box"), codes "grid") ∷ (Some (codes "box"), codes "lo") ∷ (Some (codes "box"), codes "hi")
+    ∷ (Some (codes "targets"), codes "den") ∷ (Some (codes "targets"), codes "violation") ∷ (Some (codes "targets"), codes "gap") ∷ []
 
-abbrev pub plant_keys : Values → List Rule
-plant_keys v = key 5 (IsSome v.plant_den) ∷ key 6 (IsSome v.a) ∷ key 7 (IsSome v.b) ∷ []
+-- what stands there, in this order
+abbrev pub in_order : Members → List (Option Data)
+in_order document = map (λ p. standing p.0 p.1 document) places
 
-abbrev pub cost_keys : Values → List Rule
-cost_keys v = key 8 (IsSome v.cost_den) ∷ key 9 (IsSome v.row_den) ∷ key 10 (IsSome v.input) ∷ key 11 (IsSome v.stage_cost) ∷ key 12 (IsSome v.final_cost) ∷ []
-
-abbrev pub limit_keys : Values → List Rule
-limit_keys v = key 13 (IsSome v.limit_den) ∷ key 14 (IsSome v.stage_rows) ∷ key 15 (IsSome v.final_rows) ∷ []
-
-abbrev pub box_keys : Values → List Rule
-box_keys v = key 16 (IsSome v.grid) ∷ key 17 (IsSome v.lo) ∷ key 18 (IsSome v.hi) ∷ []
-
-abbrev pub target_keys : Values → List Rule
-target_keys v = key 19 (IsSome v.target_den) ∷ key 20 (IsSome v.violation) ∷ key 21 (IsSome v.gap) ∷ []
-
--- before the limits, and from there on
-abbrev pub first_keys : Values → List Rule
-first_keys v = top_keys v ++ (plant_keys v ++ cost_keys v)
-
-abbrev pub last_keys : Values → List Rule
-last_keys v = limit_keys v ++ (box_keys v ++ target_keys v)
+-- each of these values stands at its key, the first at this place
+abbrev pub keys_stand : ℕ → List (Option Data) → List Rule
+keys_stand place [] = []
+keys_stand place (value ∷ values) = key place (IsSome value) ∷ keys_stand (place + 1) values

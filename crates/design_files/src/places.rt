@@ -1,15 +1,15 @@
 //! The places of a design text, read in their order.
 ghost use Rattle.std.specs.Prelude.{◌≡◌, ◌⊎◌, ℕ, ◌<◌, ◌≤◌, ◌+◌, ◌≤ℤ◌, ◌++◌, [], ◌∷◌, length, Some, Err, IfOk, IfErr, IsOkAnd};
 ghost use Rattle.integer_algebra.specs.Sums.{at};
-ghost use Rattle.toml.specs.View.{view};
 ghost use Rattle.qp_model.specs.declared.design_parts.DesignParts.{DesignParts};
 ghost use Rattle.number_text.specs.declared.text_fault.TextFault.{TextFault};
 ghost use Rattle.qp_model.specs.problem.Limits.{last_version, most_states, most_inputs};
+ghost use Rattle.qp_model.specs.problem.Range.{LiesIn};
 ghost use Rattle.qp_model.specs.problem.Parts.{IsDesign, design_numbers};
 ghost use Rattle.qp_model.specs.problem.PartRules.{AreHighs, AreLimits};
 ghost use Rattle.qp_model.specs.problem.Rules.{shape, range};
 ghost use Rattle.design_files.specs.Numbers.{IsIntegerList, IsLists, count_of, list_of, lists_of};
-ghost use Rattle.design_files.specs.Keys.{seen};
+ghost use Rattle.design_files.specs.Keys.{found, seen};
 ghost use Rattle.design_files.specs.Values.{Values};
 ghost use Rattle.design_files.specs.Places.{count_rules, denominator_rules, positive_rules, table_rules, cost_row_rules, input_rules, low_rules, size_places, plant_places, cost_places, limit_places, box_places, target_places, place_rules};
 ghost use Rattle.design_files.specs.Sections.{HasCount, HasDenominator, HasPositive, HasTable, HasCosts, HasInputs, HasLine, HasSizeNumbers, HasPlant, HasCostNumbers, HasLimits, HasBox, HasTargets, HasFirst, HasLast};
@@ -29,7 +29,6 @@ use qp_model::{
     Design, DesignParts, FIRST_VERSION, LAST_VERSION, MOST_INPUTS, most_stages, most_states,
 };
 use std::alloc::Global;
-use toml::Value;
 
 /// The design that a text of version 1 or 2 writes, or the text's first fault: that it is no TOML document, then the first key in the
 /// order of the places that is absent, then a further key, and then for each place in turn the shape of its value and the range of
@@ -188,29 +187,32 @@ fn read_last(alloc: Global, keys: &Keys, n: usize, p: usize) -> Result<LastNumbe
 }
 
 /// The integer at a place that lies from low to high.
-fn read_count(place: u32, value: &Value, low: usize, high: usize) -> Result<usize, TextFault>
-    ensures { let seen = Some (view value.now) in
+fn read_count(keys: &Keys, place: u32, low: usize, high: usize) -> Result<usize, TextFault>
+    requires { LiesIn 1 21 place }
+    ensures { let seen = found keys.now place in
         Reads result (HasCount seen low high) (count_rules place low high seen) }
 {
-    let z = number(place, value)?;
+    let z = number(keys, place)?;
     in_range(place, low as i128 <= z && z <= high as i128)?;
     Ok(z as usize)
 }
 
-fn read_denominator(place: u32, value: &Value) -> Result<i128, TextFault>
-    ensures { let seen = Some (view value.now) in
+fn read_denominator(keys: &Keys, place: u32) -> Result<i128, TextFault>
+    requires { LiesIn 1 21 place }
+    ensures { let seen = found keys.now place in
         Reads result (HasDenominator seen) (denominator_rules place seen) }
 {
-    let z = number(place, value)?;
+    let z = number(keys, place)?;
     in_range(place, is_denominator(z))?;
     Ok(z)
 }
 
-fn read_positive(place: u32, value: &Value) -> Result<i128, TextFault>
-    ensures { let seen = Some (view value.now) in
+fn read_positive(keys: &Keys, place: u32) -> Result<i128, TextFault>
+    requires { LiesIn 1 21 place }
+    ensures { let seen = found keys.now place in
         Reads result (HasPositive seen) (positive_rules place seen) }
 {
-    let z = number(place, value)?;
+    let z = number(keys, place)?;
     in_range(place, is_positive(z))?;
     Ok(z)
 }
@@ -218,68 +220,70 @@ fn read_positive(place: u32, value: &Value) -> Result<i128, TextFault>
 // Low to high lists of so many numerators each.
 fn read_table(
     alloc: Global,
+    keys: &Keys,
     place: u32,
-    value: &Value,
     low: usize,
     high: usize,
     width: usize,
 ) -> Result<Mat, TextFault>
-    ensures { let seen = Some (view value.now) in
+    requires { LiesIn 1 21 place }
+    ensures { let seen = found keys.now place in
         Reads result (HasTable seen low high width) (table_rules place low high width seen) }
 {
-    let m = lists(alloc, place, value, low, high, width)?;
+    let m = lists(alloc, keys, place, low, high, width)?;
     in_range(place, has_numerators(&m))?;
     Ok(m)
 }
 
 // Rows of n coefficients, a target and a weight.
-fn read_cost_rows(alloc: Global, place: u32, value: &Value, n: usize) -> Result<Mat, TextFault>
-    requires { n ≤ most_states last_version }
-    ensures { let seen = Some (view value.now) in
+fn read_cost_rows(alloc: Global, keys: &Keys, place: u32, n: usize) -> Result<Mat, TextFault>
+    requires place { LiesIn 1 21 place }
+    requires states { n ≤ most_states last_version }
+    ensures { let seen = found keys.now place in
         Reads result (HasCosts seen n) (cost_row_rules place n seen) }
 {
-    let m = lists(alloc, place, value, 0, 12, n + 2)?;
+    let m = lists(alloc, keys, place, 0, 12, n + 2)?;
     in_range(place, are_costs(&m, n + 1))?;
     Ok(m)
 }
 
-fn read_inputs(alloc: Global, value: &Value, p: usize) -> Result<Vec<i128>, TextFault>
-    ensures { let seen = Some (view value.now) in
+fn read_inputs(alloc: Global, keys: &Keys, p: usize) -> Result<Vec<i128>, TextFault>
+    ensures { let seen = found keys.now 10 in
         Reads result (λ zs. HasInputs seen p zs.items) (input_rules p seen) }
 {
-    let weights = list(alloc, 10, value, p)?;
+    let weights = list(alloc, keys, 10, p)?;
     in_range(10, are_positive(&weights))?;
     Ok(weights)
 }
 
-fn read_low(alloc: Global, value: &Value, n: usize) -> Result<Vec<i128>, TextFault>
-    ensures { let seen = Some (view value.now) in
+fn read_low(alloc: Global, keys: &Keys, n: usize) -> Result<Vec<i128>, TextFault>
+    ensures { let seen = found keys.now 17 in
         Reads result (λ zs. HasLine seen n zs.items) (low_rules n seen) }
 {
-    let low = list(alloc, 17, value, n)?;
+    let low = list(alloc, keys, 17, n)?;
     in_range(17, are_numerators(&low))?;
     Ok(low)
 }
 
 // As many numerators as low ones, each at least the low one at its place.
-fn read_high(alloc: Global, value: &Value, low: &[i128]) -> Result<Vec<i128>, TextFault>
-    ensures { let seen = Some (view value.now) in let n = length low.now in
+fn read_high(alloc: Global, keys: &Keys, low: &[i128]) -> Result<Vec<i128>, TextFault>
+    ensures { let seen = found keys.now 18 in let n = length low.now in
         Reads result (λ zs. HasLine seen n zs.items × ((i : ℕ) → i < n → at low.now i ≤ℤ at zs.items i))
         (shape 18 (IsIntegerList n seen) ∷ range 18 (AreHighs (list_of seen) low.now n) ∷ []) }
 {
-    let high = list(alloc, 18, value, low.len())?;
+    let high = list(alloc, keys, 18, low.len())?;
     in_range(18, are_highs(&high, low))?;
     Ok(high)
 }
 
 // Rows of n coefficients and a bound, where there is one here or among the others.
-fn read_final_rows(alloc: Global, value: &Value, others: &Mat, n: usize) -> Result<Mat, TextFault>
+fn read_final_rows(alloc: Global, keys: &Keys, others: &Mat, n: usize) -> Result<Mat, TextFault>
     requires { n ≤ most_states last_version }
-    ensures { let seen = Some (view value.now) in
+    ensures { let seen = found keys.now 15 in
         Reads result (λ m. HasTable seen 0 12 (n + 1) m × (1 ≤ length others.now.rows + length m.rows))
         (shape 15 (IsLists 0 12 (n + 1) seen) ∷ range 15 (AreLimits (lists_of seen) others.now.rows) ∷ []) }
 {
-    let m = lists(alloc, 15, value, 0, 12, n + 1)?;
+    let m = lists(alloc, keys, 15, 0, 12, n + 1)?;
     in_range(15, are_limits(&m, others))?;
     Ok(m)
 }
@@ -287,29 +291,22 @@ fn read_final_rows(alloc: Global, value: &Value, others: &Mat, n: usize) -> Resu
 fn read_sizes(keys: &Keys) -> Result<Sizes, TextFault>
     ensures { let v = seen keys.now in Reads result (HasSizeNumbers v) (size_places v) }
 {
-    let keys = &keys.first.top;
-    let version = read_count(
-        1,
-        keys.version,
-        FIRST_VERSION as usize,
-        LAST_VERSION as usize,
-    )? as u32;
+    let version = read_count(keys, 1, FIRST_VERSION as usize, LAST_VERSION as usize)? as u32;
     Ok(Sizes {
         version,
-        states: read_count(2, keys.states, 1, most_states(version))?,
-        inputs: read_count(3, keys.inputs, 1, MOST_INPUTS)?,
-        stages: read_count(4, keys.stages, 1, most_stages(version))?,
+        states: read_count(keys, 2, 1, most_states(version))?,
+        inputs: read_count(keys, 3, 1, MOST_INPUTS)?,
+        stages: read_count(keys, 4, 1, most_stages(version))?,
     })
 }
 
 fn read_plant(alloc: Global, keys: &Keys, n: usize, p: usize) -> Result<PlantNumbers, TextFault>
     ensures { let v = seen keys.now in Reads result (HasPlant v n p) (plant_places n p v) }
 {
-    let keys = &keys.first.plant;
     Ok(PlantNumbers {
-        den: read_denominator(5, keys.first)?,
-        a: read_table(alloc, 6, keys.second, n, n, n)?,
-        b: read_table(alloc, 7, keys.third, n, n, p)?,
+        den: read_denominator(keys, 5)?,
+        a: read_table(alloc, keys, 6, n, n, n)?,
+        b: read_table(alloc, keys, 7, n, n, p)?,
     })
 }
 
@@ -317,13 +314,12 @@ fn read_cost(alloc: Global, keys: &Keys, n: usize, p: usize) -> Result<CostNumbe
     requires { n ≤ most_states last_version }
     ensures { let v = seen keys.now in Reads result (HasCostNumbers v n p) (cost_places n p v) }
 {
-    let keys = &keys.first.cost;
     Ok(CostNumbers {
-        den: read_denominator(8, keys.scales.first)?,
-        row_den: read_denominator(9, keys.scales.second)?,
-        input: read_inputs(alloc, keys.scales.third, p)?,
-        stage: read_cost_rows(alloc, 11, keys.stage, n)?,
-        final_: read_cost_rows(alloc, 12, keys.final_, n)?,
+        den: read_denominator(keys, 8)?,
+        row_den: read_denominator(keys, 9)?,
+        input: read_inputs(alloc, keys, p)?,
+        stage: read_cost_rows(alloc, keys, 11, n)?,
+        final_: read_cost_rows(alloc, keys, 12, n)?,
     })
 }
 
@@ -332,30 +328,27 @@ fn read_limits(alloc: Global, keys: &Keys, n: usize, p: usize) -> Result<LimitNu
     requires inputs { p ≤ most_inputs last_version }
     ensures { let v = seen keys.now in Reads result (HasLimits v n p) (limit_places n p v) }
 {
-    let keys = &keys.last.limits;
-    let den = read_denominator(13, keys.first)?;
-    let stage = read_table(alloc, 14, keys.second, 0, 12, n + p + 1)?;
-    let final_ = read_final_rows(alloc, keys.third, &stage, n)?;
+    let den = read_denominator(keys, 13)?;
+    let stage = read_table(alloc, keys, 14, 0, 12, n + p + 1)?;
+    let final_ = read_final_rows(alloc, keys, &stage, n)?;
     Ok(LimitNumbers { den, stage, final_ })
 }
 
 fn read_box(alloc: Global, keys: &Keys, n: usize) -> Result<BoxNumbers, TextFault>
     ensures { let v = seen keys.now in Reads result (HasBox v n) (box_places n v) }
 {
-    let keys = &keys.last.box_;
-    let grid = read_count(16, keys.first, 0, 24)? as u32;
-    let lo = read_low(alloc, keys.second, n)?;
-    let hi = read_high(alloc, keys.third, &lo)?;
+    let grid = read_count(keys, 16, 0, 24)? as u32;
+    let lo = read_low(alloc, keys, n)?;
+    let hi = read_high(alloc, keys, &lo)?;
     Ok(BoxNumbers { grid, lo, hi })
 }
 
 fn read_targets(keys: &Keys) -> Result<TargetNumbers, TextFault>
     ensures { let v = seen keys.now in Reads result (HasTargets v) (target_places v) }
 {
-    let keys = &keys.last.targets;
     Ok(TargetNumbers {
-        den: read_denominator(19, keys.first)?,
-        violation: read_positive(20, keys.second)?,
-        gap: read_positive(21, keys.third)?,
+        den: read_denominator(keys, 19)?,
+        violation: read_positive(keys, 20)?,
+        gap: read_positive(keys, 21)?,
     })
 }

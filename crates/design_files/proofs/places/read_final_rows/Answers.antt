@@ -1,6 +1,6 @@
-use Rattle.std.proofs.Common.{◌+◌, Some}
+use Rattle.std.proofs.Common.{◌+◌}
 use Rattle.std.proofs.lemmas.Result.{err_from_is_err_and}
-use Rattle.toml.specs.View.{view}
+use Rattle.design_files.specs.Keys.{found}
 use Rattle.qp_model.specs.problem.PartRules.{AreLimits}
 use Rattle.qp_model.specs.problem.Rules.{shape, range}
 use Rattle.design_files.specs.Numbers.{IsLists, lists_of}
@@ -9,7 +9,7 @@ use Rattle.design_files.proofs.places.read_final_rows.Goals as goal
 
 pub returns-in_err-in_range : goal.returns-in_err-in_range
 returns-in_err-in_range c =
-    let seen = Some (view c.args.value.now) in
+    let seen = found c.args.keys.now 15 in
     let e = err_from_is_err_and c.from_residual-in_err-in_range.result c.from_residual-in_err-in_range.ensures.1 in
     let known = c.in_ok-m.ensures in
     let failed = c.in_err-in_range.ensures.err in

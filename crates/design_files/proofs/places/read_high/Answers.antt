@@ -1,6 +1,6 @@
-use Rattle.std.proofs.Common.{[], ◌∷◌, Some, length}
+use Rattle.std.proofs.Common.{[], ◌∷◌, length}
 use Rattle.std.proofs.lemmas.Result.{err_from_is_err_and}
-use Rattle.toml.specs.View.{view}
+use Rattle.design_files.specs.Keys.{found}
 use Rattle.qp_model.specs.problem.PartRules.{AreHighs}
 use Rattle.qp_model.specs.problem.Rules.{shape, range}
 use Rattle.design_files.specs.Numbers.{IsIntegerList, list_of}
@@ -10,14 +10,14 @@ use Rattle.design_files.proofs.places.read_high.Goals as goal
 
 pub returns-in_err-high : goal.returns-in_err-high
 returns-in_err-high c =
-    let seen = Some (view c.args.value.now) in
+    let seen = found c.args.keys.now 18 in
     let low = c.args.low.now in
     let e = err_from_is_err_and c.from_residual.result c.from_residual.ensures.1 in
     rw (e.1, e.2) (fails_before (shape 18 (IsIntegerList (length low) seen) ∷ []) (range 18 (AreHighs (list_of seen) low (length low)) ∷ []) _ c.in_err-high.ensures)
 
 pub returns-in_err-in_range : goal.returns-in_err-in_range
 returns-in_err-in_range c =
-    let seen = Some (view c.args.value.now) in
+    let seen = found c.args.keys.now 18 in
     let low = c.args.low.now in
     let e = err_from_is_err_and c.from_residual-in_err-in_range.result c.from_residual-in_err-in_range.ensures.1 in
     let known = c.in_ok-high.ensures in
