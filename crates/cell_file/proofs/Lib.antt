@@ -6,3 +6,4 @@ pub mod Follows
 pub mod Grammars
 pub mod Texts
 pub mod Reading
+pub mod Lengths

@@ -3,7 +3,7 @@ use Rattle.std.proofs.Common.{◌≡◌, inl, inr, ◌⊎◌, ℕ, suc, pos, Lis
 use Rattle.std.specs.Prelude.{All, IfOk, IfErr, MatchResult, codes}
 use Rattle.std.specs.List.{flat_map}
 use Rattle.std.specs.declared.alloc.Global.{Global}
-use Rattle.std.proofs.lemmas.List.{take_at, drop_at, map-append}
+use Rattle.std.proofs.lemmas.List.{append-nil, take_at, drop_at, map-append}
 use Rattle.number_text.specs.Lines.{text_of}
 use Rattle.qp_model.specs.machine.Controller.{Numbers, IsInForm}
 use Rattle.qp_model.specs.machine.AbsoluteSums.{IsController}
@@ -11,7 +11,7 @@ use Rattle.qp_model.specs.text.ControllerText.{controller_text}
 use Rattle.text_lines.specs.Lines.{Keyed, no_line, spelled}
 use Rattle.text_lines.specs.Blocks.{chained, total_rows}
 use Rattle.text_lines.specs.Grammar.{IsTextOf}
-use Rattle.text_lines.proofs.OneText.{text_append, one_text}
+use Rattle.text_lines.proofs.OneText.{text_append, one_text, no_prefix_of}
 use Rattle.controller_text.specs.Lines.{keyed_lines}
 use Rattle.controller_text.specs.Table.{text_table, sizes_of}
 use Rattle.controller_text.specs.declared.layout.Sizes.{Sizes}
@@ -24,6 +24,7 @@ use Rattle.cell_file.specs.Cells.{AreCells}
 use Rattle.cell_file.specs.Lines.{head_line, end_line, rest_lines, cells_lines, IsCellsWhole}
 use Rattle.cell_file.specs.Reading.{AreCellsOf, AreNoneOf}
 use Rattle.cell_file.specs.Text.{cells_text, IsTextOfCells, IsCellsForm, IsBadCellsLine, IsCellsText, AreUnsafe}
+use Rattle.cell_file.specs.Laws.{CellsHaveNoPrefix}
 use Rattle.cell_file.proofs.Alikes.{version_line, size_line}
 use Rattle.cell_file.proofs.Grammars.{cells_good}
 
@@ -66,29 +67,39 @@ one_cell c d form other more rest e =
     let left : more ≡ rest = sym (drop_at (keyed_lines c) more (length (keyed_lines d)) long) ∙ ap (drop (length (keyed_lines d))) e ∙ drop_at (keyed_lines d) rest (length (keyed_lines d)) refl in
     (one_choice c d form other lines, left)
 
-same_rest : (xs ys : List Numbers) → All IsInForm xs → All IsInForm ys → length xs ≡ length ys → rest_lines xs ≡ rest_lines ys → xs ≡ ys
-same_rest [] [] f g long e = refl
-same_rest [] (b ∷ ys) f g long e = absurd (omega (arith, long))
-same_rest (a ∷ xs) [] f g long e = absurd (omega (arith, long))
-same_rest (a ∷ xs) (b ∷ ys) f g long e =
-    let regrouped : keyed_lines a ++ rest_lines xs ≡ keyed_lines b ++ rest_lines ys =
-    sym (append_assoc (keyed_lines a) (chained (map keyed_lines xs)) (end_line ∷ [])) ∙ e ∙ append_assoc (keyed_lines b) (chained (map keyed_lines ys)) (end_line ∷ []) in
-    let here = one_cell a b (f 0 a (omega arith)) (g 0 b (omega arith)) (rest_lines xs) (rest_lines ys) regrouped in
-    let others = same_rest xs ys (λ i d lt. f (suc i) d (omega (arith, lt))) (λ i d lt. g (suc i) d (omega (arith, lt))) (omega (arith, long)) here.1 in
-    (λ i. here.0 i ∷ others i)
+-- of as many cells, and lines behind those of the first
+same_rest : (xs ys : List Numbers) (more : List Keyed) → All IsInForm xs → All IsInForm ys → length xs ≡ length ys → rest_lines xs ++ more ≡ rest_lines ys → (xs ≡ ys) × (more ≡ [])
+same_rest [] [] more f g long e = (refl, ap (drop 1) e)
+same_rest [] (b ∷ ys) more f g long e = absurd (omega (arith, long))
+same_rest (a ∷ xs) [] more f g long e = absurd (omega (arith, long))
+same_rest (a ∷ xs) (b ∷ ys) more f g long e =
+    let regrouped : keyed_lines a ++ (rest_lines xs ++ more) ≡ keyed_lines b ++ rest_lines ys =
+    sym (append_assoc (keyed_lines a) (rest_lines xs) more) ∙ ap (λ (ls : List Keyed). ls ++ more) (sym (append_assoc (keyed_lines a) (chained (map keyed_lines xs)) (end_line ∷ []))) ∙ e
+    ∙ append_assoc (keyed_lines b) (chained (map keyed_lines ys)) (end_line ∷ []) in
+    let here = one_cell a b (f 0 a (omega arith)) (g 0 b (omega arith)) (rest_lines xs ++ more) (rest_lines ys) regrouped in
+    let others = same_rest xs ys more (λ i d lt. f (suc i) d (omega (arith, lt))) (λ i d lt. g (suc i) d (omega (arith, lt))) (omega (arith, long)) here.1 in
+    ((λ i. here.0 i ∷ others.0 i), others.1)
 
 head_count : (n m : ℕ) → head_line n ≡ head_line m → n ≡ m
 head_count n m e = let same : pos n ∷ [] ≡ pos m ∷ [] = ap (λ (k : Keyed). k.numbers) e in cc same
 
-pub one_list : (xs ys : List Numbers) → AreCells xs → AreCells ys → cells_lines xs ≡ cells_lines ys → xs ≡ ys
-one_list xs ys f g e =
+same_cells : (xs ys : List Numbers) (more : List Keyed) → AreCells xs → AreCells ys → cells_lines xs ++ more ≡ cells_lines ys → (xs ≡ ys) × (more ≡ [])
+same_cells xs ys more f g e =
     let long = head_count (length xs) (length ys) (ap (λ (ks : List Keyed). get_or ks 0 no_line) e) in
-    same_rest xs ys f.form g.form long (ap (drop 1) e)
+    same_rest xs ys more f.form g.form long (ap (drop 1) e)
+
+pub one_list : (xs ys : List Numbers) → AreCells xs → AreCells ys → cells_lines xs ≡ cells_lines ys → xs ≡ ys
+one_list xs ys f g e = (same_cells xs ys [] f g (append-nil (cells_lines xs) ∙ e)).0
 
 pub one_cells : (bytes : List ℕ) (xs ys : List Numbers) → IsTextOfCells bytes xs → IsTextOfCells bytes ys → xs ≡ ys
 one_cells bytes xs ys f g =
     let texts : text_of (map spelled (cells_lines xs)) ≡ text_of (map spelled (cells_lines ys)) = lines_text xs ∙ sym f.text ∙ g.text ∙ sym (lines_text ys) in
     one_list xs ys f.are g.are (one_text (cells_lines xs) (cells_lines ys) (cells_good xs f.are) (cells_good ys g.are) texts)
+
+pub no_prefix : CellsHaveNoPrefix
+no_prefix bytes more xs ys f g =
+    no_prefix_of (cells_lines xs) (cells_lines ys) more (cells_good xs f.are) (cells_good ys g.are)
+    (ap (λ (t : List ℕ). t ++ more) (lines_text xs ∙ sym f.text) ∙ g.text ∙ sym (lines_text ys)) (λ rest e. (same_cells xs ys rest f.are g.are (sym e)).1)
 
 -- ---- what reading answers
 -- of lines that are all of a text

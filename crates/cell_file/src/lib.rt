@@ -11,6 +11,6 @@ mod writer;
 
 pub use finder::find;
 pub use grammar::CellsGrammar;
-pub use laws::one_list_law;
+pub use laws::{cells_length_law, one_list_law, prefix_law};
 pub use reader::read_cells;
 pub use writer::write_cells;

@@ -4,3 +4,4 @@
 pub mod Blocks
 -- ---- the text of a controller
 pub mod Texts
+pub mod Lengths

@@ -3,10 +3,12 @@
 
 mod bad_controller;
 mod block;
+mod laws;
 mod layout;
 mod writer;
 
 pub use bad_controller::BadController;
 pub use block::{BLOCKS, Block, place_of};
+pub use laws::text_length_law;
 pub use layout::{Sizes, line_count, table};
 pub use writer::write_controller;

@@ -4,6 +4,7 @@
 pub mod Cuts
 pub mod Good
 pub mod OneText
+pub mod Lengths
 -- ---- lists of lines one after the other
 pub mod Chained
 pub mod Blocks
