@@ -1,10 +1,10 @@
 -- What the turns of a loop put and show.
-use Rattle.std.proofs.Common.{zero, suc, ◌^◌, length, map, get_or, pos, ◌+ℤ◌, ◌≡◌, ◌⊎◌, inl, inr, ℕ, ◌+◌, ◌-◌, ◌<◌, ◌≤◌, ℤ, List, [], ◌++◌, Bool, true, false, Option, Some, None, option_map, Result, Ok}
+use Rattle.std.proofs.Common.{zero, suc, ◌^◌, length, map, get_or, pos, ◌+ℤ◌, ◌≡◌, ◌⊎◌, inl, inr, ℕ, ◌+◌, ◌-◌, ◌<◌, ◌≤◌, ℤ, List, [], ◌++◌, Bool, true, false, Option, Some, None, option_map, Result, Ok, ◌∷◌}
 use Rattle.std.proofs.Common.{Err, IfErr, IsErrAnd, IsOk, OnOk, IfSome, IsSomeAnd, arith, ap, sym, subst, refl, zero-le, ◌∙◌, add-one, append_assoc}
 use Rattle.std.specs.Prelude.{◌↔◌, is_some, not}
 use Rattle.std.specs.Option.{SomeIff}
 use Rattle.std.proofs.lemmas.Bool.{cases_lt}
-use Rattle.std.proofs.lemmas.List.{append-nil, ext_get_or, get_or_past}
+use Rattle.std.proofs.lemmas.List.{append-nil, ext_get_or, get_or_past, length-append}
 use Rattle.std.specs.List.{range_with_len}
 use Rattle.std.proofs.lemmas.List.FromFn.{length-map-range_with_len, get_or-map-range_with_len}
 use Rattle.std.proofs.lemmas.Int.{ints}
@@ -170,6 +170,18 @@ pub out_before : (c : Numbers) (entry : ℕ) (states : ℕ → List ℤ) (turns 
 out_before c entry states turns got faults r is = given r (LoopShows c states (lines_of c entry states) turns got got faults faults) Memory is
     (grows_by_turns c entry states turns 0 got got zero-le (inside_none c states) (put_none c entry states got))
 
+-- a line has its line feed
+line_there : (c : Numbers) (entry turn : ℕ) (xi : List ℤ) → 0 < length (loop_line c entry turn xi)
+line_there c entry turn xi = ended _
+  where
+    ended : (xs : List ℕ) → 0 < length (xs ++ 10 ∷ [])
+    ended xs = omega (arith, length-append xs (10 ∷ []))
+
+-- so that a failed call leaves some of it
+left_over : (bytes rest : List ℕ) → 0 < length bytes → (length bytes ≡ 0) ⊎ (0 < length rest) → 0 < length rest
+left_over bytes rest some (inl none) = absurd (omega (arith, some, none))
+left_over bytes rest some (inr left) = left
+
 front_of : (c : Numbers) (entry : ℕ) (states : ℕ → List ℤ) (turns k : ℕ) (o : List ℕ) (new : Option (List ℕ)) → k < turns → LieInside c states (k + 1) →
     IsSomeAnd new (λ n. GrowsByPart (o ++ lines_of c entry states k) n (loop_line c entry (k + 1) (states k))) → IsSomeAnd new (GrowsByFront c states (lines_of c entry states) turns o)
 front_of c entry states turns k o None h s g = absurd g
@@ -178,8 +190,11 @@ front_of c entry states turns k o (Some n) h s g = record {
   within = omega (arith, h);
   inside = s;
   part = lines_of c entry states k ++ g.part;
-  rest = g.rest;
-  is = text_more c entry states k ∙ ap (λ (t : List ℕ). lines_of c entry states k ++ t) g.is ∙ sym (append_assoc (lines_of c entry states k) g.part g.rest);
+  proper = record {
+    rest = g.rest;
+    is = text_more c entry states k ∙ ap (λ (t : List ℕ). lines_of c entry states k ++ t) g.is ∙ sym (append_assoc (lines_of c entry states k) g.part g.rest);
+    proper = left_over (loop_line c entry (k + 1) (states k)) g.rest (line_there c entry (k + 1) (states k)) g.proper;
+  };
   grown = g.grown ∙ append_assoc o (lines_of c entry states k) g.part;
 }
 

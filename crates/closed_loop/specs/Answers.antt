@@ -1,5 +1,6 @@
 -- What a closed loop meets and puts, by its states turn by turn and the lines of its first turns.
 use Rattle.std.specs.Prelude.{◌≡◌, ℕ, zero, suc, ◌+◌, ◌≤◌, ◌<◌, ℤ, List, [], ◌++◌}
+use Rattle.io_edge.specs.Faults.{IsProperPrefix}
 use Rattle.qp_model.specs.machine.Controller.{Numbers}
 use Rattle.qp_model.specs.machine.Machine.{IsAdmissible}
 use Rattle.fixed_kernel.specs.Outside.{IsFirstOutside}
@@ -29,14 +30,13 @@ pub record GrowsByLines (c : Numbers) (states : ℕ → List ℤ) (lines : ℕ �
   pub inside : LieInside c states done
   pub grown : new ≡ old ++ lines done
 
--- the same, where the last line may be cut off
+-- the same, where the last line is cut off: a part of these lines, and not all of them
 pub record GrowsByFront (c : Numbers) (states : ℕ → List ℤ) (lines : ℕ → List ℕ) (turns : ℕ) (old new : List ℕ) : Type 0 where
   pub done : ℕ
   pub within : done ≤ turns
   pub inside : LieInside c states done
   pub part : List ℕ
-  pub rest : List ℕ
-  pub is : lines done ≡ part ++ rest
+  pub proper : IsProperPrefix (lines done) part
   pub grown : new ≡ old ++ part
 
 -- the lines of the first turns

@@ -20,7 +20,7 @@ TurnShows c entry turn xi old new before now WriteFault =
     IsAdmissible c xi × IfSome old (λ o. IsSomeAnd new (λ n. GrowsByPart o n (loop_line c entry turn xi))) × Rose before now
 
 -- of a loop with these states and lines: after out of memory the lines of some first turns were printed, at a state outside the box those of all turns
--- before it, and after a fault of the sink a prefix of the lines, of which there may be one
+-- before it, and after a fault of the sink a part of the lines that isn't all of them, of which there may be one
 abbrev pub LoopShows : Numbers → (states : ℕ → List ℤ) → (lines : ℕ → List ℕ) → (turns : ℕ) → (old new : Option (List ℕ)) → (before now : ℕ) → LoopFault → Type 0
 LoopShows c states lines turns old new before now Memory = IfSome old (λ o. IsSomeAnd new (GrowsByLines c states lines turns o))
 LoopShows c states lines turns old new before now (TooWide quantity) = ⊥

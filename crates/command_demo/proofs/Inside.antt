@@ -1,5 +1,5 @@
 -- A controller that is made of a design has its box.
-use Rattle.std.proofs.Common.{ℕ, ◌<◌, ℤ, ◌≤ℤ◌, length, sym, ◌∙◌, subst}
+use Rattle.std.proofs.Common.{ℕ, ◌<◌, List, ℤ, ◌≤ℤ◌, length, sym, ◌∙◌, subst}
 use Rattle.integer_algebra.specs.Sums.{at}
 use Rattle.mat_int.specs.Matrix.{Matrix, row_of}
 use Rattle.qp_model.specs.problem.Box.{IsGridState}
@@ -20,8 +20,9 @@ use Rattle.command_demo.specs.Demo.{AreMadeFrom, IsShown}
 abbrev pub AreInBox : Design → Matrix → Type 0
 AreInBox d states = (e : ℕ) → e < length states.rows → IsGridState d (at (row_of states e))
 
-pub inside : (d : Design) (c : Numbers) (states : Matrix) → HasSizesOf d c → IsStatesText states_text d.states states → AreInBox d states → AreInside c states (length states.rows)
-inside d c states sizes text box e l = record {
+-- whatever text the states are of
+pub inside : (d : Design) (c : Numbers) (bytes : List ℕ) (states : Matrix) → HasSizesOf d c → IsStatesText bytes d.states states → AreInBox d states → AreInside c states (length states.rows)
+inside d c bytes states sizes text box e l = record {
   long = (text.each e (subst (λ (n : ℕ). e < n) text.rows l)).numbers ∙ sym sizes.states;
   each = λ i less.
       let below = subst (λ (n : ℕ). i < n) sizes.states less in
@@ -40,5 +41,5 @@ shown number p plans c b states texts made text box = record {
   texts = texts;
   made = made;
   third_text = subst (λ (n : ℕ). IsStatesText states_text n states) (sym made.built.made.made.sizes.states) text;
-  inside = inside (design_of p) c states made.built.made.made.sizes text box;
+  inside = inside (design_of p) c states_text states made.built.made.made.sizes text box;
 }

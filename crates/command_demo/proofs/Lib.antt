@@ -3,3 +3,4 @@ pub mod Reading
 pub mod Answering
 pub mod Inside
 pub mod PrintedText
+pub mod Row

@@ -2,26 +2,74 @@
 use Rattle.std.proofs.Common.{◌≡◌, ◌≢◌, inl, inr, ℕ, List, Option}
 use Rattle.io_edge.specs.Faults.{Files, Rose}
 use Rattle.controller_text.specs.declared.bad_controller.BadController.{BadController}
+use Rattle.controller_text.specs.declared.bad_controller.BadController.TheVariants.{Memory as no_space}
 use Rattle.number_text.specs.declared.text_fault.TextFault.{TextFault}
-use Rattle.command_line.specs.Answers.{IsFileRefused, IsCaused, IsWrongBy, EndsReading}
+use Rattle.number_text.specs.declared.text_fault.TextFault.TheVariants.{Memory as no_room}
+use Rattle.qp_model.specs.problem.Design.{Design}
+use Rattle.command_line.specs.Limit.{file_limit}
+use Rattle.command_line.specs.Answers.{ReadsThen, IsFileRefused, IsCaused, IsWrongBy, EndsReading}
+use Rattle.command_line.specs.Does.{IsTelling}
 use Rattle.command_line.specs.declared.status.Status.{Status}
-use Rattle.command_line.specs.declared.status.Status.TheVariants.{Done, Memory, ReadFault, WriteFault, Text, Controller, Long}
+use Rattle.command_line.specs.declared.status.Status.TheVariants.{Done, Memory, ReadFault, WriteFault, Text, Controller, OutsideBox, Long}
+use Rattle.command_design_files.specs.Texts.{TellsFault, DesignWrong, PolicyWrong}
 
--- neither done, nor out of memory, nor a fault
+-- neither done, nor out of memory, nor a fault, nor of a state that a loop met; and it tells
 pub record IsRefusal (s : Status) : Type 0 where
   pub done : s ≢ Done
   pub memory : s ≢ Memory
   pub read : (file : ℕ) → s ≢ ReadFault file
   pub write : (file : ℕ) → s ≢ WriteFault file
+  pub outside : (entry turn coordinate : ℕ) → s ≢ OutsideBox entry turn coordinate
+  pub telling : IsTelling s
 
 pub long_refusal : (file : ℕ) (s : Status) → s ≡ Long file → IsRefusal s
-long_refusal file s is = record { done = λ e. cc; memory = λ e. cc; read = λ f e. cc; write = λ f e. cc }
+long_refusal file s is = record {
+  done = λ e. cc;
+  memory = λ e. cc;
+  read = λ f e. cc;
+  write = λ f e. cc;
+  outside = λ entry turn coordinate e. cc;
+  telling = record { usage = λ e. cc; text = λ f e. cc; controller = λ f e. cc };
+}
 
-pub text_refusal : (file : ℕ) (fault : TextFault) (s : Status) → s ≡ Text file fault → IsRefusal s
-text_refusal file fault s is = record { done = λ e. cc; memory = λ e. cc; read = λ f e. cc; write = λ f e. cc }
+pub text_refusal : (file : ℕ) (fault : TextFault) (s : Status) → TellsFault file fault s → IsRefusal s
+text_refusal file fault s (other, is) = record {
+  done = λ e. cc;
+  memory = λ e. cc;
+  read = λ f e. cc;
+  write = λ f e. cc;
+  outside = λ entry turn coordinate e. cc;
+  telling = record { usage = λ e. cc; text = λ f e. other (let same : fault ≡ no_room = cc in same); controller = λ f e. cc };
+}
 
-pub controller_refusal : (file : ℕ) (fault : BadController) (s : Status) → s ≡ Controller file fault → IsRefusal s
-controller_refusal file fault s is = record { done = λ e. cc; memory = λ e. cc; read = λ f e. cc; write = λ f e. cc }
+pub controller_refusal : (file : ℕ) (fault : BadController) (s : Status) → fault ≢ no_space → s ≡ Controller file fault → IsRefusal s
+controller_refusal file fault s other is = record {
+  done = λ e. cc;
+  memory = λ e. cc;
+  read = λ f e. cc;
+  write = λ f e. cc;
+  outside = λ entry turn coordinate e. cc;
+  telling = record { usage = λ e. cc; text = λ f e. cc; controller = λ f e. other (let same : fault ≡ no_space = cc in same) };
+}
+
+-- a file that is too long, or holds a text with a fault
+pub text_refused : (file : ℕ) (Wrong : List ℕ → Status → Type 0) → ((bytes : List ℕ) (s : Status) → Wrong bytes s → (fault : TextFault) × TellsFault file fault s) → (content : Option (List ℕ)) (s : Status) →
+    IsFileRefused file_limit file Wrong content s → IsRefusal s
+text_refused file Wrong tells content s (inl long) = long_refusal file s long.is
+text_refused file Wrong tells content s (inr wrong) = let told = tells wrong.bytes s wrong.right in text_refusal file told.0 s told.1
+
+pub design_refused : (file : ℕ) (content : Option (List ℕ)) (s : Status) → IsFileRefused file_limit file (DesignWrong file) content s → IsRefusal s
+design_refused file = text_refused file (DesignWrong file) (λ bytes s wrong. (wrong.0, wrong.2))
+
+pub policy_refused : (d : Design) (file : ℕ) (content : Option (List ℕ)) (s : Status) → IsFileRefused file_limit file (PolicyWrong d file) content s → IsRefusal s
+policy_refused d file = text_refused file (PolicyWrong d file) (λ bytes s wrong. (wrong.0, wrong.2))
+
+-- what comes after files that tell, tells
+pub then_telling : {X : Type 0} (limit file : ℕ) (Wrong : List ℕ → Status → Type 0) (Right : X → List ℕ → Type 0) (content : Option (List ℕ)) (After : X → Status → Type 0) →
+    ((other : Option (List ℕ)) (s : Status) → IsFileRefused limit file Wrong other s → IsRefusal s) → ((x : X) (s : Status) → After x s → IsTelling s) → (s : Status) →
+    ReadsThen {X = X} limit file Wrong Right content After s → IsTelling s
+then_telling limit file Wrong Right content After refused after s (inl ended) = (refused content s ended).telling
+then_telling limit file Wrong Right content After refused after s (inr right) = after right.0 s right.2
 
 -- what a file that ends a command makes of its status
 module _ {X : Type 0} (limit file : ℕ) (Wrong : List ℕ → Status → Type 0) (Right : X → List ℕ → Type 0) (held : Option Files) (name : List ℕ) (before now : ℕ) (s : Status) where

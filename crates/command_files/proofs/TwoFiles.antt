@@ -1,19 +1,46 @@
 -- A command of two files, of which the second has states: what they make of its answer, of faults and of the output.
-use Rattle.std.proofs.Common.{◌≡◌, ◌≢◌, ◌⊎◌, inl, inr, ℕ, List, Option, Some, None, sym, subst}
-use Rattle.std.specs.Prelude.{IfSome, IsSomeAnd}
+use Rattle.std.proofs.Common.{◌≡◌, ◌≢◌, ◌⊎◌, ◌∙◌, inl, inr, ℕ, ◌≤◌, List, Option, Some, None, Ok, refl, sym, subst, le_refl}
+use Rattle.std.specs.Prelude.{IfSome, IsSomeAnd, ⊤}
+use Rattle.io_edge.specs.declared.store.Store.{Ghosts as Disk}
+use Rattle.io_edge.specs.declared.sink.Sink.{Ghosts as Screen}
 use Rattle.io_edge.specs.Faults.{Files, Rose, NoneFalls}
 use Rattle.mat_int.specs.Matrix.{Matrix}
+use Rattle.policy_file.proofs.UniqueFacts.{states_told}
 use Rattle.command_line.specs.Words.{word_of}
 use Rattle.command_line.specs.Limit.{file_limit}
 use Rattle.command_line.specs.Answers.{Contents, ForContents, FileHolds, ReadsThen, IsFileRefused, IsAnswer, IsCaused, IsRightFor, EndsReading}
+use Rattle.command_line.specs.Deeds.{Deeds, IsBeforePrinting}
+use Rattle.command_line.specs.Does.{IsTelling, Does}
+use Rattle.command_line.proofs.Doing.{IsRow, Printing, printing}
 use Rattle.command_line.proofs.Composing.{told_at, told, three_contents, for_contents, some_contents, stop, go_on_whole}
-use Rattle.command_line.proofs.Counts.{rose_later}
+use Rattle.command_line.proofs.Counts.{rose_later, none_falls_twice}
 use Rattle.command_line.specs.declared.status.Status.{Status}
 use Rattle.command_line.specs.declared.status.Status.TheVariants.{Done, Memory, ReadFault, WriteFault}
 use Rattle.command_files.specs.Texts.{StatesRight, StatesWrong}
 use Rattle.command_files.specs.Reading.{ReadsStates, AreStatesRead, EndsStates}
-use Rattle.command_design_files.proofs.Stopping.{IsRefusal, why_refused, not_done, no_write, its_fault}
+use Rattle.command_design_files.proofs.Stopping.{IsRefusal, why_refused, not_done, no_write, its_fault, then_telling}
 use Rattle.command_files.proofs.Stopping.{states_refused}
+
+-- reads alone came before: the store tells what it told, and no count fell
+pub record Passed {S : Type 0} (disk : Disk S) (before now : S) : Type 0 where
+  pub held : disk.held now ≡ disk.held before
+  pub reads : NoneFalls (disk.read_faults before) (disk.read_faults now)
+  pub writes : NoneFalls (disk.write_faults before) (disk.write_faults now)
+
+-- so it is after two reads
+pub passed_twice : {S : Type 0} (disk : Disk S) (before mid now : S) → Passed disk before mid → Passed disk mid now → Passed disk before now
+passed_twice disk before mid now first second = record {
+  held = second.held ∙ first.held;
+  reads = none_falls_twice _ _ _ first.reads second.reads;
+  writes = none_falls_twice _ _ _ first.writes second.writes;
+}
+
+-- ---- what a file holds is one thing
+pub one_content : {R T : List ℕ → Type 0} (limit other : ℕ) (content : Option (List ℕ)) → (x : FileHolds limit R content) → (y : FileHolds other T content) → y.bytes ≡ x.bytes
+one_content limit other content x y = (let same : Some y.bytes ≡ Some x.bytes = sym y.held ∙ x.held in cc)
+
+pub one_states : (n : ℕ) (content : Option (List ℕ)) (a b : Matrix) → FileHolds file_limit (StatesRight n a) content → FileHolds file_limit (StatesRight n b) content → a ≡ b
+one_states n content a b x y = (states_told x.bytes n (Ok a) x.right tt).0 b (subst (λ (bytes : List ℕ). StatesRight n b bytes) (one_content file_limit file_limit content x y) y.right)
 
 -- how the first file is read, how many numbers a state has, what the two call for, which is one answer with a cause, and when a print may have failed
 pub record TwoFiles (X : Type 0) : Type 1 where
@@ -45,6 +72,16 @@ module _ {X : Type 0} (t : TwoFiles X) where
   -- how a command ends of which both files are right
   abbrev pub EndsBoth : X → Matrix → Status → Type 0
   EndsBoth x m s = (s ≡ Memory) ⊎ (t.cut x m s ⊎ t.call x m s)
+
+  -- what the two read, and that what they call for tells where what comes after them does
+  pub both_reached : (one : Option (List ℕ)) (file : ℕ) → BothReach one file → (file ≡ 1) ⊎ (file ≡ 2)
+  both_reached one file (inl first) = inl first
+  both_reached one file (inr second) = inr second.0
+
+  pub both_telling : ((x : X) (m : Matrix) (s : Status) → t.call x m s → IsTelling s) → (one two : Option (List ℕ)) (s : Status) → BothCall one two s → IsTelling s
+  both_telling calls one two =
+      then_telling t.limit 1 t.wrong t.right one (λ x. ReadsStates (t.width x) 2 two (t.call x)) t.refused
+      (λ x. then_telling file_limit 2 (StatesWrong (t.width x) 2) (StatesRight (t.width x)) two (t.call x) (states_refused (t.width x) 2) (calls x))
 
 -- one of them ends the command
 pub record IsStopped {X : Type 0} (t : TwoFiles X) (words : List (List ℕ)) (held : Option Files) (before now : List ℕ → ℕ) (s : Status) : Type 0 where
@@ -154,3 +191,69 @@ module _ {X : Type 0} (t : TwoFiles X) (words : List (List ℕ)) (held : Option 
             let cut = both_cut file end is in
             let failed = t.fault x m s cut in
             (let same : file ≡ 0 = cc in same, with_both Starts (started cut), rose failed)
+
+-- ---- a command that prints what two files call for
+pub record TwoPrinted (X : Type 0) : Type 1 where
+  pub files : TwoFiles X
+  -- when something is printed, which answers may come after, and what the output gets
+  pub starts : (one two : Option (List ℕ)) → Type 0
+  pub tells : Status → Type 0
+  pub shows : Contents → Status → (old new : List ℕ) → Type 0
+  pub telling : (x : X) (m : Matrix) (s : Status) → files.call x m s → IsTelling s
+  -- the answers that no file gives, and that nothing is printed where a file ends it
+  pub runs : Status → Type 0
+  pub nothing : (k : Contents) (s : Status) (old : List ℕ) → s ≢ Done → ((file : ℕ) → s ≢ WriteFault file) → ¬ runs s → shows k s old old
+
+module _ {X : Type 0} (p : TwoPrinted X) where
+  -- its row of the table
+  abbrev pub two_deeds : Deeds
+  two_deeds = record {
+    reads = λ file. (file ≡ 1) ⊎ (file ≡ 2);
+    writes = λ file. ⊥;
+    prints = ⊤;
+    calls = λ k. BothCall p.files (k 1) (k 2);
+    reaches = λ k. BothReach p.files (k 1);
+    starts = λ k. p.starts (k 1) (k 2);
+    tells = p.tells;
+    shows = p.shows;
+    leaves = λ words s old new. new ≡ old;
+  }
+
+  two_row : IsRow two_deeds
+  two_row = record { reached = λ k. both_reached p.files (k 1); telling = λ k. both_telling p.files p.telling (k 1) (k 2) }
+
+module _ {X S O : Type 0} (p : TwoPrinted X) (disk : Disk S) (screen : Screen O) (words : List (List ℕ)) (before now : S) (out : O) (s : Status) (passes : Passed disk before now) where
+  does : (out_now : O) → Printing disk screen words (two_deeds p) before now out out_now s → Does disk screen words (two_deeds p) before now out out_now s
+  does out_now = printing disk screen words (two_deeds p) (two_row p) tt before now out out_now s (λ unused. absurd (unused.reads 1 (inl refl))) (λ same. same)
+
+  -- one of the files ends it
+  pub file_ended : ¬ p.runs s → IsStopped p.files words (disk.held before) (disk.read_faults before) (disk.read_faults now) s → Does disk screen words (two_deeds p) before now out out s
+  file_ended silent end = does out (record {
+    called = end.called;
+    prints = unprinted words (disk.held before) (λ k. p.shows k s) (λ k old. p.nothing k s old end.done end.write silent) (screen.got out);
+    quiet = λ earlier. refl;
+    read_fault = end.read_fault;
+    write_fault = λ file is. absurd (end.write file is);
+    held = passes.held;
+    reads = passes.reads;
+    writes = passes.writes;
+    no_fewer = le_refl (screen.faults out);
+  })
+
+  -- both are right, and the output is all that may change
+  module _ (x : X) (first : IsFirstRead p.files words (disk.held before) x) (m : Matrix) (second : AreStatesRead (p.files.width x) 2 (disk.held before) (word_of words 2) m) where
+    pub both_done : (out_now : O) → EndsBoth p.files x m s → (p.files.cut x m s → p.starts first.content second.content) →
+        IfSome (screen.got out) (λ old. IsSomeAnd (screen.got out_now) (λ new. ForContents words (disk.held before) (λ k. p.shows k s old new))) → (IsBeforePrinting (two_deeds p) s → out_now ≡ out) →
+        (s ≡ WriteFault 0 → Rose (screen.faults out) (screen.faults out_now)) → screen.faults out ≤ screen.faults out_now → Does disk screen words (two_deeds p) before now out out_now s
+    both_done out_now ends started prints quiet failed no_fewer = does out_now (record {
+      called = both_called p.files words (disk.held before) x first m second s ends;
+      prints = prints;
+      quiet = quiet;
+      read_fault = λ file is. absurd (both_no_read p.files words (disk.held before) x first m second s ends file is);
+      write_fault =
+          both_fault p.files words (disk.held before) x first m second s (λ k. p.starts (k 1) (k 2)) started (Rose (screen.faults out) (screen.faults out_now)) ends failed;
+      held = passes.held;
+      reads = passes.reads;
+      writes = passes.writes;
+      no_fewer = no_fewer;
+    })

@@ -1,5 +1,5 @@
 -- What a run that ends before anything is written has read, and what it tells.
-use Rattle.std.proofs.Common.{◌≡◌, ◌≢◌, inl, inr, ℕ, List, Option, Result, Ok, Err, subst}
+use Rattle.std.proofs.Common.{◌≡◌, ◌≢◌, inl, inr, ℕ, ◌≤◌, List, Option, Result, Ok, Err, subst}
 use Rattle.std.specs.Prelude.{IfErr}
 use Rattle.io_edge.specs.Faults.{Files, Rose, NoneFalls}
 use Rattle.number_text.specs.declared.text_fault.TextFault.{TextFault}
@@ -22,6 +22,14 @@ refusal_of : (file : ℕ) (Wrong : List ℕ → Status → Type 0) (content : Op
     IsFileRefused file_limit file Wrong content s → IsFaultless s
 refusal_of file Wrong content s tells (inl long) = long_refusal file s long.is
 refusal_of file Wrong content s tells (inr wrong) = let told = tells wrong.bytes wrong.right in text_refusal file told.0 s told.1
+
+-- ---- what ends a later read
+-- the counts stood no higher before
+pub reading_later : {X : Type 0} (limit file : ℕ) (Wrong : List ℕ → Status → Type 0) (Right : X → List ℕ → Type 0) (held : Option Files) (name : List ℕ) (before mid now : ℕ) (s : Status) → before ≤ mid → mid ≤ now →
+    EndsReading limit file Wrong Right held name mid now s → EndsReading limit file Wrong Right held name before now s
+reading_later limit file Wrong Right held name before mid now s low high (inl memory) = inl memory
+reading_later limit file Wrong Right held name before mid now s low high (inr (inl failed)) = inr (inl (failed.0, rose_later before mid now low high failed.1))
+reading_later limit file Wrong Right held name before mid now s low high (inr (inr wrong)) = inr (inr wrong)
 
 module _ (Calls : Contents → Status → Type 0) (Reaches : Contents → ℕ → Type 0) (words : List (List ℕ)) (held : Option Files) where
   -- ---- a file ends the run, to which those before it led

@@ -1,13 +1,14 @@
 -- What the generator answers is what a design with a policy calls for.
-use Rattle.std.proofs.Common.{◌≡◌, ◌⊎◌, inl, inr, ℕ, Result, Ok, Err, refl, sym, ap, ◌∙◌, subst}
+use Rattle.std.proofs.Common.{◌≡◌, ◌≢◌, ◌⊎◌, inl, inr, ℕ, Result, Ok, Err, refl, sym, ap, ◌∙◌, subst}
 use Rattle.std.specs.Prelude.{IsOk}
+use Rattle.qp_model.specs.problem.Design.{Design}
 use Rattle.qp_model.specs.problem.Policy.{Plans}
 use Rattle.qp_model.specs.problem.Parts.{design_of}
 use Rattle.qp_model.specs.machine.Controller.{Numbers}
 use Rattle.qp_model.specs.declared.design_parts.DesignParts.{DesignParts}
 use Rattle.qp_model.specs.bounds.Printed.{Printed}
 use Rattle.qp_model.specs.declared.bounds.Margin.{Margin}
-use Rattle.design_engine.specs.Targets.{targets_of}
+use Rattle.design_engine.specs.Targets.{Targets, targets_of}
 use Rattle.design_engine.specs.Built.{IsBuilt}
 use Rattle.design_engine.specs.Refusals.{HasCause, PassesAll}
 use Rattle.qp_model.specs.declared.refusal.Refusal.{Refusal}
@@ -15,6 +16,8 @@ use Rattle.qp_model.specs.declared.refusal.Refusal.TheVariants as refusals
 use Rattle.command_line.specs.Status.{status_of}
 use Rattle.command_line.specs.Answers.{IsAnswer}
 use Rattle.command_generate.specs.Made.{MakingCalls}
+use Rattle.command_generate.specs.Ending.{IsFaultless}
+use Rattle.command_generate.specs.Writing.{IsMakingRefused}
 use Rattle.command_generate.proofs.Passing.{built_passes}
 use Rattle.command_line.specs.declared.status.Status.{Status}
 use Rattle.command_line.specs.declared.status.Status.TheVariants.{Done, Memory, ReadFault, WriteFault}
@@ -94,13 +97,38 @@ refusal_no_write (refusals.TooFine eps) file e = cc
 refusal_no_write (refusals.TooWide quantity) file e = cc
 
 -- what is called for is no fault
-pub making_no_read : (p : DesignParts) (plans : Plans) (s : Status) (file : ℕ) → MakingCalls p plans s → s ≡ ReadFault file → ⊥
+making_no_read : (p : DesignParts) (plans : Plans) (s : Status) (file : ℕ) → MakingCalls p plans s → s ≡ ReadFault file → ⊥
 making_no_read p plans s file (inl why) is = refusal_no_read why.refusal file (sym why.is ∙ is)
 making_no_read p plans s file (inr done) is = let e = done.0 in cc
 
-pub making_no_write : (p : DesignParts) (plans : Plans) (s : Status) (file : ℕ) → MakingCalls p plans s → s ≡ WriteFault file → ⊥
+making_no_write : (p : DesignParts) (plans : Plans) (s : Status) (file : ℕ) → MakingCalls p plans s → s ≡ WriteFault file → ⊥
 making_no_write p plans s file (inl why) is = refusal_no_write why.refusal file (sym why.is ∙ is)
 making_no_write p plans s file (inr done) is = let e = done.0 in cc
+
+caused_not_memory : (d : Design) (t : Targets) (plans : Plans) (r : Refusal) → HasCause d t plans r → status_of r ≡ Memory → ⊥
+caused_not_memory d t plans refusals.Memory cause is = cause
+caused_not_memory d t plans (refusals.NoMargin corner row slack) cause is = cc
+caused_not_memory d t plans refusals.Curvature cause is = cc
+caused_not_memory d t plans (refusals.TooManySteps k) cause is = cc
+caused_not_memory d t plans (refusals.TooFine eps) cause is = cc
+caused_not_memory d t plans (refusals.TooWide quantity) cause is = cc
+
+-- nor that memory ran out
+making_no_memory : (p : DesignParts) (plans : Plans) (s : Status) → MakingCalls p plans s → s ≡ Memory → ⊥
+making_no_memory p plans s (inl why) is = caused_not_memory (design_of p) (targets_of p) plans why.refusal why.cause (sym why.is ∙ is)
+making_no_memory p plans s (inr done) is = let e = done.0 in cc
+
+pub making_faultless : (p : DesignParts) (plans : Plans) (s : Status) → s ≢ Done → MakingCalls p plans s → IsFaultless s
+making_faultless p plans s not_done calls = record {
+  done = not_done;
+  memory = λ is. making_no_memory p plans s calls is;
+  read = λ file is. making_no_read p plans s file calls is;
+  write = λ file is. making_no_write p plans s file calls is;
+}
+
+pub making_refused : (p : DesignParts) (plans : Plans) (s : Status) → s ≢ Done → (s ≡ Memory) ⊎ IsAnswer (MakingCalls p plans) s → IsMakingRefused p plans s
+making_refused p plans s not_done (inl memory) = inl memory
+making_refused p plans s not_done (inr answer) = inr (answer, making_faultless p plans s not_done answer.called)
 
 -- nor is out of memory
 pub refused_no_read : (p : DesignParts) (plans : Plans) (s : Status) → (s ≡ Memory) ⊎ IsAnswer (MakingCalls p plans) s → (file : ℕ) → s ≡ ReadFault file → ⊥

@@ -1,11 +1,13 @@
 -- What is written, of the design and the policy that were read.
-use Rattle.std.proofs.Common.{◌≢◌, ℕ, List, Option, Some, subst}
+use Rattle.std.proofs.Common.{◌≢◌, ℕ, ◌≤◌, List, length, Option, Some, subst, arith}
 use Rattle.io_edge.specs.Faults.{Files, IsCutShort}
 use Rattle.qp_model.specs.problem.Policy.{Plans}
 use Rattle.qp_model.specs.problem.Parts.{design_of}
 use Rattle.qp_model.specs.machine.Controller.{Numbers}
 use Rattle.qp_model.specs.declared.design_parts.DesignParts.{DesignParts}
 use Rattle.qp_model.specs.bounds.Printed.{Printed}
+use Rattle.qp_model.specs.text.ControllerText.{IsControllerText}
+use Rattle.controller_text.proofs.Lengths.{text_length_law}
 use Rattle.command_line.specs.Words.{word_of, IsGenerate}
 use Rattle.command_line.specs.Limit.{file_limit}
 use Rattle.command_line.specs.Answers.{FileHolds}
@@ -16,6 +18,10 @@ use Rattle.command_generate.specs.Writing.{AreTextsFor, AreTextsFrom, AreWritten
 use Rattle.command_generate.specs.Generate.{GenerateCalls, HoldsInputs, IsMadeFrom, IsGenerated, IsControllerCut, IsReportCut}
 use Rattle.command_line.specs.declared.status.Status.TheVariants.{Done}
 use Rattle.command_generate.proofs.TwoTexts.{MakesTwo, first_stands, kept_or_front}
+
+-- a controller's text is no longer than a file may be
+pub controller_short : (text : List ℕ) (c : Numbers) → IsControllerText text c → length text ≤ file_limit
+controller_short text c is = omega (arith, text_length_law text c is)
 
 -- the first two names hold them
 pub inputs_of : (words : List (List ℕ)) (files : Files) (p : DesignParts) (plans : Plans) → AreInputsRead words (Some files) p plans → HoldsInputs (files (word_of words 1)) (files (word_of words 2)) p plans
@@ -41,6 +47,7 @@ module _ (words : List (List ℕ)) (p : DesignParts) (plans : Plans) (text repor
         made = made;
         text = text;
         is_text = texts.is_text;
+        short = controller_short text texts.controller texts.is_text;
         report = report;
         is_report = texts.is_report;
         controller_file = first.here;
@@ -51,7 +58,7 @@ module _ (words : List (List ℕ)) (p : DesignParts) (plans : Plans) (text repor
   pub controller_cut : IsCutShort files new (word_of words 3) text → IsControllerCut words files new
   controller_cut cut = record { controller = texts.controller; bounds = texts.bounds; made = made; text = text; is_text = texts.is_text; cut = cut }
 
-  pub report_cut : word_of words 4 ≢ word_of words 3 → IsSecondCut files new (word_of words 3) (word_of words 4) text report → IsReportCut words files new
+  abbrev pub report_cut : word_of words 4 ≢ word_of words 3 → IsSecondCut files new (word_of words 3) (word_of words 4) text report → IsReportCut words files new
   report_cut apart written =
       let first = first_stands files written.mid new (word_of words 3) (word_of words 4) text apart written.first written.second.others in
       record {
@@ -60,6 +67,7 @@ module _ (words : List (List ℕ)) (p : DesignParts) (plans : Plans) (text repor
         made = made;
         text = text;
         is_text = texts.is_text;
+        short = controller_short text texts.controller texts.is_text;
         report = report;
         is_report = texts.is_report;
         controller_file = first.here;

@@ -1,5 +1,5 @@
 -- What `generate` is called to answer by what its first two files hold, and what it leaves in the store.
-use Rattle.std.specs.Prelude.{◌≡◌, ◌≢◌, ◌⊎◌, ℕ, List, Option, Some, IsSomeAnd}
+use Rattle.std.specs.Prelude.{◌≡◌, ◌≢◌, ◌⊎◌, ℕ, ◌≤◌, List, length, Option, Some, IsSomeAnd}
 use Rattle.io_edge.specs.Faults.{Files, IsCutShort, IsProperPrefix}
 use Rattle.qp_model.specs.problem.Policy.{Plans}
 use Rattle.qp_model.specs.problem.Parts.{design_of}
@@ -41,14 +41,15 @@ pub record IsMadeFrom (design policy : Option (List ℕ)) (c : Numbers) (b : Pri
   pub certified : IsCertified (design_of p) c b
   pub targets : IsWithinTargets (targets_of p) b
 
--- The third name holds the text of a controller, and the fourth the report of its bounds; every other name holds what it held. They are those of
--- the design and the policy that the first two names held.
+-- The third name holds the text of a controller, no longer than a file may be, and the fourth the report of its bounds; every other name holds what it held.
+-- They are those of the design and the policy that the first two names held.
 pub record IsGenerated (words : List (List ℕ)) (files new : Files) : Type 0 where
   pub controller : Numbers
   pub bounds : Printed
   pub made : IsMadeFrom (files (word_of words 1)) (files (word_of words 2)) controller bounds
   pub text : List ℕ
   pub is_text : IsControllerText text controller
+  pub short : length text ≤ file_limit
   pub report : List ℕ
   pub is_report : IsReport (word_of words 4) bounds report
   pub controller_file : new (word_of words 3) ≡ Some text
@@ -71,6 +72,7 @@ pub record IsReportCut (words : List (List ℕ)) (files new : Files) : Type 0 wh
   pub made : IsMadeFrom (files (word_of words 1)) (files (word_of words 2)) controller bounds
   pub text : List ℕ
   pub is_text : IsControllerText text controller
+  pub short : length text ≤ file_limit
   pub report : List ℕ
   pub is_report : IsReport (word_of words 4) bounds report
   pub controller_file : new (word_of words 3) ≡ Some text

@@ -1,6 +1,6 @@
 -- The two texts and how they are written, on the way.
-use Rattle.std.specs.Prelude.{ℕ, List, Option}
-use Rattle.io_edge.specs.Faults.{Files, Rose, IsWritten, IsCutShort}
+use Rattle.std.specs.Prelude.{◌≡◌, ◌⊎◌, ℕ, List, Option}
+use Rattle.io_edge.specs.Faults.{Files, IsWritten, IsCutShort}
 use Rattle.qp_model.specs.problem.Policy.{Plans}
 use Rattle.qp_model.specs.machine.Controller.{Numbers}
 use Rattle.qp_model.specs.text.ControllerText.{IsControllerText}
@@ -8,10 +8,12 @@ use Rattle.qp_model.specs.declared.design_parts.DesignParts.{DesignParts}
 use Rattle.qp_model.specs.bounds.Printed.{Printed}
 use Rattle.command_line.specs.Words.{word_of}
 use Rattle.command_line.specs.Answers.{ForContents, IsAnswer}
-use Rattle.command_generate.specs.Made.{IsMadeOf, IsReport}
+use Rattle.command_generate.specs.Made.{MakingCalls, IsMadeOf, IsReport}
 use Rattle.command_generate.specs.Generate.{GenerateCalls, GenerateReaches}
 use Rattle.command_generate.specs.Inputs.{AreInputsRead}
+use Rattle.command_generate.specs.Ending.{IsFaultless, EndsUnwritten}
 use Rattle.command_line.specs.declared.status.Status.{Status}
+use Rattle.command_line.specs.declared.status.Status.TheVariants.{Memory}
 
 -- the text of a controller, and the report of its bounds, both made of a design with a policy
 pub record AreTextsFor (p : DesignParts) (plans : Plans) (report_name text report : List ℕ) : Type 0 where
@@ -20,6 +22,10 @@ pub record AreTextsFor (p : DesignParts) (plans : Plans) (report_name text repor
   pub made : IsMadeOf p plans controller bounds
   pub is_text : IsControllerText text controller
   pub is_report : IsReport report_name bounds report
+
+-- out of memory, or a design with a policy calls for this status, and for no other
+abbrev pub IsMakingRefused : DesignParts → Plans → Status → Type 0
+IsMakingRefused p plans s = (s ≡ Memory) ⊎ (IsAnswer (MakingCalls p plans) s × IsFaultless s)
 
 -- two names hold these bytes now, written one after the other
 pub record AreWritten (old new : Files) (third fourth text report : List ℕ) : Type 0 where
@@ -45,7 +51,6 @@ pub record AreTextsFrom (words : List (List ℕ)) (held : Option Files) (text re
 abbrev pub IsAnswered : List (List ℕ) → Option Files → Status → Type 0
 IsAnswered words held s = ForContents words held (λ contents. IsAnswer (GenerateCalls (contents 1) (contents 2)) s)
 
--- the file at this position was to be read, and the count of its faults rose
-abbrev pub IsReadFault : List (List ℕ) → Option Files → (before now : List ℕ → ℕ) → ℕ → Type 0
-IsReadFault words held before now file =
-    ForContents words held (λ contents. GenerateReaches (contents 1) file) × Rose (before (word_of words file)) (now (word_of words file))
+-- the run ends with this status before anything is written
+abbrev pub EndsGenerate : List (List ℕ) → Option Files → (before now : List ℕ → ℕ) → Status → Type 0
+EndsGenerate words held before now s = EndsUnwritten (λ k. GenerateCalls (k 1) (k 2)) (λ k. GenerateReaches (k 1)) words held before now s

@@ -1,14 +1,14 @@
 // The texts that are written.
-ghost use Rattle.std.specs.Prelude.{◌≡◌, ◌≢◌, ◌⊎◌, ℕ, IfOk, IfErr, IfSome, IsSomeAnd};
+ghost use Rattle.std.specs.Prelude.{◌≡◌, ◌≢◌, ◌⊎◌, IfOk, IfErr, IfSome, IsSomeAnd};
 ghost use Rattle.io_edge.specs.Faults.{Rose, NoneFalls, IsCutShort};
 ghost use Rattle.qp_model.specs.problem.Parts.{design_of};
 ghost use Rattle.qp_model.specs.problem.Policy.{plans_of, IsPolicyFor};
 ghost use Rattle.qp_model.specs.bounds.Printed.{printed};
 ghost use Rattle.qp_model.specs.text.ControllerText.{IsControllerText};
 ghost use Rattle.command_line.specs.Words.{IsGenerate};
-ghost use Rattle.command_line.specs.Answers.{IsAnswer, IsCaused};
+ghost use Rattle.command_line.specs.Answers.{IsAnswer};
 ghost use Rattle.command_generate.specs.Made.{MakingCalls, IsReport};
-ghost use Rattle.command_generate.specs.Writing.{AreTextsFor, AreTextsFrom, AreWritten, IsAnswered, IsReadFault, IsSecondCut};
+ghost use Rattle.command_generate.specs.Writing.{AreTextsFor, AreTextsFrom, AreWritten, IsAnswered, IsMakingRefused, IsSecondCut, EndsGenerate};
 
 use crate::inputs::read_inputs;
 use crate::made::make_controller;
@@ -48,8 +48,7 @@ fn texts_of(
     requires { IsPolicyFor (design_of design.now) (plans_of policy.now) }
     ensures texts { IfOk result (λ t. AreTextsFor design.now (plans_of policy.now) report_name.now t.controller.items t.report.items) }
     ensures called { IfOk result (λ _. IsAnswer (MakingCalls design.now (plans_of policy.now)) Status.Done) }
-    ensures refused { IfErr result (λ e. (e ≡ Status.Memory) ⊎ IsAnswer (MakingCalls design.now (plans_of policy.now)) e) }
-    ensures not_done { IfErr result (λ e. e ≢ Status.Done) }
+    ensures refused { IfErr result (IsMakingRefused design.now (plans_of policy.now)) }
 {
     let made = make_controller(alloc, design, policy)?;
     texts_made(alloc, &made, report_name)
@@ -71,11 +70,7 @@ pub fn texts_for<S: Store>(alloc: Global, words: &Words, store: &mut S) -> Resul
     requires { IsGenerate words.now }
     ensures texts { IfOk result (λ t. AreTextsFrom words.now (S.held store.old) t.controller.items t.report.items) }
     ensures called { IfOk result (λ _. IsAnswered words.now (S.held store.old) Status.Done) }
-    ensures refused { IfErr result (λ e. IsCaused e → IsAnswered words.now (S.held store.old) e) }
-    ensures not_done { IfErr result (λ e. e ≢ Status.Done) }
-    ensures no_write { IfErr result (λ e. (file : ℕ) → e ≢ Status.WriteFault file) }
-    ensures read_fault { IfErr result (λ e.
-        (file : ℕ) → e ≡ Status.ReadFault file → IsReadFault words.now (S.held store.old) (S.read_faults store.old) (S.read_faults store.new) file) }
+    ensures ends { IfErr result (EndsGenerate words.now (S.held store.old) (S.read_faults store.old) (S.read_faults store.new)) }
     ensures held { S.held store.new ≡ S.held store.old }
     ensures reads { NoneFalls (S.read_faults store.old) (S.read_faults store.new) }
     ensures writes { NoneFalls (S.write_faults store.old) (S.write_faults store.new) }

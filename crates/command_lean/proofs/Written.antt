@@ -8,7 +8,7 @@ use Rattle.command_line.specs.Answers.{FileHolds}
 use Rattle.command_design_files.specs.Texts.{PolicyRight}
 use Rattle.command_generate.specs.Writing.{AreWritten, IsSecondCut}
 use Rattle.command_generate.proofs.TwoTexts.{MakesTwo, first_stands, kept_or_front}
-use Rattle.command_generate.proofs.Written.{inputs_of}
+use Rattle.command_generate.proofs.Written.{controller_short, inputs_of}
 use Rattle.command_lean.specs.Lean.{IsMadeOfFiles, IsLeanWritten, IsLeanControllerCut, IsLeanReportCut}
 use Rattle.command_lean.specs.Reading.{lean_calls, AreLeanInputsRead, AreLeanTextsFrom}
 
@@ -34,6 +34,7 @@ module _ (words : List (List ℕ)) (text report : List ℕ) (held : Option Files
         made = made;
         text = text;
         is_text = from.texts.is_text;
+        short = controller_short text from.texts.controller from.texts.is_text;
         report = report;
         is_report = from.texts.is_report;
         controller_file = first.here;
@@ -44,7 +45,7 @@ module _ (words : List (List ℕ)) (text report : List ℕ) (held : Option Files
   pub first_cut : IsCutShort files new (word_of words 4) text → IsLeanControllerCut words files new
   first_cut cut = record { controller = from.texts.controller; bounds = from.texts.bounds; made = made; text = text; is_text = from.texts.is_text; cut = cut }
 
-  pub second_cut : word_of words 5 ≢ word_of words 4 → IsSecondCut files new (word_of words 4) (word_of words 5) text report → IsLeanReportCut words files new
+  abbrev pub second_cut : word_of words 5 ≢ word_of words 4 → IsSecondCut files new (word_of words 4) (word_of words 5) text report → IsLeanReportCut words files new
   second_cut apart written =
       let first = first_stands files written.mid new (word_of words 4) (word_of words 5) text apart written.first written.second.others in
       record {
@@ -53,6 +54,7 @@ module _ (words : List (List ℕ)) (text report : List ℕ) (held : Option Files
         made = made;
         text = text;
         is_text = from.texts.is_text;
+        short = controller_short text from.texts.controller from.texts.is_text;
         report = report;
         is_report = from.texts.is_report;
         controller_file = first.here;

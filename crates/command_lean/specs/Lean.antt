@@ -1,5 +1,5 @@
 -- What `lean` is called to answer by what its first three files hold, and what it leaves in the store.
-use Rattle.std.specs.Prelude.{◌≡◌, ◌≢◌, ◌⊎◌, ℕ, List, Option, Some, IsSomeAnd}
+use Rattle.std.specs.Prelude.{◌≡◌, ◌≢◌, ◌⊎◌, ℕ, ◌≤◌, List, length, Option, Some, IsSomeAnd}
 use Rattle.io_edge.specs.Faults.{Files, IsCutShort, IsProperPrefix}
 use Rattle.qp_model.specs.problem.Policy.{Plans}
 use Rattle.qp_model.specs.problem.Parts.{design_of}
@@ -43,14 +43,15 @@ pub record IsLeanMadeFrom (design policy reference : Option (List ℕ)) (c : Num
 abbrev pub IsMadeOfFiles : (words : List (List ℕ)) → Files → Numbers → Printed → Type 0
 IsMadeOfFiles words files c b = IsLeanMadeFrom (files (word_of words 1)) (files (word_of words 2)) (files (word_of words 3)) c b
 
--- The fourth name holds the text of a controller, and the fifth the report of its bounds; every other name holds what it held. They are those of the design, the
--- policy and the reference plans that the first three names held.
+-- The fourth name holds the text of a controller, no longer than a file may be, and the fifth the report of its bounds; every other name holds what it held. They are
+-- those of the design, the policy and the reference plans that the first three names held.
 pub record IsLeanWritten (words : List (List ℕ)) (files new : Files) : Type 0 where
   pub controller : Numbers
   pub bounds : Printed
   pub made : IsMadeOfFiles words files controller bounds
   pub text : List ℕ
   pub is_text : IsControllerText text controller
+  pub short : length text ≤ file_limit
   pub report : List ℕ
   pub is_report : IsReport (word_of words 5) bounds report
   pub controller_file : new (word_of words 4) ≡ Some text
@@ -73,6 +74,7 @@ pub record IsLeanReportCut (words : List (List ℕ)) (files new : Files) : Type 
   pub made : IsMadeOfFiles words files controller bounds
   pub text : List ℕ
   pub is_text : IsControllerText text controller
+  pub short : length text ≤ file_limit
   pub report : List ℕ
   pub is_report : IsReport (word_of words 5) bounds report
   pub controller_file : new (word_of words 4) ≡ Some text

@@ -3,3 +3,4 @@ pub mod Excesses
 pub mod Calling
 pub mod Opening
 pub mod Written
+pub mod Row

@@ -15,18 +15,18 @@ use Rattle.command_stay.specs.Generating.Engine.Targets.{targets_of, violation_t
 use Rattle.command_stay.specs.Generating.Engine.Bounds.{stated_cost}
 use Rattle.command_line.specs.Words.{word_of, IsLeanStay}
 use Rattle.command_line.specs.declared.status.Status.TheVariants.{Done}
-use Rattle.command_stay.specs.Generating.Writing.{AreWritten}
+use Rattle.command_stay.specs.Generating.Writing.{AreWritten, IsSecondCut}
 use Rattle.command_stay.proofs.Generating.TwoTexts.{MakesTwo}
 use Rattle.command_stay.specs.Checking.{IsKeptWith}
-use Rattle.command_stay.specs.Stay.{KeepsLoops}
-use Rattle.command_stay.proofs.Written.{range_in, no_range, undisturbed}
+use Rattle.command_stay.specs.Stay.{KeepsLoops, LoopsStay}
+use Rattle.command_stay.proofs.Written.{loops_stay}
 use Rattle.command_lean.specs.Made.{IsLeanMadeOf}
-use Rattle.command_lean.specs.Lean.{IsLeanControllerCut, IsLeanReportCut}
+use Rattle.command_lean.specs.Lean.{IsLeanControllerCut}
 use Rattle.command_lean.specs.Reading.{AreLeanTextsFrom}
 use Rattle.command_lean.proofs.Opening as lean
 use Rattle.command_lean.proofs.Written.{both_written, first_cut, second_cut}
 use Rattle.command_lean_stay.specs.Excess.{made_lean_excess}
-use Rattle.command_lean_stay.specs.LeanStay.{LeanStayCallsFor, IsLeanStayed}
+use Rattle.command_lean_stay.specs.LeanStay.{LeanStayCallsFor, IsLeanStayed, IsLeanStayReportCut}
 use Rattle.command_lean_stay.specs.Reading.{AreLeanStayFilesRead, AreLeanTextsUnder}
 use Rattle.command_lean_stay.proofs.Excesses.{covers}
 
@@ -60,32 +60,27 @@ module _ (disturbed : Bool) (words : List (List ℕ)) (text report : List ℕ) (
     answer = lean.all_right words held from.p from.read.inputs.design from.plans from.read.inputs.policy from.references from.read.inputs.reference Done from.texts.texts.answer;
   }
 
-  pub stayed : (files new : Files) → AreLeanStayFilesRead disturbed words (Some files) from.p from.plans from.references from.faces from.range → word_of words 5 ≢ word_of words 4 →
-      AreWritten files new (word_of words 4) (word_of words 5) text report → IsLeanStayed disturbed words files new
-  stayed files new read apart written =
-      let here = range_in disturbed 7 words files (design_of from.p).states from.range read.range_taken in
-      record {
-        written = both_written words text report held lean_from files new read.inputs apart written;
-        range = from.range;
-        is_range = here;
-        stays = from.texts.keeps;
-        undisturbed = λ is. undisturbed from.p from.texts.texts.controller from.texts.texts.bounds from.range (no_range disturbed 7 words files (design_of from.p).states from.range is here) from.texts.keeps;
-      }
+  module _ (files new : Files) (read : AreLeanStayFilesRead disturbed words (Some files) from.p from.plans from.references from.faces from.range) where
+    abbrev loops : LoopsStay disturbed 7 words files from.p from.texts.texts.controller from.texts.texts.bounds
+    loops = loops_stay disturbed 7 words files from.p from.texts.texts.controller from.texts.texts.bounds from.range read.range_taken from.texts.keeps
+
+    pub stayed : word_of words 5 ≢ word_of words 4 → AreWritten files new (word_of words 4) (word_of words 5) text report → IsLeanStayed disturbed words files new
+    stayed apart written = record { written = both_written words text report held lean_from files new read.inputs apart written; loops = loops }
+
+    pub report_cut : word_of words 5 ≢ word_of words 4 → IsSecondCut files new (word_of words 4) (word_of words 5) text report → IsLeanStayReportCut disturbed words files new
+    report_cut apart cut = record { cut = second_cut words text report held lean_from files new read.inputs apart cut; loops = loops }
 
 -- the texts of a design, a policy and reference plans, whose loops stay in the box, for the command that writes them
 pub lean_stay_made : (disturbed : Bool) (words : List (List ℕ)) → IsLeanStay words disturbed → (text report : List ℕ) (held : Option Files) → AreLeanTextsUnder disturbed words held text report →
-    MakesTwo (LeanStayCallsFor disturbed) 4 5 (IsLeanStayed disturbed words) (IsLeanControllerCut words) (IsLeanReportCut words) words held text report
+    MakesTwo (LeanStayCallsFor disturbed) 4 5 (IsLeanStayed disturbed words) (IsLeanControllerCut words) (IsLeanStayReportCut disturbed words) words held text report
 lean_stay_made disturbed words is text report held from = record {
   Read = λ o. AreLeanStayFilesRead disturbed words o from.p from.plans from.references from.faces from.range;
   read = from.read;
   answer = from.answer;
   both = λ files new read are. stayed disturbed words text report held from files new read apart are;
-  first_cut = λ files new read cut. first_cut words text report held plain files new read.inputs cut;
-  second_cut = λ files new read cut. second_cut words text report held plain files new read.inputs apart cut;
+  first_cut = λ files new read cut. first_cut words text report held (lean_from disturbed words text report held from) files new read.inputs cut;
+  second_cut = λ files new read cut. report_cut disturbed words text report held from files new read apart cut;
 }
   where
-    plain : AreLeanTextsFrom words held text report
-    plain = lean_from disturbed words text report held from
-
     apart : word_of words 5 ≢ word_of words 4
     apart e = is.report 4 (omega arith) (omega (arith, seven_names disturbed _ is.count)) (λ k. omega (arith, k)) (sym e)

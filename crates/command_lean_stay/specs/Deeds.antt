@@ -4,14 +4,14 @@ use Rattle.io_edge.specs.Faults.{Files}
 use Rattle.command_line.specs.Deeds.{Deeds}
 use Rattle.command_line.specs.declared.status.Status.{Status}
 use Rattle.command_line.specs.declared.status.Status.TheVariants.{Done, WriteFault}
-use Rattle.command_lean.specs.Lean.{IsLeanControllerCut, IsLeanReportCut}
-use Rattle.command_lean_stay.specs.LeanStay.{LeanStayCallsFor, LeanStayReachesFor, IsLeanStayed}
+use Rattle.command_lean.specs.Lean.{IsLeanControllerCut}
+use Rattle.command_lean_stay.specs.LeanStay.{LeanStayCallsFor, LeanStayReachesFor, IsLeanStayed, IsLeanStayReportCut}
 
 -- by the answer: both texts stand, or the write of one of them was cut short
 pub record LeanStayLeaves (disturbed : Bool) (words : List (List ℕ)) (s : Status) (old new : Option Files) : Type 0 where
   pub stayed : s ≡ Done → IfSome old (λ files. IsSomeAnd new (IsLeanStayed disturbed words files))
   pub controller_cut : s ≡ WriteFault 4 → IfSome old (λ files. IsSomeAnd new (IsLeanControllerCut words files))
-  pub report_cut : s ≡ WriteFault 5 → IfSome old (λ files. IsSomeAnd new (IsLeanReportCut words files))
+  pub report_cut : s ≡ WriteFault 5 → IfSome old (λ files. IsSomeAnd new (IsLeanStayReportCut disturbed words files))
 
 abbrev pub lean_stay_deeds : (disturbed : Bool) → Deeds
 lean_stay_deeds disturbed = record {

@@ -1,14 +1,11 @@
 -- What `lean` with faces is called to answer by what its files hold, and what it leaves in the store.
-use Rattle.std.specs.Prelude.{◌≡◌, ◌⊎◌, ℕ, Bool, true, false, ℤ, List, Option}
+use Rattle.std.specs.Prelude.{◌≡◌, ◌⊎◌, ℕ, Bool, true, List, Option}
 use Rattle.io_edge.specs.Faults.{Files}
 use Rattle.mat_int.specs.Matrix.{Matrix}
 use Rattle.qp_model.specs.problem.Policy.{Plans}
 use Rattle.qp_model.specs.problem.Parts.{design_of}
-use Rattle.qp_model.specs.machine.Machine.{IsAdmissible}
-use Rattle.qp_model.specs.machine.Successor.{state_after}
 use Rattle.qp_model.specs.declared.design_parts.DesignParts.{DesignParts}
 use Rattle.stay_check.specs.FaceForms.{FaceNumbers}
-use Rattle.stay_check.specs.LoopStay.{IsKeptAt}
 use Rattle.command_stay.specs.Generating.Engine.Targets.{targets_of}
 use Rattle.command_line.specs.Limit.{file_limit}
 use Rattle.command_line.specs.Answers.{Contents, FileHolds}
@@ -18,9 +15,9 @@ use Rattle.command_stay.specs.Files.Texts.{FacesRight}
 use Rattle.command_stay.specs.DesignFiles.Reading.{ReadsDesign, ReadsPolicy}
 use Rattle.command_stay.specs.Files.Reading.{ReadsFaces}
 use Rattle.command_stay.specs.Generating.Generate.{HoldsInputs}
-use Rattle.command_stay.specs.Stay.{FacedCalls, ReadsShifts, IsRangeIn, KeepsLoops}
+use Rattle.command_stay.specs.Stay.{FacedCalls, ReadsShifts, LoopsStay}
 use Rattle.command_lean.specs.Made.{IsLeanRefusedBy}
-use Rattle.command_lean.specs.Lean.{IsLeanWritten}
+use Rattle.command_lean.specs.Lean.{IsLeanWritten, IsLeanReportCut}
 use Rattle.command_lean_stay.specs.Excess.{AreStatedLeanExcesses}
 
 -- ---- the answer
@@ -65,12 +62,12 @@ LeanStayReachesFor disturbed contents file = LeanStayReaches disturbed (contents
 
 -- ---- what is written
 -- The fourth name holds the text of a controller and the fifth the report of its bounds, as `lean` leaves them: made leanly of the design, the policy and the
--- reference plans in the first three, and certified. And its closed loop stays in the box, under all shifts of the range; without disturbances, as `loop`
--- runs it.
+-- reference plans in the first three, and certified. And its closed loop stays in the box, as that of `stay`.
 pub record IsLeanStayed (disturbed : Bool) (words : List (List ℕ)) (files new : Files) : Type 0 where
   pub written : IsLeanWritten words files new
-  pub range : Matrix
-  pub is_range : IsRangeIn disturbed 7 words files (design_of written.made.p).states range
-  pub stays : KeepsLoops written.made.p written.controller written.bounds range
-  pub undisturbed : disturbed ≡ false → (start : List ℤ) → IsAdmissible written.controller start → (turns : ℕ) →
-      IsKeptAt (design_of written.made.p) written.controller written.bounds (state_after (design_of written.made.p) written.controller start turns)
+  pub loops : LoopsStay disturbed 7 words files written.made.p written.controller written.bounds
+
+-- so it does where the report was cut short: the controller's text stands whole
+pub record IsLeanStayReportCut (disturbed : Bool) (words : List (List ℕ)) (files new : Files) : Type 0 where
+  pub cut : IsLeanReportCut words files new
+  pub loops : LoopsStay disturbed 7 words files cut.made.p cut.controller cut.bounds

@@ -5,3 +5,4 @@ pub mod Status
 pub mod StatusLine
 pub mod Answers
 pub mod Deeds
+pub mod Does

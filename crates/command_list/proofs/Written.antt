@@ -9,14 +9,23 @@ use Rattle.mac_listing.proofs.Sizes.{text_short}
 use Rattle.command_line.specs.Words.{word_of}
 use Rattle.command_line.specs.Limit.{file_limit}
 use Rattle.command_line.specs.Answers.{Contents, ForContents, FileHolds, IsAnswer, IsCaused}
-use Rattle.command_line.proofs.Composing.{told_at, told, three_contents, for_contents, stop, go_on_whole}
+use Rattle.command_line.proofs.Composing.{told_at, told, three_contents, for_contents, some_contents, stop, go_on_whole}
+use Rattle.command_line.proofs.Doing.{IsRow, done_telling}
 use Rattle.command_line.specs.declared.status.Status.{Status}
 use Rattle.command_line.specs.declared.status.Status.TheVariants.{Done, Memory, ReadFault, WriteFault}
 use Rattle.command_files.specs.Texts.{ControllerRight, ControllerWrong}
 use Rattle.command_files.specs.Reading.{IsControllerRead, EndsController}
-use Rattle.command_design_files.proofs.Stopping.{why_refused, not_done, no_write, its_fault}
+use Rattle.command_design_files.proofs.Stopping.{why_refused, not_done, no_write, its_fault, then_telling}
 use Rattle.command_files.proofs.Stopping.{controller_refused}
 use Rattle.command_list.specs.Listed.{ListCalls, IsListingFrom, IsListed, IsListingCut}
+use Rattle.command_list.specs.Deeds.{list_deeds}
+
+-- ---- its row of the table
+pub list_row : IsRow list_deeds
+list_row = record {
+  reached = λ contents file first. first;
+  telling = λ contents. then_telling file_limit 1 (ControllerWrong 1) ControllerRight (contents 1) (λ c t. t ≡ Done) (controller_refused 1) (λ c. done_telling);
+}
 
 -- ---- the file ends it
 module _ (words : List (List ℕ)) (held : Option Files) (before now : ℕ) (s : Status) (ends : EndsController 1 held (word_of words 1) before now s) where
@@ -33,10 +42,10 @@ module _ (words : List (List ℕ)) (held : Option Files) (before now : ℕ) (s :
   ended_no_write = no_write file_limit 1 (ControllerWrong 1) ControllerRight held (word_of words 1) before now s (controller_refused 1) ends
 
 pub ended_fault : (words : List (List ℕ)) (held : Option Files) (before now : List ℕ → ℕ) (s : Status) → EndsController 1 held (word_of words 1) (before (word_of words 1)) (now (word_of words 1)) s →
-    (file : ℕ) → s ≡ ReadFault file → (file ≡ 1) × Rose (before (word_of words file)) (now (word_of words file))
+    (file : ℕ) → s ≡ ReadFault file → ForContents words held (λ contents. file ≡ 1) × Rose (before (word_of words file)) (now (word_of words file))
 ended_fault words held before now s ends file is =
     let found = its_fault file_limit 1 (ControllerWrong 1) ControllerRight held (word_of words 1) (before (word_of words 1)) (now (word_of words 1)) s (controller_refused 1) ends file is in
-    (found.0, subst (λ (i : ℕ). Rose (before (word_of words i)) (now (word_of words i))) (sym found.0) found.1)
+    (some_contents words held (λ contents. file ≡ 1) (λ contents. found.0), subst (λ (i : ℕ). Rose (before (word_of words i)) (now (word_of words i))) (sym found.0) found.1)
 
 -- ---- the file is right
 module _ (words : List (List ℕ)) (held : Option Files) (c : Numbers) (first : IsControllerRead 1 held (word_of words 1) c) where

@@ -4,3 +4,4 @@ pub mod Uniqueness
 pub mod Opening
 pub mod Looping
 pub mod Answering
+pub mod Row

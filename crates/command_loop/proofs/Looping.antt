@@ -190,8 +190,11 @@ module _ (d : Design) (c : Numbers) (l : Course) (m : Matrix) (turns : ℕ) wher
       within = g.within;
       inside = g.inside;
       part = record_lines l m turns i ++ g.part;
-      rest = g.rest;
-      is = ap (λ (t : List ℕ). record_lines l m turns i ++ t) g.is ∙ sym (append_assoc (record_lines l m turns i) g.part g.rest);
+      proper = record {
+        rest = g.proper.rest;
+        is = ap (λ (t : List ℕ). record_lines l m turns i ++ t) g.proper.is ∙ sym (append_assoc (record_lines l m turns i) g.part g.proper.rest);
+        proper = g.proper.proper;
+      };
       printed = g.grown ∙ append_assoc old (record_lines l m turns i) g.part;
     };
     memory = λ e. absurd (let never : ⊥ = cc in never);

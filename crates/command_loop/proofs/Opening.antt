@@ -25,7 +25,9 @@ use Rattle.command_design_files.proofs.Designs.{same_design}
 use Rattle.command_loop.specs.Loop.{IsMismatch, LoopsCall, ReadsLoopShifts, LoopCalls, LoopReaches, HoldsLoopShifts, course_of}
 use Rattle.command_loop.specs.Files.{EndsMatching, AreShiftsTaken, EndsTakingShifts, EndsStarts, IsLoopRefused, EndsLoops}
 use Rattle.command_loop.specs.Printing.{AreRowsFor, AreShiftsFor}
-use Rattle.command_loop.proofs.Refusals.{IsRefusal, design_refusal, controller_refusal, states_refusal, shifts_refusal, mismatch_refusal}
+use Rattle.command_design_files.proofs.Stopping.{IsRefusal, design_refused}
+use Rattle.command_files.proofs.Stopping.{controller_refused, states_refused, shifts_refused}
+use Rattle.command_loop.proofs.Refusals.{mismatch_refusal}
 use Rattle.command_loop.proofs.Uniqueness.{one_mismatch, not_matched}
 
 -- what comes after the states, the controller and the design
@@ -88,7 +90,7 @@ module _ (disturbed : Bool) (turns : ℕ) (words : List (List ℕ)) (held : Opti
       go t (inr call) = absurd (not_matched d c s call.0 mismatch)
 
   refused : (s : Status) → ForContents words held (Called s) → IsRefusal s → IsLoopRefused disturbed turns words held s
-  refused s called r = record { called = called; done = r.done; memory = r.memory; read = r.read; write = r.write; leaving = r.leaving }
+  refused s called r = record { called = called; done = r.done; memory = r.memory; read = r.read; write = r.write; leaving = λ told. r.outside told.0 told.1 told.2 told.3 }
 
   -- ---- what ends the later files ends them all
   ends_later : (before mid now : List ℕ → ℕ) (s : Status) → NoneFalls before mid → NoneFalls mid now → EndsLoops disturbed turns words held mid now s → EndsLoops disturbed turns words held before now s
@@ -127,7 +129,7 @@ module _ (disturbed : Bool) (turns : ℕ) (words : List (List ℕ)) (held : Opti
       refused s
       (for_four words held (Called s) wrong.content second third fifth wrong.told (told held (word_of words 2)) (told held (word_of words 3)) (told held (word_of words 5))
       (stop file_limit 1 (DesignWrong 1) DesignRight held (word_of words 1) s wrong (AfterDesign disturbed second third fifth turns)))
-      (design_refusal 1 wrong.content s wrong.answer.called)))
+      (design_refused 1 wrong.content s wrong.answer.called)))
 
   -- ---- the design is right
   module _ (p : DesignParts) (design : IsDesignRead 1 held (word_of words 1) p) where
@@ -153,7 +155,7 @@ module _ (disturbed : Bool) (turns : ℕ) (words : List (List ℕ)) (held : Opti
         (for_four words held (Called s) design.content wrong.content third fifth design.told wrong.told (told held (word_of words 3)) (told held (word_of words 5))
         (with_design wrong.content third fifth s
         (stop file_limit 2 (ControllerWrong 2) ControllerRight held (word_of words 2) s wrong (AfterController disturbed third fifth turns (design_of p)))))
-        (controller_refusal 2 wrong.content s wrong.answer.called)))
+        (controller_refused 2 wrong.content s wrong.answer.called)))
     second_ends before now s (inr (inr (inr other))) = inr (inr (
         refused s
         (for_four words held (Called s) design.content other.right.content third fifth design.told other.right.told (told held (word_of words 3)) (told held (word_of words 5))
@@ -187,7 +189,7 @@ module _ (disturbed : Bool) (turns : ℕ) (words : List (List ℕ)) (held : Opti
           (for_four words held (Called s) design.content controller.content wrong.content fifth design.told controller.told wrong.told (told held (word_of words 5))
           (with_both wrong.content fifth s
           (stop file_limit 3 (StatesWrong c.states 3) (StatesRight c.states) held (word_of words 3) s wrong (AfterStates disturbed fifth turns (design_of p) c))))
-          (states_refusal c.states 3 wrong.content s wrong.answer.called)))
+          (states_refused c.states 3 wrong.content s wrong.answer.called)))
 
       -- ---- the states are right
       module _ (m : Matrix) (states : AreStatesRead c.states 3 held (word_of words 3) m) where
@@ -225,7 +227,7 @@ module _ (turns : ℕ) (words : List (List ℕ)) (held : Option Files) (p : Desi
       (for_four words held (Called true turns words held s) design.content controller.content states.content wrong.content design.told controller.told states.told wrong.told
       (with_states true turns words held p design c controller for m states wrong.content s
       (stop file_limit 5 (ShiftsWrong c.states turns 5) (ShiftsRight c.states turns) held (word_of words 5) s wrong (λ v. LoopsCall (design_of p) c (course_of (design_of p) c (Some v)) turns m))))
-      (shifts_refusal c.states turns 5 wrong.content s wrong.answer.called)))
+      (shifts_refused c.states turns 5 wrong.content s wrong.answer.called)))
   shifts_end false before now s never = absurd never
 
 -- ---- the states' file, or that of the shifts, ends it

@@ -1,5 +1,6 @@
 -- What `loop` is called to answer by what its files hold, and what it prints.
 use Rattle.std.specs.Prelude.{◌≡◌, ◌≢◌, ◌⊎◌, ℕ, zero, suc, ◌+◌, ◌-◌, ◌^◌, ◌<◌, ◌≤◌, ℤ, pos, Bool, true, false, List, [], ◌++◌, length, Option, Some, None}
+use Rattle.io_edge.specs.Faults.{IsProperPrefix}
 use Rattle.mat_int.specs.Matrix.{Matrix, row_of}
 use Rattle.qp_model.specs.problem.Design.{Design}
 use Rattle.qp_model.specs.problem.Parts.{design_of}
@@ -166,7 +167,7 @@ pub record AreTurns (d : Design) (c : Numbers) (l : Course) (turns : ℕ) (m : M
   pub inside : LieInside c (l.states (row_of m index)) some
   pub printed : new ≡ old ++ lines_to l m turns index some
 
--- the same, where the last line may be cut off
+-- the same, where the last line is cut off: a part of these lines, and not all of them
 pub record ArePrefix (d : Design) (c : Numbers) (l : Course) (turns : ℕ) (m : Matrix) (old new : List ℕ) : Type 0 where
   pub fits : FitsTurn d c m
   pub index : ℕ
@@ -176,8 +177,7 @@ pub record ArePrefix (d : Design) (c : Numbers) (l : Course) (turns : ℕ) (m : 
   pub within : some ≤ turns
   pub inside : LieInside c (l.states (row_of m index)) some
   pub part : List ℕ
-  pub rest : List ℕ
-  pub is : lines_to l m turns index some ≡ part ++ rest
+  pub proper : IsProperPrefix (lines_to l m turns index some) part
   pub printed : new ≡ old ++ part
 
 -- what the files hold, and of it this

@@ -1,9 +1,7 @@
 // `loop` with its arguments.
-ghost use Rattle.std.specs.Prelude.{◌≡◌, ◌≢◌, ◌⊎◌, ℕ, ◌≤◌, Bool, IfSome, IsSomeAnd};
-ghost use Rattle.io_edge.specs.Faults.{Rose, NoneFalls};
-ghost use Rattle.command_line.specs.Words.{word_of, IsLoop};
-ghost use Rattle.command_line.specs.Answers.{ForContents, IsAnswer, IsCaused};
-ghost use Rattle.command_loop.specs.Loop.{LoopCalls, LoopReaches, LoopPrints, LoopStarts, TellsLeavingLater};
+ghost use Rattle.command_line.specs.Words.{IsLoop};
+ghost use Rattle.command_line.specs.Does.{Does};
+ghost use Rattle.command_loop.specs.Deeds.{loop_deeds};
 
 use crate::files::read_loops;
 use crate::records::print_loops;
@@ -23,26 +21,7 @@ pub fn run_loops<S: Store, O: Sink>(
     out: &mut O,
 ) -> Status
     requires { IsLoop words.now turns disturbed }
-    // Why: by what the files hold this answer is called for, and no other.
-    ensures called { IsCaused result → ForContents words.now (S.held store.old) (λ contents.
-        IsAnswer (LoopCalls disturbed (contents 1) (contents 2) (contents 3) (contents 5) turns) result) }
-    // What the output got.
-    ensures prints { IfSome (O.got out.old) (λ old. IsSomeAnd (O.got out.new) (λ new. ForContents words.now (S.held store.old)
-        (λ contents. LoopPrints disturbed contents turns result old new))) }
-    // A status that tells of the first state of the first record comes before anything is put.
-    ensures quiet { result ≢ Status.Done → result ≢ Status.Memory → result ≢ Status.WriteFault 0 → ¬ TellsLeavingLater result → out.new ≡ out.old }
-    // Faults. Where a print failed, a line was to be printed.
-    ensures read_fault { (file : ℕ) → result ≡ Status.ReadFault file → ForContents words.now (S.held store.old)
-        (λ contents. LoopReaches disturbed (contents 1) (contents 2) (contents 3) file)
-        × Rose (S.read_faults store.old (word_of words.now file)) (S.read_faults store.new (word_of words.now file)) }
-    ensures write_fault { (file : ℕ) → result ≡ Status.WriteFault file → (file ≡ 0)
-        × ForContents words.now (S.held store.old) (λ contents. LoopStarts disturbed contents turns)
-        × Rose (O.faults out.old) (O.faults out.new) }
-    // What stays the same.
-    ensures held { S.held store.new ≡ S.held store.old }
-    ensures reads { NoneFalls (S.read_faults store.old) (S.read_faults store.new) }
-    ensures writes { NoneFalls (S.write_faults store.old) (S.write_faults store.new) }
-    ensures no_fewer { O.faults out.old ≤ O.faults out.new }
+    ensures { Does S.Store O.Sink words.now (loop_deeds turns disturbed) store.old store.new out.old out.new result }
 {
     match read_loops(alloc, words, turns, disturbed, store) {
         Ok(loops) => print_loops(alloc, &loops, turns, out),

@@ -7,22 +7,33 @@ use Rattle.mac_listing.specs.Listing.{Instructions}
 use Rattle.command_line.specs.Words.{word_of}
 use Rattle.command_line.specs.Limit.{file_limit}
 use Rattle.command_line.specs.Answers.{ForContents, IsFileRefused, IsCaused}
+use Rattle.command_line.specs.Does.{IsTelling}
+use Rattle.command_line.proofs.Doing.{done_telling}
 use Rattle.command_line.specs.declared.status.Status.{Status}
 use Rattle.command_line.specs.declared.status.Status.TheVariants.{Done, WriteFault}
 use Rattle.command_files.specs.Texts.{StatesWrong}
 use Rattle.command_files.specs.Reading.{AreStatesRead, EndsStates}
 use Rattle.command_design_files.proofs.Stopping.{IsRefusal, long_refusal}
-use Rattle.command_files.proofs.TwoFiles.{TwoFiles, unprinted, both_contents, both_print, both_cut}
+use Rattle.command_files.proofs.TwoFiles.{TwoFiles, TwoPrinted, both_contents, both_print, both_cut}
 use Rattle.command_play.specs.Texts.{ListingRight, ListingWrong, IsListingRead, EndsListing}
 use Rattle.command_play.specs.Plays.{AreInBox, HaveRunRoom, IsTrapped, PlaysCall}
-use Rattle.command_play.specs.Play.{PlayStarts, PlayPrints, HoldsPlays, PrintsSomeRuns, TellsTrap}
+use Rattle.command_play.specs.Play.{PlayStarts, PlayPrints, HoldsPlays, PrintsSomeRuns, TellsTrap, TellsTrapLater}
 use Rattle.command_play.specs.Printing.{MayPrint, PlaysEnd, PlaysPrint, AreSome}
 use Rattle.command_play.proofs.OneCall.{one_call}
 
 -- ---- what a refused file doesn't tell
 pub listing_refused : (file : ℕ) (content : Option (List ℕ)) (s : Status) → IsFileRefused file_limit file (ListingWrong file) content s → IsRefusal s
 listing_refused file content s (inl long) = long_refusal file s long.is
-listing_refused file content s (inr wrong) = let is = wrong.right.2 in record { done = λ e. cc; memory = λ e. cc; read = λ f e. cc; write = λ f e. cc }
+listing_refused file content s (inr wrong) =
+    let is = wrong.right.2 in
+    record {
+      done = λ e. cc;
+      memory = λ e. cc;
+      read = λ f e. cc;
+      write = λ f e. cc;
+      outside = λ entry turn coordinate e. cc;
+      telling = record { usage = λ e. cc; text = λ f e. cc; controller = λ f e. cc };
+    }
 
 refused_no_trap : (limit file : ℕ) (Wrong : List ℕ → Status → Type 0) (content : Option (List ℕ)) (s : Status) →
     ((bytes : List ℕ) → Wrong bytes s → TellsTrap s → ⊥) → IsFileRefused limit file Wrong content s → TellsTrap s → ⊥
@@ -70,12 +81,22 @@ play_files = record {
   one = λ l bytes right m. one_call l m;
 }
 
--- ---- nothing printed
-pub nothing_printed : (words : List (List ℕ)) (held : Option Files) (got : Option (List ℕ)) (s : Status) → s ≢ Done → ((file : ℕ) → s ≢ WriteFault file) → (TellsTrap s → ⊥) →
-    IfSome got (λ old. IsSomeAnd got (λ new. ForContents words held (λ k. PlayPrints k s old new)))
-nothing_printed words held got s done write trap =
-    unprinted words held (λ k. PlayPrints k s)
-    (λ k old. record { done = λ is. absurd (done is); trap = λ is. absurd (trap is); fault = λ is. absurd (write 0 is); memory = λ is. inl refl; other = λ a b d e. refl }) got
+-- ---- what is called for tells, and nothing is printed where a file ends it
+pub plays_telling : (l : Instructions) (m : Matrix) (s : Status) → PlaysCall l m s → IsTelling s
+plays_telling l m s (inl outside) = let is = outside.is in record { usage = λ e. cc; text = λ at e. cc; controller = λ at e. cc }
+plays_telling l m s (inr ends) =
+    elim ends.1 [ inl trapped ↦ (let is = trapped.is in record { usage = λ e. cc; text = λ at e. cc; controller = λ at e. cc }) | inr done ↦ done_telling s done.0 ]
+
+abbrev pub play_printed : TwoPrinted Instructions
+play_printed = record {
+  files = play_files;
+  starts = PlayStarts;
+  tells = TellsTrapLater;
+  shows = PlayPrints;
+  telling = plays_telling;
+  runs = TellsTrap;
+  nothing = λ k s old done write silent. record { done = λ is. absurd (done is); trap = λ is. absurd (silent is); fault = λ is. absurd (write 0 is); memory = λ is. inl refl; other = λ a b d e. refl };
+}
 
 -- ---- both files are right
 module _ (words : List (List ℕ)) (held : Option Files) (l : Instructions) (first : IsListingRead 1 held (word_of words 1) l) (m : Matrix) (second : AreStatesRead l.states 2 held (word_of words 2) m) where

@@ -1,5 +1,5 @@
 -- Lines that are printed one after the other.
-use Rattle.std.proofs.Common.{◌≡◌, ◌⊎◌, ◌∙◌, inl, inr, ℕ, ◌+◌, ◌<◌, ℤ, List, [], ◌∷◌, ◌++◌, length, take, get_or, Option, Some, None, option_map, Result, Ok, Err, refl, sym, ap, subst, arith, append_assoc, below_more, true, false}
+use Rattle.std.proofs.Common.{◌≡◌, ◌≢◌, ◌⊎◌, ◌∙◌, inl, inr, ℕ, zero, suc, ◌+◌, ◌<◌, ℤ, List, [], ◌∷◌, ◌++◌, length, take, get_or, Option, Some, None, option_map, Result, Ok, Err, refl, sym, ap, subst, arith, append_assoc, below_more, true, false}
 use Rattle.std.specs.Prelude.{IfSome, IsSomeAnd}
 use Rattle.std.specs.Result.{is_err, OnOk, OnErr}
 use Rattle.std.specs.List.{flat_map}
@@ -11,7 +11,7 @@ use Rattle.number_text.specs.Lines.{spaced}
 use Rattle.mac_listing.specs.Listing.{Instructions}
 use Rattle.mac_machine.specs.Machine.{NeverTraps, outputs_of, after_repetitions}
 use Rattle.command_play.specs.Plays.{AreInBox, HaveRunRoom, IsTrapped, run_line, run_lines}
-use Rattle.command_play.specs.Play.{TellsTrap}
+use Rattle.command_play.specs.Play.{TellsTrapLater}
 use Rattle.command_play.specs.Printing.{TrapsFrom, PlaysEnd, PlaysPrint, ArePart}
 use Rattle.command_line.specs.declared.status.Status.{Status}
 use Rattle.command_line.specs.declared.status.Status.TheVariants.{Done, Memory, WriteFault}
@@ -114,9 +114,11 @@ none_print l m (Some old) = record {
 }
 none_print l m None = tt
 
-pub stop_some : (l : Instructions) (xi : List ℤ) (entry : ℕ) (s : Status) → (s ≡ Memory) ⊎ TrapsFrom l entry xi s → (s ≡ Done) ⊎ ((s ≡ Memory) ⊎ ((s ≡ WriteFault 0) ⊎ TellsTrap s))
-stop_some l xi entry s (inl memory) = inr (inl memory)
-stop_some l xi entry s (inr traps) = inr (inr (inr (entry, traps.step, traps.place, traps.is)))
+-- a trap that isn't later than a line is that of the first state
+pub stop_first : (l : Instructions) (xi : List ℤ) (i : ℕ) (s : Status) → (s ≡ Memory) ⊎ TrapsFrom l (i + 1) xi s → s ≢ Memory → ¬ TellsTrapLater s → i ≡ 0
+stop_first l xi i s (inl memory) some later = absurd (some memory)
+stop_first l xi zero s (inr traps) some later = refl
+stop_first l xi (suc i) s (inr traps) some later = absurd (later (suc i + 1, traps.step, traps.place, traps.is, omega arith))
 
 pub part_prints : (l : Instructions) (m : Matrix) (old new : List ℕ) → ArePart l m old new → PlaysPrint l m (WriteFault 0) old new
 part_prints l m old new part = record {

@@ -1,5 +1,5 @@
 -- The listing of a controller, played from states of its box, prints what the controller is solved to.
-use Rattle.std.proofs.Common.{◌≡◌, ◌≢◌, ◌⊎◌, ◌∙◌, inl, inr, ℕ, zero, suc, ◌+◌, ◌<◌, ◌≤◌, ℤ, List, [], ◌∷◌, ◌++◌, length, take, drop, get_or, Option, Some, None, refl, sym, ap, subst, arith, append_assoc}
+use Rattle.std.proofs.Common.{◌≡◌, ◌⊎◌, ◌∙◌, inl, inr, ℕ, zero, suc, ◌+◌, ◌<◌, ◌≤◌, ℤ, List, [], ◌∷◌, ◌++◌, length, take, drop, get_or, Option, Some, None, refl, sym, ap, subst, arith, append_assoc}
 use Rattle.std.specs.Prelude.{IfSome, IsSomeAnd}
 use Rattle.std.specs.List.{flat_map}
 use Rattle.std.proofs.lemmas.Grind.{flat_map-append}
@@ -11,6 +11,8 @@ use Rattle.qp_model.specs.machine.Controller.{Numbers}
 use Rattle.qp_model.specs.machine.AbsoluteSums.{IsController}
 use Rattle.qp_model.specs.text.ControllerText.{plan_line}
 use Rattle.mac_listing.specs.Listing.{Instructions, listing_of}
+use Rattle.mac_listing.specs.Text.{IsListingText}
+use Rattle.mac_listing.proofs.Read.{read_right}
 use Rattle.mac_machine.specs.Laws.{PlaysController}
 use Rattle.mac_machine.proofs.ListingLaw.{listing_law}
 use Rattle.plan_lines.specs.Inside.{AreInside}
@@ -18,17 +20,16 @@ use Rattle.plan_lines.specs.Lines.{plan_lines}
 use Rattle.plan_lines.specs.Printing.{ArePrinted, AreFirstLines}
 use Rattle.command_line.specs.Words.{word_of}
 use Rattle.command_line.specs.Limit.{file_limit}
-use Rattle.command_line.specs.Answers.{FileHolds, IsCaused}
+use Rattle.command_line.specs.Answers.{Contents, ForContents, FileHolds, IsAnswer, IsCaused}
 use Rattle.command_line.specs.declared.status.Status.{Status}
-use Rattle.command_line.specs.declared.status.Status.TheVariants.{Done, WriteFault}
-use Rattle.command_files.specs.Texts.{StatesRight, StatesWrong}
-use Rattle.command_files.specs.Reading.{AreStatesRead, EndsStates}
-use Rattle.command_design_files.proofs.Stopping.{why_refused}
-use Rattle.command_play.specs.Texts.{ListingRight, ListingWrong, IsListingRead, EndsListing}
+use Rattle.command_line.specs.declared.status.Status.TheVariants.{Done}
+use Rattle.command_files.specs.Texts.{StatesRight}
+use Rattle.command_files.proofs.TwoFiles.{one_content, one_states}
+use Rattle.command_play.specs.Texts.{ListingRight}
 use Rattle.command_play.specs.Plays.{AreInBox, HaveRunRoom, run_line, run_lines}
-use Rattle.command_play.specs.Printing.{PlaysEnd, PlaysPrint, ArePart, AreSome}
-use Rattle.command_play.specs.AsSolved.{HoldsListed, IsSolved, PlaysAsSolved}
-use Rattle.command_play.proofs.OneCall.{not_all_inside, not_all_room}
+use Rattle.command_play.specs.Play.{PlayCalls, PlayPrints, HoldsPlays, PrintsSomeRuns}
+use Rattle.command_play.specs.Printing.{ArePart, AreSome}
+use Rattle.command_play.specs.AsSolved.{HoldsListed, PlaysAsSolved}
 
 -- ---- lines
 -- one line more
@@ -74,13 +75,6 @@ module _ (c : Numbers) (m : Matrix) (sound : IsController c) (inside : AreInside
   all_lines : (k : ℕ) → plan_lines c m (length m.rows) ≡ plan_lines c m k ++ flat_map (plan_line c) (drop k m.rows)
   all_lines k = ap (flat_map (plan_line c)) (take-length m.rows ∙ sym (take-append-drop k m.rows)) ∙ flat_map-append (plan_line c) (take k m.rows) (drop k m.rows)
 
-  -- ---- the answer, and what is printed
-  all_done : (s : Status) → PlaysEnd (listing_of c) m s → IsCaused s → s ≡ Done
-  all_done s (inl memory) caused = absurd (caused.memory memory)
-  all_done s (inr (inl cut)) caused = absurd (caused.write 0 cut.0)
-  all_done s (inr (inr (inl out))) caused = absurd (not_all_inside (listing_of c) m s out in_box)
-  all_done s (inr (inr (inr (both)))) caused = elim both.1 [ inl trapped ↦ absurd (not_all_room (listing_of c) m s trapped room) | inr all ↦ all.0 ]
-
   part_printed : (old new : List ℕ) → ArePart (listing_of c) m old new → GrowsByPart old new (plan_lines c m (length m.rows))
   part_printed old new p =
       subst (λ (bytes : List ℕ). GrowsByPart old new bytes) (ap (λ (x : List ℕ). x ++ flat_map (plan_line c) (drop p.count m.rows)) (same_lines p.count p.some) ∙ sym (all_lines p.count))
@@ -90,73 +84,60 @@ module _ (c : Numbers) (m : Matrix) (sound : IsController c) (inside : AreInside
   some_printed old new (inl same) = record { count = 0; some = omega arith; printed = same ∙ sym (append-nil old) }
   some_printed old new (inr lines) = let some = lines.1 in record { count = some.count; some = some.some; printed = some.printed ∙ ap (λ (x : List ℕ). old ++ x) (same_lines some.count some.some) }
 
-  are_printed : (s : Status) (old new : List ℕ) → PlaysPrint (listing_of c) m s old new → ArePrinted c m s old new
-  are_printed s old new p = record {
-    done = λ is. (p.done is).1 ∙ ap (λ (x : List ℕ). old ++ x) (same_lines (length m.rows) (omega arith));
-    fault = λ is. part_printed old new (p.fault is);
-    memory = λ is. some_printed old new (p.memory is);
+-- ---- what two files hold
+same_listing : (content : Option (List ℕ)) (a b : Instructions) → FileHolds file_limit (ListingRight a) content → FileHolds file_limit (ListingRight b) content → a ≡ b
+same_listing content a b x y = read_right x.bytes a b x.right (subst (λ (bytes : List ℕ). IsListingText bytes b) (one_content file_limit file_limit content x y) y.right)
+
+module _ (first second : Option (List ℕ)) (c : Numbers) (m : Matrix) (holds : HoldsListed first second c m) where
+  called_done : PlayCalls first second Done
+  called_done = inr (listing_of c, holds.listing_right, inr (m, holds.states_right, inr (in_box c m holds.sound holds.inside, inr (refl, room c m holds.sound holds.inside))))
+
+  -- what is printed of what they hold is printed of these
+  of_these : (Adds : Instructions → Matrix → Type 0) (l : Instructions) (n : Matrix) → HoldsPlays first second l n → Adds l n → Adds (listing_of c) m
+  of_these Adds l n plays printed =
+      let one : l ≡ listing_of c = same_listing first l (listing_of c) plays.listing_right holds.listing_right in
+      let right : FileHolds file_limit (StatesRight c.states n) second = subst (λ (k : Instructions). FileHolds file_limit (StatesRight k.states n) second) one plays.states_right in
+      let other : n ≡ m = one_states c.states second n m right holds.states_right in
+      subst (λ (k : Matrix). Adds (listing_of c) k) other (subst (λ (k : Instructions). Adds k n) one printed)
+
+  are_printed : (k : Contents) (s : Status) (old new : List ℕ) → k 1 ≡ first → k 2 ≡ second → PlayPrints k s old new → ArePrinted c m s old new
+  are_printed k s old new one two p = record {
+    done = λ is.
+        let all = p.done is in
+        told (λ l n. new ≡ old ++ run_lines l n (length n.rows)) all.l all.m all.plays all.printed ∙ ap (λ (x : List ℕ). old ++ x) (same_lines c m holds.sound holds.inside (length m.rows) (omega arith));
+    fault = λ is.
+        let part = p.fault is in
+        part_printed c m holds.sound holds.inside old new (told (λ l n. ArePart l n old new) part.l part.m part.plays (record { count = part.count; some = part.some; room = part.room; printed = part.printed }));
+    memory = λ is. some_printed c m holds.sound holds.inside old new (some (p.memory is));
   }
-
-  solved : (s : Status) (before now : Option (List ℕ)) → PlaysEnd (listing_of c) m s → IfSome before (λ old. IsSomeAnd now (PlaysPrint (listing_of c) m s old)) → IsSolved c m s before now
-  solved s before now end p = record { done = all_done s end; printed = go before now p }
     where
-      go : (first last : Option (List ℕ)) → IfSome first (λ old. IsSomeAnd last (PlaysPrint (listing_of c) m s old)) → IfSome first (λ old. IsSomeAnd last (ArePrinted c m s old))
-      go (Some old) (Some new) h = are_printed s old new h
-      go (Some old) None h = h
-      go None last h = tt
+      told : (Adds : Instructions → Matrix → Type 0) (l : Instructions) (n : Matrix) → HoldsPlays (k 1) (k 2) l n → Adds l n → Adds (listing_of c) m
+      told Adds l n plays = of_these Adds l n (subst (λ (x : Option (List ℕ)). HoldsPlays x second l n) one (subst (λ (x : Option (List ℕ)). HoldsPlays (k 1) x l n) two plays))
 
--- ---- a file ends it
-unprinted : (c : Numbers) (m : Matrix) (s : Status) (got : Option (List ℕ)) → s ≢ Done → s ≢ WriteFault 0 → IfSome got (λ old. IsSomeAnd got (ArePrinted c m s old))
-unprinted c m s (Some old) done write = record {
-  done = λ is. absurd (done is);
-  fault = λ is. absurd (write is);
-  memory = λ is. record { count = 0; some = omega arith; printed = sym (append-nil old) };
-}
-unprinted c m s None done write = tt
+      some : (new ≡ old) ⊎ PrintsSomeRuns (k 1) (k 2) old new → (new ≡ old) ⊎ (AreInBox (listing_of c) m (length m.rows) × AreSome (listing_of c) m old new)
+      some (inl same) = inl same
+      some (inr q) = inr (
+        in_box c m holds.sound holds.inside,
+        told (λ l n. AreSome l n old new) q.l q.m q.plays (record { count = q.count; some = q.some; room = q.room; printed = q.printed }),
+      )
 
-pub listing_ends : (words : List (List ℕ)) (held : Option Files) (before now : ℕ) (s : Status) (got : Option (List ℕ)) → EndsListing 1 held (word_of words 1) before now s → s ≢ Done → ((file : ℕ) → s ≢ WriteFault file) →
-    PlaysAsSolved words held s got got
-listing_ends words None before now s got ends done write = tt
-listing_ends words (Some files) before now s got ends done write = λ c m h. record { done = λ caused. absurd (refused c m h caused); printed = unprinted c m s got done (write 0) }
+-- by what is called for, and what the output got
+pub plays_as_solved : (words : List (List ℕ)) (held : Option Files) (s : Status) (before now : Option (List ℕ)) →
+    (IsCaused s → ForContents words held (λ k. IsAnswer (PlayCalls (k 1) (k 2)) s)) →
+    IfSome before (λ old. IsSomeAnd now (λ new. ForContents words held (λ k. PlayPrints k s old new))) → PlaysAsSolved words held s before now
+plays_as_solved words None s before now called prints = tt
+plays_as_solved words (Some files) s before now called prints = λ c m holds. record { room = room c m holds.sound holds.inside; solved = record { done = is_done c m holds; printed = got c m holds before now prints } }
   where
-    refused : (c : Numbers) (m : Matrix) → HoldsListed (files (word_of words 1)) (files (word_of words 2)) c m → IsCaused s → ⊥
-    refused c m h caused =
-        let wrong = why_refused file_limit 1 (ListingWrong 1) ListingRight (Some files) (word_of words 1) before now s ends caused in
-        wrong.refused (listing_of c) (subst (λ (o : Option (List ℕ)). FileHolds file_limit (ListingRight (listing_of c)) o) (sym wrong.told) h.listing_right)
+    is_done : (c : Numbers) (m : Matrix) → HoldsListed (files (word_of words 1)) (files (word_of words 2)) c m → IsCaused s → s ≡ Done
+    is_done c m holds caused =
+        let found = called caused in
+        let calls : PlayCalls (found.contents 1) (found.contents 2) Done =
+        subst (λ (x : Option (List ℕ)). PlayCalls x (found.contents 2) Done) (sym (found.told 1))
+        (subst (λ (x : Option (List ℕ)). PlayCalls (files (word_of words 1)) x Done) (sym (found.told 2)) (called_done (files (word_of words 1)) (files (word_of words 2)) c m holds)) in
+        sym (found.true_of.only Done calls)
 
--- ---- a listing is read
-module _ (words : List (List ℕ)) (files : Files) (l : Instructions) (first : IsListingRead 1 (Some files) (word_of words 1) l) (c : Numbers) (m : Matrix) (h : HoldsListed (files (word_of words 1)) (files (word_of words 2)) c m) where
-  same_listing : listing_of c ≡ l
-  same_listing = first.one (listing_of c) (subst (λ (o : Option (List ℕ)). FileHolds file_limit (ListingRight (listing_of c)) o) (sym first.told) h.listing_right)
-
-  right_states : (content : Option (List ℕ)) → content ≡ files (word_of words 2) → FileHolds file_limit (StatesRight l.states m) content
-  right_states content told =
-      subst (λ (k : Instructions). FileHolds file_limit (StatesRight k.states m) content) same_listing (subst (λ (o : Option (List ℕ)). FileHolds file_limit (StatesRight c.states m) o) (sym told) h.states_right)
-
-  refused_states : (before now : ℕ) (s : Status) → EndsStates l.states 2 (Some files) (word_of words 2) before now s → IsCaused s → ⊥
-  refused_states before now s ends caused =
-      let wrong = why_refused file_limit 2 (StatesWrong l.states 2) (StatesRight l.states) (Some files) (word_of words 2) before now s ends caused in
-      wrong.refused m (right_states wrong.content wrong.told)
-
-  same_states : (n : Matrix) → AreStatesRead l.states 2 (Some files) (word_of words 2) n → m ≡ n
-  same_states n second = second.one m (right_states second.content second.told)
-
-  solved_read : (n : Matrix) (s : Status) (before now : Option (List ℕ)) → AreStatesRead l.states 2 (Some files) (word_of words 2) n → PlaysEnd l n s →
-      IfSome before (λ old. IsSomeAnd now (PlaysPrint l n s old)) → IsSolved c m s before now
-  solved_read n s before now second end p =
-      let listing = sym same_listing in
-      let states = sym (same_states n second) in
-      let own_end = subst (λ (k : Instructions). PlaysEnd k m s) listing (subst (λ (x : Matrix). PlaysEnd l x s) states end) in
-      let own_print = subst (λ (k : Instructions). IfSome before (λ old. IsSomeAnd now (PlaysPrint k m s old))) listing (subst (λ (x : Matrix). IfSome before (λ old. IsSomeAnd now (PlaysPrint l x s old))) states p) in
-      solved c m h.sound h.inside s before now own_end own_print
-
-pub states_end : (words : List (List ℕ)) (held : Option Files) (l : Instructions) → IsListingRead 1 held (word_of words 1) l → (before now : ℕ) (s : Status) (got : Option (List ℕ)) →
-    EndsStates l.states 2 held (word_of words 2) before now s → s ≢ Done → ((file : ℕ) → s ≢ WriteFault file) → PlaysAsSolved words held s got got
-states_end words None l first before now s got ends done write = tt
-states_end words (Some files) l first before now s got ends done write =
-    λ c m h. record { done = λ caused. absurd (refused_states words files l first c m h before now s ends caused); printed = unprinted c m s got done (write 0) }
-
-pub plays_solved : (words : List (List ℕ)) (held : Option Files) (l : Instructions) → IsListingRead 1 held (word_of words 1) l → (n : Matrix) → AreStatesRead l.states 2 held (word_of words 2) n → (s : Status)
-    (before now : Option (List ℕ)) → PlaysEnd l n s → IfSome before (λ old. IsSomeAnd now (PlaysPrint l n s old)) → PlaysAsSolved words held s before now
-plays_solved words None l first n second s before now end p = tt
-plays_solved words (Some files) l first n second s before now end p = λ c m h. solved_read words files l first c m h n s before now second end p
+    got : (c : Numbers) (m : Matrix) → HoldsListed (files (word_of words 1)) (files (word_of words 2)) c m → (was is : Option (List ℕ)) →
+        IfSome was (λ old. IsSomeAnd is (λ new. ForContents words (Some files) (λ k. PlayPrints k s old new))) → IfSome was (λ old. IsSomeAnd is (ArePrinted c m s old))
+    got c m holds None is h = tt
+    got c m holds (Some old) None h = h
+    got c m holds (Some old) (Some new) h = are_printed (files (word_of words 1)) (files (word_of words 2)) c m holds h.contents s old new (h.told 1) (h.told 2) h.true_of

@@ -1,7 +1,7 @@
 -- What `play` does: its row of the table of commands.
 use Rattle.std.specs.Prelude.{◌≡◌, ◌⊎◌, ⊤}
 use Rattle.command_line.specs.Deeds.{Deeds}
-use Rattle.command_play.specs.Play.{PlayCalls, PlayReaches, PlayStarts, PlayPrints, TellsTrap}
+use Rattle.command_play.specs.Play.{PlayCalls, PlayReaches, PlayStarts, PlayPrints, TellsTrapLater}
 
 abbrev pub play_deeds : Deeds
 play_deeds = record {
@@ -11,7 +11,7 @@ play_deeds = record {
   calls = λ contents. PlayCalls (contents 1) (contents 2);
   reaches = λ contents. PlayReaches (contents 1);
   starts = λ contents. PlayStarts (contents 1) (contents 2);
-  tells = TellsTrap;
+  tells = TellsTrapLater;
   shows = λ contents. PlayPrints contents;
   leaves = λ words s old new. new ≡ old;
 }

@@ -77,6 +77,10 @@ pub record PrintsSomeRuns (listing states : Option (List ℕ)) (old new : List �
 abbrev pub TellsTrap : Status → Type 0
 TellsTrap s = (entry : ℕ) × (step : ℕ) × (place : ℕ) × (s ≡ Trap entry step place)
 
+-- it did so after a line: of a record before
+abbrev pub TellsTrapLater : Status → Type 0
+TellsTrapLater s = (entry : ℕ) × (step : ℕ) × (place : ℕ) × (s ≡ Trap entry step place) × (1 < entry)
+
 -- what the output got, by the answer
 pub record PlayPrints (contents : Contents) (s : Status) (old new : List ℕ) : Type 0 where
   pub done : s ≡ Done → PrintsAllRuns (contents 1) (contents 2) old new

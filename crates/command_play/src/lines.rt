@@ -4,7 +4,7 @@ ghost use Rattle.io_edge.specs.Faults.{Rose};
 ghost use Rattle.mac_machine.specs.Box.{IsInBox};
 ghost use Rattle.mac_machine.specs.Machine.{NeverTraps, outputs_of, play_line};
 ghost use Rattle.command_play.specs.Plays.{AreInBox, run_line};
-ghost use Rattle.command_play.specs.Play.{TellsTrap};
+ghost use Rattle.command_play.specs.Play.{TellsTrapLater};
 ghost use Rattle.command_play.specs.Printing.{TrapsFrom, PlaysEnd, PlaysPrint};
 
 use command_line::Status;
@@ -68,7 +68,7 @@ pub fn print_lines<O: Sink>(
     requires inside { AreInBox machine.old.listing states.now (length states.now.rows) }
     ensures ends { PlaysEnd machine.old.listing states.now result }
     ensures printed { IfSome (O.got out.old) (λ old. IsSomeAnd (O.got out.new) (PlaysPrint machine.old.listing states.now result old)) }
-    ensures some { (result ≡ Status.Done) ⊎ ((result ≡ Status.Memory) ⊎ ((result ≡ Status.WriteFault 0) ⊎ TellsTrap result)) }
+    ensures quiet { result ≢ Status.Done → result ≢ Status.Memory → result ≢ Status.WriteFault 0 → ¬ TellsTrapLater result → out.new ≡ out.old }
     ensures failed { result ≡ Status.WriteFault 0 → Rose (O.faults out.old) (O.faults out.new) }
     ensures no_fewer { O.faults out.old ≤ O.faults out.new }
 {

@@ -1,7 +1,7 @@
 // The lines of a listing from states, or why there are none.
 ghost use Rattle.std.specs.Prelude.{◌≡◌, ◌≢◌, ◌≤◌, ◌<◌, ◌^◌, length, IfSome, IsSomeAnd};
 ghost use Rattle.io_edge.specs.Faults.{Rose};
-ghost use Rattle.command_play.specs.Play.{TellsTrap};
+ghost use Rattle.command_play.specs.Play.{TellsTrapLater};
 ghost use Rattle.command_play.specs.Printing.{PlaysEnd, PlaysPrint};
 
 use crate::inside::all_inside;
@@ -24,7 +24,7 @@ pub fn print_plays<O: Sink>(
     requires count { length states.now.rows < 2 ^ 32 }
     ensures ends { PlaysEnd listing.now states.now result }
     ensures printed { IfSome (O.got out.old) (λ old. IsSomeAnd (O.got out.new) (PlaysPrint listing.now states.now result old)) }
-    ensures quiet { result ≢ Status.Done → result ≢ Status.Memory → result ≢ Status.WriteFault 0 → ¬ TellsTrap result → out.new ≡ out.old }
+    ensures quiet { result ≢ Status.Done → result ≢ Status.Memory → result ≢ Status.WriteFault 0 → ¬ TellsTrapLater result → out.new ≡ out.old }
     ensures failed { result ≡ Status.WriteFault 0 → Rose (O.faults out.old) (O.faults out.new) }
     ensures no_fewer { O.faults out.old ≤ O.faults out.new }
 {

@@ -6,6 +6,7 @@ ghost use Rattle.controller_text.specs.declared.bad_controller.BadController.The
 ghost use Rattle.command_line.specs.Words.{word_of, IsGenerate, IsStay, IsPlay, IsLean, IsLeanStay, IsSplit, IsServe};
 ghost use Rattle.command_line.specs.Commands.{AreOf, IsUsage};
 ghost use Rattle.command_line.specs.Answers.{ForContents, IsAnswer, IsCaused};
+ghost use Rattle.command_line.specs.Does.{Does};
 ghost use Rattle.command_line.specs.Deeds.{IsCalledFor, UsesNoFile, IsUnwritten, IsUnprinted, WriteFailed, NoneRises};
 ghost use Rattle.command_generate.specs.Generate.{IsGenerated};
 ghost use Rattle.command_stay.specs.Stay.{IsStayed};
@@ -30,6 +31,32 @@ use command_split::split;
 use command_stay::stay;
 use io_edge::{Sink, Store, Words};
 use std::alloc::Global;
+
+// Runs this command, by its row in the table.
+fn answer<S: Store, O: Sink>(
+    alloc: Global,
+    words: &Words,
+    command: Command,
+    store: &mut S,
+    out: &mut O,
+) -> Status
+    requires { AreOf command words.now }
+    ensures { Does S.Store O.Sink words.now (deeds_of command) store.old store.new out.old out.new result }
+{
+    match command {
+        Command::Generate => generate(alloc, words, store),
+        Command::Solve => solve(alloc, words, store, out),
+        Command::Loop { turns, disturbed } => run_loops(alloc, words, turns, disturbed, store, out),
+        Command::Demo { number } => demo(alloc, number, out),
+        Command::List => list(alloc, words, store),
+        Command::Stay { disturbed } => stay(alloc, words, disturbed, store),
+        Command::Play => play(alloc, words, store, out),
+        Command::Lean => lean(alloc, words, store),
+        Command::LeanStay { disturbed } => lean_stay(alloc, words, disturbed, store),
+        Command::Split => split(alloc, words, store),
+        Command::Serve => serve(alloc, words, store, out),
+    }
+}
 
 /// Runs the command that the arguments are.
 ///
@@ -122,19 +149,7 @@ pub fn run<S: Store, O: Sink>(alloc: Global, words: &Words, store: &mut S, out: 
     ensures no_fewer { O.faults out.old ≤ O.faults out.new }
 {
     match command_of(words) {
-        Some(Command::Generate) => generate(alloc, words, store),
-        Some(Command::Solve) => solve(alloc, words, store, out),
-        Some(Command::Loop { turns, disturbed }) => {
-            run_loops(alloc, words, turns, disturbed, store, out)
-        }
-        Some(Command::Demo { number }) => demo(alloc, number, out),
-        Some(Command::List) => list(alloc, words, store),
-        Some(Command::Stay { disturbed }) => stay(alloc, words, disturbed, store),
-        Some(Command::Play) => play(alloc, words, store, out),
-        Some(Command::Lean) => lean(alloc, words, store),
-        Some(Command::LeanStay { disturbed }) => lean_stay(alloc, words, disturbed, store),
-        Some(Command::Split) => split(alloc, words, store),
-        Some(Command::Serve) => serve(alloc, words, store, out),
+        Some(command) => answer(alloc, words, command, store, out),
         None => Status::Usage,
     }
 }

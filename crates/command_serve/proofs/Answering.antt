@@ -7,13 +7,15 @@ use Rattle.qp_model.specs.machine.Controller.{Numbers}
 use Rattle.command_line.specs.Words.{word_of}
 use Rattle.command_line.specs.Limit.{cells_limit}
 use Rattle.command_line.specs.Answers.{ForContents, IsCaused}
+use Rattle.command_line.specs.Does.{IsTelling}
+use Rattle.command_line.proofs.Doing.{done_telling}
 use Rattle.command_line.specs.declared.status.Status.{Status}
 use Rattle.command_line.specs.declared.status.Status.TheVariants.{Done, WriteFault}
 use Rattle.command_files.specs.Texts.{CellsRight, CellsWrong}
 use Rattle.command_files.specs.Reading.{AreStatesRead}
 use Rattle.command_files.specs.Reading.{AreCellsRead}
 use Rattle.command_files.proofs.Stopping.{cells_refused}
-use Rattle.command_files.proofs.TwoFiles.{TwoFiles, unprinted, both_contents, both_print, both_cut}
+use Rattle.command_files.proofs.TwoFiles.{TwoFiles, TwoPrinted, both_contents, both_print, both_cut}
 use Rattle.command_serve.specs.Served.{cell_states, AreServed}
 use Rattle.command_serve.specs.Unserved.{ServedCall}
 use Rattle.command_serve.specs.Serve.{ServeStarts, ServePrints, HoldsServed, PrintsServed}
@@ -41,11 +43,21 @@ serve_files = record {
   one = λ cells bytes right. one_call (some_cell cells 0 right.form.are.some) cells;
 }
 
--- ---- nothing printed
-pub nothing_printed : (words : List (List ℕ)) (held : Option Files) (got : Option (List ℕ)) (s : Status) → s ≢ Done → ((file : ℕ) → s ≢ WriteFault file) →
-    IfSome got (λ old. IsSomeAnd got (λ new. ForContents words held (λ k. ServePrints k s old new)))
-nothing_printed words held got s done write =
-    unprinted words held (λ k. ServePrints k s) (λ k old. record { done = λ is. absurd (done is); fault = λ is. absurd (write 0 is); memory = λ is. inl refl; other = λ a b d. refl }) got
+-- ---- what is called for tells, and nothing is printed where a file ends it
+pub served_telling : (cells : List Numbers) (m : Matrix) (s : Status) → ServedCall cells m s → IsTelling s
+served_telling cells m s (inl outside) = let is = outside.is in record { usage = λ e. cc; text = λ at e. cc; controller = λ at e. cc }
+served_telling cells m s (inr done) = done_telling s done.0
+
+abbrev pub serve_printed : TwoPrinted (List Numbers)
+serve_printed = record {
+  files = serve_files;
+  starts = ServeStarts;
+  tells = λ s. ⊥;
+  shows = ServePrints;
+  telling = served_telling;
+  runs = λ s. ⊥;
+  nothing = λ k s old done write silent. record { done = λ is. absurd (done is); fault = λ is. absurd (write 0 is); memory = λ is. inl refl; other = λ a b d. refl };
+}
 
 -- ---- both files are right
 module _ (words : List (List ℕ)) (held : Option Files) (c : List Numbers) (first : AreCellsRead 1 held (word_of words 1) c) (m : Matrix) (second : AreStatesRead (cell_states c) 2 held (word_of words 2) m) where

@@ -1,12 +1,10 @@
 -- Where the boxes of cells hold all states, each is served.
-use Rattle.std.proofs.Common.{◌≡◌, ◌⊎◌, ◌∙◌, inl, inr, ℕ, zero, List, [], length, Option, Some, None, Ok, refl, sym, ap, subst, arith}
+use Rattle.std.proofs.Common.{◌≡◌, ◌⊎◌, ◌∙◌, inl, inr, ℕ, zero, List, [], length, Option, Some, None, refl, sym, ap, subst, arith}
 use Rattle.std.specs.Prelude.{IfSome, IsSomeAnd}
 use Rattle.std.proofs.lemmas.List.{append-nil}
 use Rattle.io_edge.specs.Faults.{Files}
 use Rattle.mat_int.specs.Matrix.{Matrix}
 use Rattle.qp_model.specs.machine.Controller.{Numbers}
-use Rattle.policy_file.specs.StatesText.{IsStatesText}
-use Rattle.policy_file.proofs.UniqueFacts.{states_told}
 use Rattle.cell_file.proofs.Texts.{one_cells}
 use Rattle.command_line.specs.Words.{word_of}
 use Rattle.command_line.specs.Limit.{file_limit, cells_limit}
@@ -15,22 +13,16 @@ use Rattle.command_line.specs.declared.status.Status.{Status}
 use Rattle.command_line.specs.declared.status.Status.TheVariants.{Done, Memory, WriteFault}
 use Rattle.command_files.specs.Texts.{StatesRight}
 use Rattle.command_files.specs.Texts.{CellsRight}
+use Rattle.command_files.proofs.TwoFiles.{one_content, one_states}
 use Rattle.command_serve.specs.Served.{cell_states}
 use Rattle.command_serve.specs.Serve.{ServeCalls, ServePrints, HoldsServed, PrintsServed}
 use Rattle.command_serve.specs.Printing.{AddsAllLines, AddsPartOfLines, AddsSomeLines, AreServedPrinted}
 use Rattle.command_serve.specs.Held.{IsAllServed, ServesHeld}
 
-some_same : (a b : List ℕ) → Some a ≡ Some b → a ≡ b
-some_same a b e = cc
-
 -- ---- what a file holds is one thing
 same_cells : (content : Option (List ℕ)) (a b : List Numbers) → FileHolds cells_limit (CellsRight a) content → FileHolds cells_limit (CellsRight b) content → a ≡ b
 same_cells content a b x y =
-    one_cells x.bytes a b x.right.form (subst (λ (bytes : List ℕ). CellsRight b bytes) (some_same y.bytes x.bytes (sym y.held ∙ x.held)) y.right).form
-
-same_states : (n : ℕ) (content : Option (List ℕ)) (a b : Matrix) → FileHolds file_limit (StatesRight n a) content → FileHolds file_limit (StatesRight n b) content → a ≡ b
-same_states n content a b x y =
-    (states_told x.bytes n (Ok a) x.right tt).0 b (subst (λ (bytes : List ℕ). StatesRight n b bytes) (some_same y.bytes x.bytes (sym y.held ∙ x.held)) y.right)
+    one_cells x.bytes a b x.right.form (subst (λ (bytes : List ℕ). CellsRight b bytes) (one_content cells_limit cells_limit content x y) y.right).form
 
 -- what is printed of what two files hold is printed of this, if they hold it
 of_these : (first second : Option (List ℕ)) (cells : List Numbers) (m : Matrix) → HoldsServed first second cells m → (Adds : List Numbers → Matrix → (old new : List ℕ) → Type 0) →
@@ -38,7 +30,7 @@ of_these : (first second : Option (List ℕ)) (cells : List Numbers) (m : Matrix
 of_these first second cells m holds Adds old new p =
     let one : p.cs ≡ cells = same_cells first p.cs cells p.served.cells_right holds.cells_right in
     let right : FileHolds file_limit (StatesRight (cell_states cells) p.m) second = subst (λ (cs : List Numbers). FileHolds file_limit (StatesRight (cell_states cs) p.m) second) one p.served.states_right in
-    let other : p.m ≡ m = same_states (cell_states cells) second p.m m right holds.states_right in
+    let other : p.m ≡ m = one_states (cell_states cells) second p.m m right holds.states_right in
     subst (λ (k : Matrix). Adds cells k old new) other (subst (λ (cs : List Numbers). Adds cs p.m old new) one p.printed)
 
 module _ (first second : Option (List ℕ)) (cells : List Numbers) (m : Matrix) (holds : HoldsServed first second cells m) where

@@ -1,10 +1,9 @@
 // `serve` with its arguments.
-ghost use Rattle.std.specs.Prelude.{◌≡◌, ◌≢◌, ◌⊎◌, ℕ, ◌≤◌, ◌<◌, ◌^◌, length, IfSome, IsSomeAnd};
-ghost use Rattle.io_edge.specs.Faults.{Rose, NoneFalls};
-ghost use Rattle.command_line.specs.Words.{word_of, IsServe};
-ghost use Rattle.command_line.specs.Answers.{ForContents, IsAnswer, IsCaused};
+ghost use Rattle.std.specs.Prelude.{◌≡◌, ◌<◌, length};
+ghost use Rattle.command_line.specs.Words.{IsServe};
+ghost use Rattle.command_line.specs.Does.{Does};
 ghost use Rattle.command_serve.specs.Served.{cell_states};
-ghost use Rattle.command_serve.specs.Serve.{ServeCalls, ServeReaches, ServeStarts, ServePrints};
+ghost use Rattle.command_serve.specs.Deeds.{serve_deeds};
 
 use crate::states::serve_states;
 use command_files::{read_cells_file, read_states_file};
@@ -25,23 +24,7 @@ fn state_size(cells: &[Controller]) -> usize
 /// `K*2^f`; nothing where a file is refused or no controller's box holds a state.
 pub fn serve<S: Store, O: Sink>(alloc: Global, words: &Words, store: &mut S, out: &mut O) -> Status
     requires { IsServe words.now }
-    // Why: by what the two files hold this answer is called for, and no other.
-    ensures called { IsCaused result → ForContents words.now (S.held store.old) (λ contents. IsAnswer (ServeCalls (contents 1) (contents 2)) result) }
-    // What the output got.
-    ensures prints { IfSome (O.got out.old) (λ old. IsSomeAnd (O.got out.new) (λ new. ForContents words.now (S.held store.old) (λ contents.
-        ServePrints contents result old new))) }
-    ensures quiet { result ≢ Status.Done → result ≢ Status.Memory → result ≢ Status.WriteFault 0 → out.new ≡ out.old }
-    // Faults.
-    ensures read_fault { (file : ℕ) → result ≡ Status.ReadFault file → ForContents words.now (S.held store.old) (λ contents. ServeReaches (contents 1) file)
-        × Rose (S.read_faults store.old (word_of words.now file)) (S.read_faults store.new (word_of words.now file)) }
-    ensures write_fault { (file : ℕ) → result ≡ Status.WriteFault file → (file ≡ 0) × ForContents words.now (S.held store.old) (λ contents.
-        ServeStarts (contents 1) (contents 2))
-        × Rose (O.faults out.old) (O.faults out.new) }
-    // What stays the same.
-    ensures held { S.held store.new ≡ S.held store.old }
-    ensures reads { NoneFalls (S.read_faults store.old) (S.read_faults store.new) }
-    ensures writes { NoneFalls (S.write_faults store.old) (S.write_faults store.new) }
-    ensures no_fewer { O.faults out.old ≤ O.faults out.new }
+    ensures { Does S.Store O.Sink words.now serve_deeds store.old store.new out.old out.new result }
 {
     let cells = match read_cells_file(alloc, 1, words.at(1), store) {
         Ok(cells) => cells,

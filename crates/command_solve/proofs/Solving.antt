@@ -7,12 +7,14 @@ use Rattle.qp_model.specs.machine.Controller.{Numbers}
 use Rattle.command_line.specs.Words.{word_of}
 use Rattle.command_line.specs.Limit.{file_limit}
 use Rattle.command_line.specs.Answers.{ForContents, IsCaused}
+use Rattle.command_line.specs.Does.{IsTelling}
+use Rattle.command_line.proofs.Doing.{done_telling}
 use Rattle.command_line.specs.declared.status.Status.{Status}
 use Rattle.command_line.specs.declared.status.Status.TheVariants.{Done, WriteFault}
 use Rattle.command_files.specs.Texts.{ControllerRight, ControllerWrong}
 use Rattle.command_files.specs.Reading.{IsControllerRead, AreStatesRead}
 use Rattle.command_files.proofs.Stopping.{controller_refused}
-use Rattle.command_files.proofs.TwoFiles.{TwoFiles, unprinted, both_contents, both_print, both_cut}
+use Rattle.command_files.proofs.TwoFiles.{TwoFiles, TwoPrinted, both_contents, both_print, both_cut}
 use Rattle.plan_lines.specs.Inside.{AreInside}
 use Rattle.plan_lines.specs.Printing.{AreFirstLines}
 use Rattle.command_solve.specs.Inside.{RunsCall}
@@ -40,11 +42,21 @@ solve_files = record {
   one = λ c bytes right m. one_call c m;
 }
 
--- ---- nothing printed
-pub nothing_printed : (words : List (List ℕ)) (held : Option Files) (got : Option (List ℕ)) (s : Status) → s ≢ Done → ((file : ℕ) → s ≢ WriteFault file) →
-    IfSome got (λ old. IsSomeAnd got (λ new. ForContents words held (λ k. SolvePrints k s old new)))
-nothing_printed words held got s done write =
-    unprinted words held (λ k. SolvePrints k s) (λ k old. record { done = λ is. absurd (done is); fault = λ is. absurd (write 0 is); memory = λ is. inl refl; other = λ a b d. refl }) got
+-- ---- what is called for tells, and nothing is printed where a file ends it
+pub runs_telling : (c : Numbers) (m : Matrix) (s : Status) → RunsCall c m s → IsTelling s
+runs_telling c m s (inl outside) = let is = outside.is in record { usage = λ e. cc; text = λ at e. cc; controller = λ at e. cc }
+runs_telling c m s (inr done) = done_telling s done.0
+
+abbrev pub solve_printed : TwoPrinted Numbers
+solve_printed = record {
+  files = solve_files;
+  starts = SolveStarts;
+  tells = λ s. ⊥;
+  shows = SolvePrints;
+  telling = runs_telling;
+  runs = λ s. ⊥;
+  nothing = λ k s old done write silent. record { done = λ is. absurd (done is); fault = λ is. absurd (write 0 is); memory = λ is. inl refl; other = λ a b d. refl };
+}
 
 -- ---- both files are right
 module _ (words : List (List ℕ)) (held : Option Files) (c : Numbers) (first : IsControllerRead 1 held (word_of words 1) c) (m : Matrix) (second : AreStatesRead c.states 2 held (word_of words 2) m) where

@@ -7,3 +7,4 @@ pub mod Reports
 -- how the files end it, and what is written
 pub mod Opening
 pub mod Written
+pub mod Row

@@ -1,11 +1,14 @@
 -- What is written, and the clauses of the whole.
-use Rattle.std.proofs.Common.{◌≡◌, ◌≢◌, ℕ, List, Option, Some, sym, subst, arith}
+use Rattle.std.proofs.Common.{◌≡◌, ◌≢◌, ℕ, ◌≤◌, List, length, Option, Some, sym, subst, arith}
 use Rattle.io_edge.specs.Faults.{Files, IsCutShort}
 use Rattle.qp_model.specs.problem.Parts.{design_of}
 use Rattle.command_line.specs.Words.{word_of, IsSplit}
-use Rattle.command_line.specs.Limit.{file_limit}
+use Rattle.command_line.specs.Limit.{file_limit, cells_limit}
 use Rattle.command_line.specs.Answers.{FileHolds}
+use Rattle.qp_model.specs.machine.Controller.{Numbers}
 use Rattle.cell_split.specs.Cells.{cell_count}
+use Rattle.cell_file.specs.Text.{IsCellsText}
+use Rattle.cell_file.proofs.Lengths.{cells_length_law}
 use Rattle.command_design_files.specs.Texts.{DesignRight}
 use Rattle.command_files.specs.Texts.{CutsRight, CellPoliciesRight}
 use Rattle.command_generate.specs.Writing.{AreWritten, IsSecondCut}
@@ -13,6 +16,10 @@ use Rattle.command_generate.proofs.TwoTexts.{MakesTwo, KeptOrFront, first_stands
 use Rattle.command_split.specs.Split.{AreSplitOfFiles, IsSplitWritten, IsCellsCut, IsCellsReportCut}
 use Rattle.command_split.specs.Reading.{split_calls, AreSplitRead, AreSplitTexts}
 use Rattle.command_split.proofs.Serving.{boxes, splits, each_served}
+
+-- a text of cells is no longer than a file of cells may be
+cells_short : (text : List ℕ) (cells : List Numbers) → IsCellsText text cells → length text ≤ cells_limit
+cells_short text cells is = omega (arith, cells_length_law text cells is)
 
 -- ---- of files that hold what was read, and how they are left
 module _ (words : List (List ℕ)) (text report : List ℕ) (held : Option Files) (from : AreSplitTexts words held text report) (files new : Files)
@@ -42,6 +49,7 @@ module _ (words : List (List ℕ)) (text report : List ℕ) (held : Option Files
         made = made;
         text = text;
         is_text = from.texts.is_text;
+        short = cells_short text from.texts.cells from.texts.is_text;
         cells_file = first.here;
         report_file = subst (λ (bytes : List ℕ). new (word_of words 5) ≡ Some bytes) from.texts.is_report written.second.here;
         others = first.others;
@@ -59,6 +67,7 @@ module _ (words : List (List ℕ)) (text report : List ℕ) (held : Option Files
         made = made;
         text = text;
         is_text = from.texts.is_text;
+        short = cells_short text from.texts.cells from.texts.is_text;
         cells_file = first.here;
         report_file = subst (λ (bytes : List ℕ). KeptOrFront files new (word_of words 5) bytes) from.texts.is_report
             (kept_or_front files written.mid new (word_of words 4) (word_of words 5) text report apart written.first written.second.here);

@@ -1,5 +1,5 @@
 -- What `split` is called to answer by what its first three files hold, and what it leaves in the store.
-use Rattle.std.specs.Prelude.{◌≡◌, ◌≢◌, ◌⊎◌, ℕ, ℤ, List, Option, Some, IsSomeAnd}
+use Rattle.std.specs.Prelude.{◌≡◌, ◌≢◌, ◌⊎◌, ℕ, ◌≤◌, ℤ, List, length, Option, Some, IsSomeAnd}
 use Rattle.std.specs.List.{flat_map}
 use Rattle.io_edge.specs.Faults.{Files, IsCutShort, IsProperPrefix}
 use Rattle.qp_model.specs.problem.Policy.{Plans}
@@ -12,7 +12,7 @@ use Rattle.cell_split.specs.Cells.{cell_count, Splits}
 use Rattle.cell_maker.specs.Made.{AreCellsMade}
 use Rattle.cell_file.specs.Text.{IsCellsText}
 use Rattle.command_line.specs.Words.{word_of}
-use Rattle.command_line.specs.Limit.{file_limit}
+use Rattle.command_line.specs.Limit.{file_limit, cells_limit}
 use Rattle.command_line.specs.Answers.{FileHolds}
 use Rattle.command_design_files.specs.Texts.{DesignRight}
 use Rattle.command_files.specs.Texts.{CutsRight, CellPoliciesRight}
@@ -59,14 +59,15 @@ AreSplitOfFiles words files cells bounds = AreSplitFrom (files (word_of words 1)
 abbrev pub report_texts : List Printed → List ℕ
 report_texts bounds = flat_map report_text bounds
 
--- The fourth name holds the text of the controllers, and the fifth the reports of their bounds, one after the other; every other name holds what it held. They are those of the
--- design, the cuts and the policies that the first three names held.
+-- The fourth name holds the text of the controllers, no longer than a file of cells may be, and the fifth the reports of their bounds, one after the other; every other name
+-- holds what it held. They are those of the design, the cuts and the policies that the first three names held.
 pub record IsSplitWritten (words : List (List ℕ)) (files new : Files) : Type 0 where
   pub cells : List Numbers
   pub bounds : List Printed
   pub made : AreSplitOfFiles words files cells bounds
   pub text : List ℕ
   pub is_text : IsCellsText text cells
+  pub short : length text ≤ cells_limit
   pub cells_file : new (word_of words 4) ≡ Some text
   pub report_file : new (word_of words 5) ≡ Some (report_texts bounds)
   pub others : (q : List ℕ) → q ≢ word_of words 4 → q ≢ word_of words 5 → new q ≡ files q
@@ -87,6 +88,7 @@ pub record IsCellsReportCut (words : List (List ℕ)) (files new : Files) : Type
   pub made : AreSplitOfFiles words files cells bounds
   pub text : List ℕ
   pub is_text : IsCellsText text cells
+  pub short : length text ≤ cells_limit
   pub cells_file : new (word_of words 4) ≡ Some text
   pub report_file : (new (word_of words 5) ≡ files (word_of words 5)) ⊎ IsSomeAnd (new (word_of words 5)) (IsProperPrefix (report_texts bounds))
   pub others : (q : List ℕ) → q ≢ word_of words 4 → q ≢ word_of words 5 → new q ≡ files q

@@ -23,7 +23,7 @@ use Rattle.command_line.specs.declared.status.Status.{Status}
 use Rattle.command_line.specs.declared.status.Status.TheVariants.{Done, Memory}
 use Rattle.command_generate.specs.Made.{MakingCalls, IsRefusedBy, IsMadeOf, Passes}
 use Rattle.command_line.specs.Status.{status_of}
-use Rattle.command_generate.proofs.Making.{refusal_not_done, making_no_read, making_no_write}
+use Rattle.command_generate.proofs.Making.{refusal_not_done, making_faultless}
 use Rattle.command_stay.specs.Excess.{AreStatedExcesses}
 use Rattle.command_stay.specs.Stay.{stay_status, FacesCall, FacedCalls, StayingCalls}
 use Rattle.command_generate.specs.Ending.{IsFaultless}
@@ -36,19 +36,6 @@ pub fault_refusal : (fault : StayFault) (s : Status) → s ≡ stay_status fault
 fault_refusal (faults.TooWide quantity) s is = record { done = λ e. cc; memory = λ e. cc; read = λ f e. cc; write = λ f e. cc }
 fault_refusal (faults.Unequal entry input left right) s is = record { done = λ e. cc; memory = λ e. cc; read = λ f e. cc; write = λ f e. cc }
 fault_refusal (faults.NoStay entry bound) s is = record { done = λ e. cc; memory = λ e. cc; read = λ f e. cc; write = λ f e. cc }
-
--- what is called for is not that memory ran out
-caused_not_memory : (d : Design) (t : Targets) (plans : Plans) (r : Refusal) → HasCause d t plans r → status_of r ≡ Memory → ⊥
-caused_not_memory d t plans refusals.Memory cause is = cause
-caused_not_memory d t plans (refusals.NoMargin corner row slack) cause is = cc
-caused_not_memory d t plans refusals.Curvature cause is = cc
-caused_not_memory d t plans (refusals.TooManySteps k) cause is = cc
-caused_not_memory d t plans (refusals.TooFine eps) cause is = cc
-caused_not_memory d t plans (refusals.TooWide quantity) cause is = cc
-
-making_no_memory : (p : DesignParts) (plans : Plans) (s : Status) → MakingCalls p plans s → s ≡ Memory → ⊥
-making_no_memory p plans s (inl why) is = caused_not_memory (design_of p) (targets_of p) plans why.refusal why.cause (sym why.is ∙ is)
-making_no_memory p plans s (inr done) is = let e = done.0 in cc
 
 -- ---- answered by the faces, with the numbers of all rows: there is one list of these, and no refusal
 module _ (Refuses : Status → Type 0) (AreStated : List ℤ → Type 0) (d : Design) (faces : FaceNumbers) (range : Matrix) where
@@ -100,12 +87,7 @@ pub refused_with : (p : DesignParts) (plans : Plans) (faces : FaceNumbers) (rang
 refused_with p plans faces range s not_done (inl memory) = inl memory
 refused_with p plans faces range s not_done (inr answer) = inr (
   refused_calls (IsRefusedBy p plans) (AreStatedExcesses (design_of p) (targets_of p) plans) (design_of p) faces range (Passes p plans) passes s not_done answer,
-  record {
-    done = not_done;
-    memory = λ is. making_no_memory p plans s answer.called is;
-    read = λ file is. making_no_read p plans s file answer.called is;
-    write = λ file is. making_no_write p plans s file answer.called is;
-  },
+  making_faultless p plans s not_done answer.called,
 )
   where
     passes : (xs : List ℤ) → AreStatedExcesses (design_of p) (targets_of p) plans xs → Passes p plans

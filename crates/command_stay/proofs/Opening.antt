@@ -22,7 +22,7 @@ use Rattle.command_design_files.proofs.Designs.{same_design}
 use Rattle.command_generate.proofs.SameDesign.{along}
 use Rattle.command_generate.specs.Generate.{HoldsInputs}
 use Rattle.command_generate.specs.Inputs.{AreInputsRead, EndsInputs}
-use Rattle.command_generate.proofs.Ends.{reading_later}
+use Rattle.command_generate.proofs.Ending.{reading_later}
 use Rattle.command_generate.proofs.Ending.{file_ends}
 use Rattle.command_stay.specs.Excess.{AreStatedExcesses}
 use Rattle.command_stay.specs.Stay.{FacesCall, StayingCalls, ReadsShifts, StayCalls, StayReaches, no_shifts}

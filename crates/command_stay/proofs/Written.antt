@@ -23,12 +23,12 @@ use Rattle.command_line.specs.Limit.{file_limit}
 use Rattle.command_line.specs.Answers.{FileHolds}
 use Rattle.command_files.specs.Texts.{RangeRight}
 use Rattle.command_generate.specs.Made.{IsMadeOf}
-use Rattle.command_generate.specs.Generate.{HoldsInputs, IsControllerCut, IsReportCut}
+use Rattle.command_generate.specs.Generate.{HoldsInputs, IsControllerCut}
 use Rattle.command_generate.specs.Writing.{AreWritten, IsSecondCut}
 use Rattle.command_generate.proofs.TwoTexts.{MakesTwo}
 use Rattle.command_generate.proofs.Written.{inputs_of, generated, controller_cut, report_cut}
 use Rattle.command_stay.specs.Checking.{made_excess, IsKeptWith}
-use Rattle.command_stay.specs.Stay.{no_shifts, IsRangeIn, KeepsLoops, IsStayed}
+use Rattle.command_stay.specs.Stay.{no_shifts, IsRangeIn, KeepsLoops, LoopsStay, IsStayed, IsStayReportCut}
 use Rattle.command_stay.specs.Reading.{stay_calls, IsRangeTaken, AreStayFilesRead, AreTextsUnder}
 use Rattle.command_stay.proofs.Excesses.{covers}
 
@@ -46,7 +46,7 @@ keeps_loops p plans c b errors faces range made stated excess holds kept start i
     (covers p plans c b made.built errors stated excess holds) kept.keeps start inside shifts turns within
 
 -- without shifts
-pub undisturbed : (p : DesignParts) (c : Numbers) (b : Printed) (range : Matrix) → range ≡ no_shifts (design_of p).states → KeepsLoops p c b range →
+undisturbed : (p : DesignParts) (c : Numbers) (b : Printed) (range : Matrix) → range ≡ no_shifts (design_of p).states → KeepsLoops p c b range →
     (start : List ℤ) → IsAdmissible c start → (turns : ℕ) → IsKeptAt (design_of p) c b (state_after (design_of p) c start turns)
 undisturbed p c b range is keeps start inside turns =
     subst (IsKeptAt (design_of p) c b) (unshifted (design_of p) c start turns)
@@ -59,14 +59,26 @@ undisturbed p c b range is keeps start inside turns =
     high i = subst (λ (m : Matrix). pos 0 ≤ℤ at (row_of m 1) i) (sym is) (subst (λ (f : ℕ → ℤ). pos 0 ≤ℤ f i) (sym (zeros_are (design_of p).states)) (≤ℤ_refl (pos 0)))
 
 -- ---- the range, of files that hold what was read
-pub range_in : (disturbed : Bool) (file : ℕ) (words : List (List ℕ)) (files : Files) (n : ℕ) (range : Matrix) → IsRangeTaken disturbed n file (Some files) (word_of words file) range →
+range_in : (disturbed : Bool) (file : ℕ) (words : List (List ℕ)) (files : Files) (n : ℕ) (range : Matrix) → IsRangeTaken disturbed n file (Some files) (word_of words file) range →
     IsRangeIn disturbed file words files n range
 range_in true file words files n range taken = subst (λ (o : Option (List ℕ)). FileHolds file_limit (RangeRight n range) o) taken.told taken.right
 range_in false file words files n range taken = taken
 
-pub no_range : (disturbed : Bool) (file : ℕ) (words : List (List ℕ)) (files : Files) (n : ℕ) (range : Matrix) → disturbed ≡ false → IsRangeIn disturbed file words files n range → range ≡ no_shifts n
+no_range : (disturbed : Bool) (file : ℕ) (words : List (List ℕ)) (files : Files) (n : ℕ) (range : Matrix) → disturbed ≡ false → IsRangeIn disturbed file words files n range → range ≡ no_shifts n
 no_range true file words files n range is taken = absurd (let never : ⊥ = cc in never)
 no_range false file words files n range is taken = taken
+
+-- the loops stay under what was taken
+pub loops_stay : (disturbed : Bool) (file : ℕ) (words : List (List ℕ)) (files : Files) (p : DesignParts) (c : Numbers) (b : Printed) (range : Matrix) →
+    IsRangeTaken disturbed (design_of p).states file (Some files) (word_of words file) range → KeepsLoops p c b range → LoopsStay disturbed file words files p c b
+loops_stay disturbed file words files p c b range taken keeps =
+    let here = range_in disturbed file words files (design_of p).states range taken in
+    record {
+      range = range;
+      is_range = here;
+      stays = keeps;
+      undisturbed = λ is. undisturbed p c b range (no_range disturbed file words files (design_of p).states range is here) keeps;
+    }
 
 -- ---- the names
 pub six_names : (disturbed : Bool) (n : ℕ) → n ≡ (if disturbed then 7 else 6) → 5 < n
@@ -83,26 +95,21 @@ module _ (disturbed : Bool) (words : List (List ℕ)) (text report : List ℕ) (
   inputs : HoldsInputs (files (word_of words 1)) (files (word_of words 2)) from.p from.plans
   inputs = inputs_of words files from.p from.plans read.inputs
 
+  abbrev loops : LoopsStay disturbed 6 words files from.p from.texts.texts.controller from.texts.texts.bounds
+  loops = loops_stay disturbed 6 words files from.p from.texts.texts.controller from.texts.texts.bounds from.range read.range_taken from.texts.keeps
+
   pub stayed : word_of words 4 ≢ word_of words 3 → AreWritten files new (word_of words 3) (word_of words 4) text report → IsStayed disturbed words files new
-  stayed apart written =
-      let here = range_in disturbed 6 words files (design_of from.p).states from.range read.range_taken in
-      record {
-        generated = generated words from.p from.plans text report from.texts.texts files new inputs apart written;
-        range = from.range;
-        is_range = here;
-        stays = from.texts.keeps;
-        undisturbed = λ is. undisturbed from.p from.texts.texts.controller from.texts.texts.bounds from.range (no_range disturbed 6 words files (design_of from.p).states from.range is here) from.texts.keeps;
-      }
+  stayed apart written = record { generated = generated words from.p from.plans text report from.texts.texts files new inputs apart written; loops = loops }
 
   pub first_cut : IsCutShort files new (word_of words 3) text → IsControllerCut words files new
   first_cut cut = controller_cut words from.p from.plans text report from.texts.texts files new inputs cut
 
-  pub second_cut : word_of words 4 ≢ word_of words 3 → IsSecondCut files new (word_of words 3) (word_of words 4) text report → IsReportCut words files new
-  second_cut apart cut = report_cut words from.p from.plans text report from.texts.texts files new inputs apart cut
+  pub second_cut : word_of words 4 ≢ word_of words 3 → IsSecondCut files new (word_of words 3) (word_of words 4) text report → IsStayReportCut disturbed words files new
+  second_cut apart cut = record { cut = report_cut words from.p from.plans text report from.texts.texts files new inputs apart cut; loops = loops }
 
 -- the texts of a design and a policy, whose loops stay in the box, for the command that writes them
 pub stay_made : (disturbed : Bool) (words : List (List ℕ)) → IsStay words disturbed → (text report : List ℕ) (held : Option Files) → AreTextsUnder disturbed words held text report →
-    MakesTwo (stay_calls disturbed) 3 4 (IsStayed disturbed words) (IsControllerCut words) (IsReportCut words) words held text report
+    MakesTwo (stay_calls disturbed) 3 4 (IsStayed disturbed words) (IsControllerCut words) (IsStayReportCut disturbed words) words held text report
 stay_made disturbed words is text report held from = record {
   Read = λ o. AreStayFilesRead disturbed words o from.p from.plans from.faces from.range;
   read = from.read;

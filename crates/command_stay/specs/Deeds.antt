@@ -4,14 +4,14 @@ use Rattle.io_edge.specs.Faults.{Files}
 use Rattle.command_line.specs.Deeds.{Deeds}
 use Rattle.command_line.specs.declared.status.Status.{Status}
 use Rattle.command_line.specs.declared.status.Status.TheVariants.{Done, WriteFault}
-use Rattle.command_generate.specs.Generate.{IsControllerCut, IsReportCut}
-use Rattle.command_stay.specs.Stay.{StayCalls, StayReaches, IsStayed}
+use Rattle.command_generate.specs.Generate.{IsControllerCut}
+use Rattle.command_stay.specs.Stay.{StayCalls, StayReaches, IsStayed, IsStayReportCut}
 
 -- by the answer: both texts stand, or the write of one of them was cut short
 pub record StayLeaves (disturbed : Bool) (words : List (List ℕ)) (s : Status) (old new : Option Files) : Type 0 where
   pub stayed : s ≡ Done → IfSome old (λ files. IsSomeAnd new (IsStayed disturbed words files))
   pub controller_cut : s ≡ WriteFault 3 → IfSome old (λ files. IsSomeAnd new (IsControllerCut words files))
-  pub report_cut : s ≡ WriteFault 4 → IfSome old (λ files. IsSomeAnd new (IsReportCut words files))
+  pub report_cut : s ≡ WriteFault 4 → IfSome old (λ files. IsSomeAnd new (IsStayReportCut disturbed words files))
 
 abbrev pub stay_deeds : (disturbed : Bool) → Deeds
 stay_deeds disturbed = record {

@@ -28,7 +28,7 @@ use Rattle.command_files.specs.Texts.{FacesRight, RangeRight}
 use Rattle.command_design_files.specs.Reading.{ReadsDesign, ReadsPolicy}
 use Rattle.command_files.specs.Reading.{ReadsFaces, ReadsRange}
 use Rattle.command_generate.specs.Made.{IsRefusedBy}
-use Rattle.command_generate.specs.Generate.{HoldsInputs, IsGenerated}
+use Rattle.command_generate.specs.Generate.{HoldsInputs, IsGenerated, IsReportCut}
 use Rattle.command_stay.specs.Excess.{AreStatedExcesses}
 
 -- ---- the answer
@@ -95,12 +95,20 @@ KeepsLoops p c b range =
     (start : List ℤ) → IsAdmissible c start → (shifts : ℕ → ℕ → ℤ) → (turns : ℕ) → AreShiftsUpTo (design_of p) (at (row_of range 0)) (at (row_of range 1)) shifts turns →
     IsKeptAt (design_of p) c b (state_under (design_of p) c start shifts turns)
 
+-- the closed loop of a controller stays in the box, under all shifts of the range that the name at this position holds; without disturbances, as `loop` runs it
+pub record LoopsStay (disturbed : Bool) (file : ℕ) (words : List (List ℕ)) (files : Files) (p : DesignParts) (c : Numbers) (b : Printed) : Type 0 where
+  pub range : Matrix
+  pub is_range : IsRangeIn disturbed file words files (design_of p).states range
+  pub stays : KeepsLoops p c b range
+  pub undisturbed : disturbed ≡ false → (start : List ℤ) → IsAdmissible c start → (turns : ℕ) → IsKeptAt (design_of p) c b (state_after (design_of p) c start turns)
+
 -- The third name holds the text of a controller and the fourth the report of its bounds, as `generate` leaves them: made of the design and the policy in
--- the first two, and certified. And its closed loop stays in the box, under all shifts of the range; without disturbances, as `loop` runs it.
+-- the first two, and certified. And its closed loop stays in the box.
 pub record IsStayed (disturbed : Bool) (words : List (List ℕ)) (files new : Files) : Type 0 where
   pub generated : IsGenerated words files new
-  pub range : Matrix
-  pub is_range : IsRangeIn disturbed 6 words files (design_of generated.made.p).states range
-  pub stays : KeepsLoops generated.made.p generated.controller generated.bounds range
-  pub undisturbed : disturbed ≡ false → (start : List ℤ) → IsAdmissible generated.controller start → (turns : ℕ) →
-      IsKeptAt (design_of generated.made.p) generated.controller generated.bounds (state_after (design_of generated.made.p) generated.controller start turns)
+  pub loops : LoopsStay disturbed 6 words files generated.made.p generated.controller generated.bounds
+
+-- so it does where the report was cut short: the controller's text stands whole
+pub record IsStayReportCut (disturbed : Bool) (words : List (List ℕ)) (files new : Files) : Type 0 where
+  pub cut : IsReportCut words files new
+  pub loops : LoopsStay disturbed 6 words files cut.made.p cut.controller cut.bounds

@@ -7,6 +7,7 @@ use Rattle.command_line.specs.declared.status.Status.{Status}
 use Rattle.command_line.specs.declared.status.Status.TheVariants.{Done}
 use Rattle.command_generate.proofs.Making.{refused_no_read, refused_no_write}
 use Rattle.command_demo.specs.Demo.{DemoCalls}
+use Rattle.design_maker.specs.Texts.{states_text}
 use Rattle.command_demo.proofs.Inside.{inside, shown}
 use Rattle.command_demo.proofs.Answering.{answer_is, refused_is, printed_done, printed_one, printed_no_read, printed_fault}
 use Rattle.command_demo.proofs.PrintedText.{prints_told, quiet_told}
@@ -15,7 +16,7 @@ use Rattle.command_demo.proofs.command.demo_of.Goals as goal
 pub print_text-requires-clause-inside : goal.print_text-requires-clause-inside
 print_text-requires-clause-inside g c =
     let inputs = c.args.inputs.now in
-    inside (design_of inputs.design) c.in-Ok.made.controller inputs.states c.in-Ok.ensures.made.built.made.made.sizes c.requires.states c.requires.inside
+    inside (design_of inputs.design) c.in-Ok.made.controller states_text inputs.states c.in-Ok.ensures.made.built.made.made.sizes c.requires.states c.requires.inside
 
 pub returns-in-Ok : goal.returns-in-Ok
 returns-in-Ok g c =

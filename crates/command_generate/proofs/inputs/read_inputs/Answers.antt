@@ -5,7 +5,7 @@ use Rattle.command_line.specs.Words.{word_of}
 use Rattle.command_line.proofs.Results.{err_same}
 use Rattle.command_design_files.specs.Texts.{PolicyRight, PolicyWrong}
 use Rattle.command_generate.specs.Inputs.{EndsInputs}
-use Rattle.command_generate.proofs.Ends.{reading_later}
+use Rattle.command_generate.proofs.Ending.{reading_later}
 use Rattle.command_generate.proofs.inputs.read_inputs.Goals as goal
 
 pub returns-in_err-design : goal.returns-in_err-design

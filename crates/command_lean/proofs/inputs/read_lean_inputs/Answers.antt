@@ -5,7 +5,7 @@ use Rattle.command_line.specs.Limit.{file_limit}
 use Rattle.command_line.specs.Words.{word_of}
 use Rattle.command_line.proofs.Results.{err_same}
 use Rattle.command_design_files.specs.Texts.{PolicyRight, PolicyWrong}
-use Rattle.command_generate.proofs.Ends.{reading_later}
+use Rattle.command_generate.proofs.Ending.{reading_later}
 use Rattle.command_lean.specs.Reading.{EndsLeanInputs}
 use Rattle.command_lean.proofs.inputs.read_lean_inputs.Goals as goal
 

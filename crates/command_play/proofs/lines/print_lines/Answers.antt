@@ -5,11 +5,17 @@ use Rattle.command_line.specs.declared.status.Status.TheVariants.{Memory}
 use Rattle.command_play.specs.Plays.{HaveRunRoom, run_line, run_lines}
 use Rattle.command_play.specs.Printing.{TrapsFrom, PlaysPrint}
 use Rattle.command_line.specs.declared.status.Status.TheVariants.{Done}
-use Rattle.command_play.proofs.RunLines.{room_more, print_cut, cut_prints, mapped, stop_ends, stop_prints, stop_some, all_print, told_ok, grown, said_of, none_print}
+use Rattle.command_play.proofs.RunLines.{room_more, print_cut, cut_prints, mapped, stop_ends, stop_prints, stop_first, all_print, told_ok, grown, said_of, none_print}
 use Rattle.command_play.proofs.lines.print_lines.Goals as goal
 
 pub returns-in_default-clause-printed : goal.returns-in_default-clause-printed
 returns-in_default-clause-printed g c = none_print c.args.machine.now.listing c.args.states.now (g.O.Sink.got c.args.out.now)
+
+pub returns-then-is_err-clause-quiet : goal.returns-then-is_err-clause-quiet
+returns-then-is_err-clause-quiet g c = λ done memory fault trap. absurd (fault refl)
+
+pub returns-clause-quiet : goal.returns-clause-quiet
+returns-clause-quiet g c = λ done memory fault trap. absurd (done refl)
 
 pub returns-then-is_err-clause-printed : goal.returns-then-is_err-clause-printed
 returns-then-is_err-clause-printed g c =
@@ -49,8 +55,9 @@ returns-in-Err-clause-ends g c =
     let why = said_of (λ k xi. (s ≡ Memory) ⊎ TrapsFrom k (i + 1) xi s) c.loop-i.machine.listing l c.row.result.now (row_of m i) c.loop-i.invariant.listing there c.in-Err.ensures.ends in
     stop_ends l m i s c.requires.inside lt c.loop-i.invariant.room why
 
-pub returns-in-Err-clause-some : goal.returns-in-Err-clause-some
-returns-in-Err-clause-some g c = stop_some c.loop-i.machine.listing c.row.result.now (c.loop-i.i + 1) c.in-Err.status c.in-Err.ensures.ends
+pub returns-in-Err-clause-quiet : goal.returns-in-Err-clause-quiet
+returns-in-Err-clause-quiet g c = λ done memory fault trap.
+    c.loop-i.invariant.first (stop_first c.loop-i.machine.listing c.row.result.now c.loop-i.i c.in-Err.status c.in-Err.ensures.ends memory trap)
 
 pub loop-i-preserved : goal.loop-i-preserved
 loop-i-preserved g c =
@@ -68,6 +75,7 @@ loop-i-preserved g c =
       listing = c.in-Ok-line_from.ensures.listing ∙ c.loop-i.invariant.listing;
       got = grown l m i c.deref.result.now (g.O.Sink.got c.args.out.now) (g.O.Sink.got c.loop-i.out) (g.O.Sink.got c.put.new.self) lt line c.loop-i.invariant.got put;
       room = room_more l m i c.loop-i.invariant.room here;
+      first = λ none. absurd (omega (arith, none));
       faults = omega (arith, c.loop-i.invariant.faults, c.put.ensures.no_fewer);
     }
 

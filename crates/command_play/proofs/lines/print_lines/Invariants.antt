@@ -9,5 +9,6 @@ invariant-loop-i g l = record {
   listing : l.machine.listing ≡ l.fn.machine.listing;
   got : g.O.Sink.got l.out ≡ option_map (λ old. old ++ run_lines l.fn.machine.listing l.states l.i) (g.O.Sink.got l.fn.out);
   room : HaveRunRoom l.fn.machine.listing l.states l.i;
+  first : l.i ≡ 0 → l.out ≡ l.fn.out;
   faults : g.O.Sink.faults l.fn.out ≤ g.O.Sink.faults l.out;
 }

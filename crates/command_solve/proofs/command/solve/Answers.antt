@@ -1,56 +1,32 @@
-use Rattle.std.proofs.Common.{ap, refl, le_refl, ◌∙◌}
-use Rattle.io_edge.specs.Faults.{Rose}
+use Rattle.std.proofs.Common.{ap}
 use Rattle.qp_model.specs.machine.Controller.{Numbers}
-use Rattle.command_line.proofs.Counts.{none_falls_twice}
-use Rattle.command_files.proofs.TwoFiles.{first_ends, second_ends, both_called, both_no_read, both_fault}
-use Rattle.command_solve.specs.Solve.{SolveStarts}
-use Rattle.command_solve.proofs.Solving.{solve_files, nothing_printed, runs_start, runs_print}
+use Rattle.command_files.proofs.TwoFiles.{passed_twice, first_ends, second_ends, file_ended, both_done}
+use Rattle.command_solve.proofs.Solving.{solve_files, solve_printed, runs_start, runs_print}
 use Rattle.command_solve.proofs.command.solve.Goals as goal
 
 -- the controller's file ends it
 pub returns-in-Err : goal.returns-in-Err
 returns-in-Err g c =
     let words = c.args.words.now in
-    let held = g.S.Store.held c.args.store.now in
+    let did = c.read_controller_file.ensures in
     let s = c.in-Err.ended in
-    let ends = rw c.at.ensures at c.in-Err.ensures.ends in
-    let end = first_ends solve_files words held (g.S.Store.read_faults c.args.store.now) (g.S.Store.read_faults c.read_controller_file.new.store) s ends in
-    record {
-      called = end.called;
-      prints = nothing_printed words held (g.O.Sink.got c.args.out.now) s end.done end.write;
-      quiet = λ done memory fault. refl;
-      read_fault = end.read_fault;
-      write_fault = λ file is. absurd (end.write file is);
-      held = c.read_controller_file.ensures.held;
-      reads = c.read_controller_file.ensures.reads;
-      writes = c.read_controller_file.ensures.writes;
-      no_fewer = le_refl (g.O.Sink.faults c.args.out.now);
-    }
+    file_ended solve_printed g.S.Store g.O.Sink words c.args.store.now c.read_controller_file.new.store c.args.out.now s (record { held = did.held; reads = did.reads; writes = did.writes }) (λ never. never)
+    (first_ends solve_files words (g.S.Store.held c.args.store.now) (g.S.Store.read_faults c.args.store.now) (g.S.Store.read_faults c.read_controller_file.new.store) s (rw c.at.ensures at c.in-Err.ensures.ends))
 
 -- the controller is right, and the states' file ends it
 pub returns : goal.returns
 returns g c =
     let words = c.args.words.now in
-    let held = g.S.Store.held c.args.store.now in
     let kept = c.in-Ok.ensures.held in
-    let right = rw c.at.ensures at c.in-Ok.ensures.right in
-    let before = g.S.Store.read_faults c.args.store.now in
-    let mid = g.S.Store.read_faults c.read_controller_file.new.store in
-    let now = g.S.Store.read_faults c.read_states_file.new.store in
+    let did = c.read_states_file.ensures in
+    let mid = c.read_controller_file.new.store in
+    let now = c.read_states_file.new.store in
     let s = c.in-Err-read_states_file.status in
     let ends = rw (kept, ap (λ (k : Numbers). k.states) c.parts.ensures.value, c.at-2.ensures) at c.in-Err-read_states_file.ensures.ends in
-    let end = second_ends solve_files words held c.in-Ok.controller right before mid now s ends c.in-Ok.ensures.reads c.read_states_file.ensures.reads in
-    record {
-      called = end.called;
-      prints = nothing_printed words held (g.O.Sink.got c.args.out.now) s end.done end.write;
-      quiet = λ done memory fault. refl;
-      read_fault = end.read_fault;
-      write_fault = λ file is. absurd (end.write file is);
-      held = c.read_states_file.ensures.held ∙ kept;
-      reads = none_falls_twice _ _ _ c.in-Ok.ensures.reads c.read_states_file.ensures.reads;
-      writes = none_falls_twice _ _ _ c.in-Ok.ensures.writes c.read_states_file.ensures.writes;
-      no_fewer = le_refl (g.O.Sink.faults c.args.out.now);
-    }
+    file_ended solve_printed g.S.Store g.O.Sink words c.args.store.now now c.args.out.now s
+    (passed_twice g.S.Store c.args.store.now mid now (record { held = kept; reads = c.in-Ok.ensures.reads; writes = c.in-Ok.ensures.writes }) (record { held = did.held; reads = did.reads; writes = did.writes })) (λ never. never)
+    (second_ends solve_files words (g.S.Store.held c.args.store.now) c.in-Ok.controller (rw c.at.ensures at c.in-Ok.ensures.right) (g.S.Store.read_faults c.args.store.now) (g.S.Store.read_faults mid) (g.S.Store.read_faults now) s ends
+    c.in-Ok.ensures.reads did.reads)
 
 -- the states are right, too
 pub returns-in-Ok-read_states_file : goal.returns-in-Ok-read_states_file
@@ -58,21 +34,16 @@ returns-in-Ok-read_states_file g c =
     let words = c.args.words.now in
     let held = g.S.Store.held c.args.store.now in
     let kept = c.in-Ok.ensures.held in
+    let did = c.read_states_file.ensures in
+    let mid = c.read_controller_file.new.store in
+    let now = c.read_states_file.new.store in
     let n = c.in-Ok.controller in
     let first = rw c.at.ensures at c.in-Ok.ensures.right in
     let m = c.in-Ok-read_states_file.states in
     let right = rw (kept, ap (λ (k : Numbers). k.states) c.parts.ensures.value, c.at-2.ensures) at c.in-Ok-read_states_file.ensures.right in
     let s = c.print_runs.result in
-    let ends = c.print_runs.ensures.ends in
-    record {
-      called = both_called solve_files words held n first m right s ends;
-      prints = runs_print words held n first m right s (g.O.Sink.got c.args.out.now) (g.O.Sink.got c.print_runs.new.out) ends c.print_runs.ensures.printed;
-      quiet = c.print_runs.ensures.quiet;
-      read_fault = λ file is. absurd (both_no_read solve_files words held n first m right s ends file is);
-      write_fault = both_fault solve_files words held n first m right s (λ k. SolveStarts (k 1) (k 2)) (runs_start words held n first m right s)
-          (Rose (g.O.Sink.faults c.args.out.now) (g.O.Sink.faults c.print_runs.new.out)) ends c.print_runs.ensures.failed;
-      held = c.read_states_file.ensures.held ∙ kept;
-      reads = none_falls_twice _ _ _ c.in-Ok.ensures.reads c.read_states_file.ensures.reads;
-      writes = none_falls_twice _ _ _ c.in-Ok.ensures.writes c.read_states_file.ensures.writes;
-      no_fewer = c.print_runs.ensures.no_fewer;
-    }
+    let end = c.print_runs.ensures in
+    both_done solve_printed g.S.Store g.O.Sink words c.args.store.now now c.args.out.now s
+    (passed_twice g.S.Store c.args.store.now mid now (record { held = kept; reads = c.in-Ok.ensures.reads; writes = c.in-Ok.ensures.writes }) (record { held = did.held; reads = did.reads; writes = did.writes }))
+    n first m right c.print_runs.new.out end.ends (runs_start words held n first m right s) (runs_print words held n first m right s (g.O.Sink.got c.args.out.now) (g.O.Sink.got c.print_runs.new.out) end.ends end.printed)
+    (λ earlier. end.quiet earlier.done earlier.memory earlier.fault) end.failed end.no_fewer

@@ -1,0 +1,188 @@
+-- What a run does, from less: that it doesn't give up, and what its answer doesn't say, follow from what is called for and from the faults.
+use Rattle.std.proofs.Common.{◌≡◌, ◌≢◌, ◌⊎◌, inl, inr, ℕ, ◌≤◌, List, Option, Some, None, refl, sym, le_refl}
+use Rattle.std.specs.Prelude.{IfSome, IsSomeAnd}
+use Rattle.io_edge.specs.Faults.{Files, Rose, NoneFalls}
+use Rattle.io_edge.specs.declared.store.Store.{Ghosts as Disk}
+use Rattle.io_edge.specs.declared.sink.Sink.{Ghosts as Screen}
+use Rattle.command_line.specs.Words.{word_of}
+use Rattle.command_line.specs.Answers.{Contents, ForContents, IsAnswer, IsCaused}
+use Rattle.command_line.specs.Deeds.{Deeds, IsCalledFor, UsesNoFile, IsUnwritten, IsBeforePrinting, IsUnprinted, WriteFailed, NoneRises}
+use Rattle.command_line.specs.Does.{IsTelling, Does, DoesInStore}
+use Rattle.command_line.proofs.Composing.{some_contents}
+use Rattle.command_line.specs.declared.status.Status.{Status}
+use Rattle.command_line.specs.declared.status.Status.TheVariants.{Done, Memory, Usage, ReadFault, WriteFault, Text, Refused, Controller, OutsideBox, Long, Mismatch, Unequal, NoStay, Cell, Listing, Trap}
+
+-- ---- what an answer is
+pub data Cause : Status → Type 0 where
+  memory : Cause Memory
+  read : (file : ℕ) → Cause (ReadFault file)
+  write : (file : ℕ) → Cause (WriteFault file)
+  caused : (s : Status) → IsCaused s → Cause s
+
+pub cause : (s : Status) → Cause s
+cause Memory = memory
+cause (ReadFault file) = read file
+cause (WriteFault file) = write file
+cause Done = caused Done (record { memory = λ e. cc; read = λ file e. cc; write = λ file e. cc })
+cause Usage = caused Usage (record { memory = λ e. cc; read = λ file e. cc; write = λ file e. cc })
+cause (Text file fault) = caused (Text file fault) (record { memory = λ e. cc; read = λ file e. cc; write = λ file e. cc })
+cause (Refused refusal) = caused (Refused refusal) (record { memory = λ e. cc; read = λ file e. cc; write = λ file e. cc })
+cause (Controller file fault) = caused (Controller file fault) (record { memory = λ e. cc; read = λ file e. cc; write = λ file e. cc })
+cause (OutsideBox entry turn coordinate) = caused (OutsideBox entry turn coordinate) (record { memory = λ e. cc; read = λ file e. cc; write = λ file e. cc })
+cause (Long file) = caused (Long file) (record { memory = λ e. cc; read = λ file e. cc; write = λ file e. cc })
+cause (Mismatch field design controller) = caused (Mismatch field design controller) (record { memory = λ e. cc; read = λ file e. cc; write = λ file e. cc })
+cause (Unequal entry input left right) = caused (Unequal entry input left right) (record { memory = λ e. cc; read = λ file e. cc; write = λ file e. cc })
+cause (NoStay entry bound) = caused (NoStay entry bound) (record { memory = λ e. cc; read = λ file e. cc; write = λ file e. cc })
+cause (Cell cell refusal) = caused (Cell cell refusal) (record { memory = λ e. cc; read = λ file e. cc; write = λ file e. cc })
+cause (Listing file line) = caused (Listing file line) (record { memory = λ e. cc; read = λ at e. cc; write = λ at e. cc })
+cause (Trap entry step place) = caused (Trap entry step place) (record { memory = λ e. cc; read = λ file e. cc; write = λ file e. cc })
+
+-- ---- what tells
+pub done_telling : (s : Status) → s ≡ Done → IsTelling s
+done_telling s is = record { usage = λ e. cc; text = λ at e. cc; controller = λ at e. cc }
+
+-- ---- a row of the table of commands: what it reaches it reads, and what it calls for tells
+pub record IsRow (deeds : Deeds) : Type 0 where
+  pub reached : (contents : Contents) (file : ℕ) → deeds.reaches contents file → deeds.reads file
+  pub telling : (contents : Contents) (s : Status) → deeds.calls contents s → IsTelling s
+
+-- ---- what follows for each answer
+module _ (deeds : Deeds) (row : IsRow deeds) (words : List (List ℕ)) (held : Option Files) (result : Status) (called : IsCaused result → ForContents words held (λ contents. IsAnswer (deeds.calls contents) result)) where
+  -- it tells
+  pub telling : IsTelling result
+  telling = by (cause result) (λ h. let answer = called h in row.telling answer.contents result answer.true_of.called)
+    where
+      by : {s : Status} → Cause s → (IsCaused s → IsTelling s) → IsTelling s
+      by memory told = record { usage = λ e. cc; text = λ at e. cc; controller = λ at e. cc }
+      by (read file) told = record { usage = λ e. cc; text = λ at e. cc; controller = λ at e. cc }
+      by (write file) told = record { usage = λ e. cc; text = λ at e. cc; controller = λ at e. cc }
+      by (caused s h) told = told h
+
+  -- the command didn't give up
+  module _ (rb rn wb wn : List ℕ → ℕ) (pb pn : ℕ) where
+    no_write : (file : ℕ) → NoneRises deeds words rb rn wb wn pb pn → WriteFailed deeds words file wb wn pb pn → ⊥
+    no_write file none (inl a) = none.output a.1 a.2
+    no_write file none (inr a) = none.writes file a.0 a.1
+
+    pub complete : ((file : ℕ) → result ≡ ReadFault file → ForContents words held (λ contents. deeds.reaches contents file) × Rose (rb (word_of words file)) (rn (word_of words file))) →
+        ((file : ℕ) → result ≡ WriteFault file → ForContents words held deeds.starts × WriteFailed deeds words file wb wn pb pn) →
+        (s : Status) → IsCalledFor deeds words held s → NoneRises deeds words rb rn wb wn pb pn → (result ≡ s) ⊎ (result ≡ Memory)
+    complete read_fault write_fault s for_s none = by (cause result) refl
+      where
+        by : {r : Status} → Cause r → result ≡ r → (result ≡ s) ⊎ (result ≡ Memory)
+        by memory is = inr is
+        by (read file) is =
+            let fault = read_fault file is in
+            absurd (none.reads file (row.reached fault.0.contents file fault.0.true_of) fault.1)
+        by (write file) is = absurd (no_write file none (write_fault file is).1)
+        by (caused r h) is =
+            let answer = called (rw is h) in
+            inl (sym (answer.true_of.only s (for_s answer.contents answer.told)))
+
+-- ---- what an output has that got nothing
+pub unshown : (got : Option (List ℕ)) (P : (old new : List ℕ) → Type 0) → ((old : List ℕ) → P old old) → IfSome got (λ old. IsSomeAnd got (P old))
+unshown (Some old) P h = h old
+unshown None P h = tt
+
+-- what it has, if that rests on no file
+pub shown_anyhow : (words : List (List ℕ)) (held : Option Files) (before now : Option (List ℕ)) (P : (old new : List ℕ) → Type 0) → IfSome before (λ old. IsSomeAnd now (P old)) →
+    IfSome before (λ old. IsSomeAnd now (λ new. ForContents words held (λ contents. P old new)))
+shown_anyhow words held (Some old) (Some new) P h = some_contents words held (λ contents. P old new) (λ contents. h)
+shown_anyhow words held (Some old) None P h = h
+shown_anyhow words held None now P h = tt
+
+-- counts that stand still
+pub none_falls : (counts : List ℕ → ℕ) → NoneFalls counts counts
+none_falls counts = record { each = λ name. le_refl (counts name) }
+
+-- ---- a command that prints, and writes no file
+pub record Printing {S O : Type 0} (disk : Disk S) (screen : Screen O) (words : List (List ℕ)) (deeds : Deeds) (before now : S) (out out_now : O) (s : Status) : Type 0 where
+  pub called : IsCaused s → ForContents words (disk.held before) (λ contents. IsAnswer (deeds.calls contents) s)
+  pub prints : IfSome (screen.got out) (λ old. IsSomeAnd (screen.got out_now) (λ new. ForContents words (disk.held before) (λ contents. deeds.shows contents s old new)))
+  pub quiet : IsBeforePrinting deeds s → out_now ≡ out
+  pub read_fault : (file : ℕ) → s ≡ ReadFault file →
+      ForContents words (disk.held before) (λ contents. deeds.reaches contents file) × Rose (disk.read_faults before (word_of words file)) (disk.read_faults now (word_of words file))
+  pub write_fault : (file : ℕ) → s ≡ WriteFault file → (file ≡ 0) × ForContents words (disk.held before) deeds.starts × Rose (screen.faults out) (screen.faults out_now)
+  pub held : disk.held now ≡ disk.held before
+  pub reads : NoneFalls (disk.read_faults before) (disk.read_faults now)
+  pub writes : NoneFalls (disk.write_faults before) (disk.write_faults now)
+  pub no_fewer : screen.faults out ≤ screen.faults out_now
+
+pub printing : {S O : Type 0} (disk : Disk S) (screen : Screen O) (words : List (List ℕ)) (deeds : Deeds) → IsRow deeds → deeds.prints → (before now : S) (out out_now : O) (s : Status) → (UsesNoFile deeds → now ≡ before) →
+    (disk.held now ≡ disk.held before → deeds.leaves words s (disk.held before) (disk.held now)) → Printing disk screen words deeds before now out out_now s → Does disk screen words deeds before now out out_now s
+printing disk screen words deeds row prints before now out out_now s unused leaves p = record {
+  called = p.called;
+  telling = telling deeds row words (disk.held before) s p.called;
+  complete =
+      complete deeds row words (disk.held before) s p.called (disk.read_faults before) (disk.read_faults now) (disk.write_faults before) (disk.write_faults now) (screen.faults out) (screen.faults out_now) p.read_fault failed;
+  read_fault = p.read_fault;
+  write_fault = failed;
+  shows = p.prints;
+  quiet = λ unprinted. elim unprinted [ inl never ↦ absurd (never prints) | inr earlier ↦ p.quiet earlier ];
+  leaves = leaves p.held;
+  held = λ unwritten. p.held;
+  unused = unused;
+  reads = p.reads;
+  writes = p.writes;
+  no_fewer = p.no_fewer;
+}
+  where
+    failed : (at : ℕ) → s ≡ WriteFault at → ForContents words (disk.held before) deeds.starts × WriteFailed deeds words at (disk.write_faults before) (disk.write_faults now) (screen.faults out) (screen.faults out_now)
+    failed at is = let found = p.write_fault at is in (found.1, inl (found.0, prints, found.2))
+
+-- ---- a command that writes files, and has no output
+pub record Writing {S : Type 0} (disk : Disk S) (words : List (List ℕ)) (deeds : Deeds) (before now : S) (s : Status) : Type 0 where
+  pub called : IsCaused s → ForContents words (disk.held before) (λ contents. IsAnswer (deeds.calls contents) s)
+  pub read_fault : (file : ℕ) → s ≡ ReadFault file →
+      ForContents words (disk.held before) (λ contents. deeds.reaches contents file) × Rose (disk.read_faults before (word_of words file)) (disk.read_faults now (word_of words file))
+  pub write_fault : (file : ℕ) → s ≡ WriteFault file →
+      deeds.writes file × ForContents words (disk.held before) deeds.starts × Rose (disk.write_faults before (word_of words file)) (disk.write_faults now (word_of words file))
+  pub leaves : deeds.leaves words s (disk.held before) (disk.held now)
+  pub held : s ≢ Done → ((file : ℕ) → s ≢ WriteFault file) → disk.held now ≡ disk.held before
+  pub reads : NoneFalls (disk.read_faults before) (disk.read_faults now)
+  pub writes : NoneFalls (disk.write_faults before) (disk.write_faults now)
+
+pub writing : {S : Type 0} (disk : Disk S) (words : List (List ℕ)) (deeds : Deeds) → IsRow deeds → (file at : ℕ) → deeds.reads file → deeds.writes at → (before now : S) (s : Status) → Writing disk words deeds before now s →
+    DoesInStore disk words deeds before now s
+writing disk words deeds row file at reads writes before now s w = record {
+  called = w.called;
+  telling = telling deeds row words (disk.held before) s w.called;
+  complete =
+      complete deeds row words (disk.held before) s w.called (disk.read_faults before) (disk.read_faults now) (disk.write_faults before) (disk.write_faults now) 0 0 w.read_fault failed;
+  read_fault = w.read_fault;
+  write_fault = failed;
+  shows = tt;
+  quiet = λ unprinted. refl;
+  leaves = w.leaves;
+  held = λ unwritten. elim unwritten [ inl never ↦ absurd (never at writes) | inr none ↦ w.held none.0 none.1 ];
+  unused = λ unused. absurd (unused.reads file reads);
+  reads = w.reads;
+  writes = w.writes;
+  no_fewer = le_refl 0;
+}
+  where
+    failed : (position : ℕ) → s ≡ WriteFault position → ForContents words (disk.held before) deeds.starts × WriteFailed deeds words position (disk.write_faults before) (disk.write_faults now) 0 0
+    failed position is = let found = w.write_fault position is in (found.1, inr (found.0, found.2))
+
+-- beside any output it does the same, and the output is as it was
+pub beside_output : {S O : Type 0} (disk : Disk S) (screen : Screen O) (words : List (List ℕ)) (deeds : Deeds) → ¬ deeds.prints → ((contents : Contents) (s : Status) (old : List ℕ) → deeds.shows contents s old old) →
+    (before now : S) (out : O) (s : Status) → DoesInStore disk words deeds before now s → Does disk screen words deeds before now out out s
+beside_output disk screen words deeds silent shows before now out s does = record {
+  called = does.called;
+  telling = does.telling;
+  complete = λ t for_t none. does.complete t for_t (record { reads = none.reads; writes = none.writes; output = λ prints. absurd (silent prints) });
+  read_fault = does.read_fault;
+  write_fault = λ file is.
+      let found = does.write_fault file is in
+      (found.0, elim found.1 [ inl printed ↦ absurd (silent printed.1) | inr written ↦ inr written ]);
+  shows =
+      unshown (screen.got out) (λ old new. ForContents words (disk.held before) (λ contents. deeds.shows contents s old new))
+      (λ old. some_contents words (disk.held before) (λ contents. deeds.shows contents s old old) (λ contents. shows contents s old));
+  quiet = λ unprinted. refl;
+  leaves = does.leaves;
+  held = does.held;
+  unused = does.unused;
+  reads = does.reads;
+  writes = does.writes;
+  no_fewer = le_refl (screen.faults out);
+}

@@ -1,0 +1,65 @@
+use Rattle.std.proofs.Common.{refl}
+use Rattle.command_line.specs.Answers.{IsAnswer}
+use Rattle.command_line.specs.declared.status.Status.TheVariants.{Done}
+use Rattle.command_line.proofs.Composing.{some_contents}
+use Rattle.command_line.proofs.Doing.{printing, beside_output, shown_anyhow, none_falls}
+use Rattle.command_generate.specs.Deeds.{generate_deeds}
+use Rattle.command_demo.specs.Demo.{DemoCalls, DemoPrints}
+use Rattle.command_demo.specs.Deeds.{demo_deeds}
+use Rattle.command_demo.proofs.Row.{demo_row}
+use Rattle.command_list.specs.Deeds.{list_deeds}
+use Rattle.command_stay.specs.Deeds.{stay_deeds}
+use Rattle.command_lean.specs.Deeds.{lean_deeds}
+use Rattle.command_lean_stay.specs.Deeds.{lean_stay_deeds}
+use Rattle.command_split.specs.Deeds.{split_deeds}
+use Rattle.command_run.proofs.command.answer.Goals as goal
+
+-- ---- those that have no output
+pub returns-in-Generate : goal.returns-in-Generate
+returns-in-Generate g c =
+    rw c.in-Generate.is
+    (beside_output g.S.Store g.O.Sink c.args.words.now generate_deeds (λ never. never) (λ contents s old. refl) c.args.store.now c.generate.new.store c.args.out.now c.generate.result c.generate.ensures.does)
+
+pub returns-in-List : goal.returns-in-List
+returns-in-List g c =
+    rw c.in-List.is
+    (beside_output g.S.Store g.O.Sink c.args.words.now list_deeds (λ never. never) (λ contents s old. refl) c.args.store.now c.list.new.store c.args.out.now c.list.result c.list.ensures)
+
+pub returns-in-Stay : goal.returns-in-Stay
+returns-in-Stay g c =
+    rw c.in-Stay.is
+    (beside_output g.S.Store g.O.Sink c.args.words.now (stay_deeds c.in-Stay.disturbed) (λ never. never) (λ contents s old. refl) c.args.store.now c.stay.new.store c.args.out.now c.stay.result c.stay.ensures)
+
+pub returns-in-Lean : goal.returns-in-Lean
+returns-in-Lean g c =
+    rw c.in-Lean.is
+    (beside_output g.S.Store g.O.Sink c.args.words.now lean_deeds (λ never. never) (λ contents s old. refl) c.args.store.now c.lean.new.store c.args.out.now c.lean.result c.lean.ensures)
+
+pub returns-in-LeanStay : goal.returns-in-LeanStay
+returns-in-LeanStay g c =
+    rw c.in-LeanStay.is
+    (beside_output g.S.Store g.O.Sink c.args.words.now (lean_stay_deeds c.in-LeanStay.disturbed) (λ never. never) (λ contents s old. refl) c.args.store.now c.lean_stay.new.store c.args.out.now c.lean_stay.result c.lean_stay.ensures)
+
+pub returns-in-Split : goal.returns-in-Split
+returns-in-Split g c =
+    rw c.in-Split.is
+    (beside_output g.S.Store g.O.Sink c.args.words.now split_deeds (λ never. never) (λ contents s old. refl) c.args.store.now c.split.new.store c.args.out.now c.split.result c.split.ensures)
+
+-- ---- `demo`, which uses no file
+pub returns-in-Demo : goal.returns-in-Demo
+returns-in-Demo g c =
+    let words = c.args.words.now in
+    let held = g.S.Store.held c.args.store.now in
+    let number = c.in-Demo.number in
+    let s = c.demo.result in
+    rw c.in-Demo.is (printing g.S.Store g.O.Sink words (demo_deeds number) (demo_row number) tt c.args.store.now c.args.store.now c.args.out.now c.demo.new.out s (λ unused. refl) (λ same. same) (record {
+      called = λ caused. some_contents words held (λ k. IsAnswer (DemoCalls number) s) (λ k. c.demo.ensures.called caused);
+      prints = shown_anyhow words held (g.O.Sink.got c.args.out.now) (g.O.Sink.got c.demo.new.out) (DemoPrints number s) c.demo.ensures.prints;
+      quiet = λ earlier. c.demo.ensures.quiet earlier.done earlier.memory earlier.fault;
+      read_fault = λ file is. absurd (c.demo.ensures.no_read file is);
+      write_fault = λ file is. let found = c.demo.ensures.write_fault file is in (found.0, some_contents words held (λ k. DemoCalls number Done) (λ k. found.1), found.2);
+      held = refl;
+      reads = none_falls (g.S.Store.read_faults c.args.store.now);
+      writes = none_falls (g.S.Store.write_faults c.args.store.now);
+      no_fewer = c.demo.ensures.no_fewer;
+    }))
