@@ -1,15 +1,17 @@
 #!/usr/bin/env python3
 """Proposes coordinates, or a box, in which the closed loops of a model stay.
 
-    scripts/coordinates.py MODEL [NEW_MODEL] [--turns N]
+    scripts/coordinates.py MODEL [NEW_MODEL] [--turns N] [--seconds S]
 
 A box of a position and its rate is left at once from the corner where both have one sign: what moves goes on moving. In place of the position it tries the position in some time,
 `position + T rate`, for each state that another one moves, with T from half a period to 40 of them; and where the rate then leaves its box, a smaller box of the position, a fifth at a
-time. Where loops leave all the same, it makes the box smaller in one coordinate after the other, in that which helps most. Loops are those of exact model predictive control (cvxopt)
-from the corners, N turns (50).
+time. Then it tries the coordinates in which loops of linear gains shrink each by itself, with held states and last inputs in them, as `position - target`. Where loops leave all the
+same, it makes the box smaller in one coordinate after the other, held states among them, in that which helps most. Loops are those of exact model predictive control (cvxopt) from the
+corners, N turns (50).
 
-What was tried goes to standard error. The model with what was found goes to NEW_MODEL, or is printed; where loops stay in the model as it is, it is MODEL's own. It ends with status 12
-where nothing was found in which they stay. Nothing rests on it: `./mpc loop` shows the controller's own loops.
+What was tried goes to standard error, and every few seconds how far the search is: it ends after S seconds (60), or by an interrupt. The model with what was found goes to NEW_MODEL, or
+is printed; where loops stay in the model as it is, it is MODEL's own. Where no loops were found to stay, that is the best that was seen, the status is 12, and what leads out is
+said. Nothing rests on it: `./mpc loop` shows the controller's own loops.
 """
 import itertools
 import sys
@@ -22,13 +24,14 @@ need("numpy", "scipy", "cvxopt")
 import numpy
 
 from common import files
-from common.arguments import Parser, turns
+from common.arguments import Parser, positive, turns
+from common.budget import Budget
 from common.design_text import Design, plain
 from draft import draft
 from common.model_text import model_text
-from common.models import Model, read_model, split_name
+from common.models import Model, neat, read_model, split_name
 from common.programs import Programs, reach_of
-from common.progress import Progress
+from common.turns import candidates
 
 # T in periods
 TIMES = (0.0, 0.5, 0.7, 1.0, 1.3, 1.6, 2.0, 2.5, 3.2, 4.0, 5.0, 6.3, 8.0, 10.0, 13.0, 16.0, 20.0, 25.0, 32.0, 40.0)
@@ -40,6 +43,8 @@ WANTED = (1.0, 0.97, 0.93, 0.88)
 COUPLED = 0.02
 # the slack that a corner's plan must leave, in tolerances
 SLACK = 1 / 16
+# up to which part of the time pairs, and other coordinates, are tried
+PAIRS_PART, TURNED_PART = 0.35, 0.6
 
 
 @dataclass
@@ -70,7 +75,8 @@ class Search:
         sides = [(-1.0, 1.0) if i in moved and half else (0.0,) for i, half in enumerate(self.half)]
         if self.is_even():
             sides[moved[0]] = sides[moved[0]][:1]
-        return [self.middle + numpy.array(signs) * self.half * choice.kept for signs in itertools.product(*sides)]
+        middle = choice.rows(self.design.states) @ self.middle
+        return [middle + numpy.array(signs) * self.half * choice.kept for signs in itertools.product(*sides)]
 
     def is_even(self) -> bool:
         d = self.design
@@ -92,7 +98,7 @@ class Search:
                 plan = self.programs.best(state)
                 plan = self.programs.unlimited(state) if plan is None else plan
                 before, state = state, self.a @ state + self.b @ plan[: self.design.inputs]
-                off = abs(rows @ state - self.middle)
+                off = abs(rows @ (state - self.middle))
                 most = max(most, *(float(off[i] / half[i]) for i in moved if half[i] > 0))
                 if most > enough:
                     return most
@@ -103,26 +109,22 @@ class Search:
     def pairs(self) -> list[tuple[int, int]]:
         """Each coordinate with one that moves it and that it moves less, the strongest coupling first."""
         part = lambda i, j: abs(self.a[i, j]) * self.half[j] / self.half[i] if self.half[i] > 0 else 0.0
-        found = [(part(i, j), (i, j)) for i in range(self.own) for j in range(self.own) if i != j and self.half[j] > 0]
+        found = [(part(i, j), (i, j)) for i in range(self.own) for j in range(len(self.a)) if i != j and self.half[j] > 0]
         return [pair for weight, pair in sorted(found, reverse=True) if weight > COUPLED and self.a[pair] and self.a[pair[0], pair[0]] > 0.5 and weight > part(*pair[::-1])]
 
 
-def neat(value: float) -> float:
-    """A number of two digits."""
-    return float(f"{value:.2g}")
-
-
-def with_pair(found: Search, units: numpy.ndarray, choice: Choice, pair: tuple[int, int], wanted: float, progress: Progress) -> Choice:
+def with_pair(found: Search, units: numpy.ndarray, choice: Choice, pair: tuple[int, int], wanted: float, budget: Budget) -> Choice:
     """The choice with a T for this pair, and as much of its box as lets the loops go no further than wanted; else those at which they go least far."""
     (i, j), best, least = pair, choice, float("inf")
     ratio = units[i] / units[j]
     for round_ in range(CUTS):
         kept = [part * SMALLER**round_ if k == i else part for k, part in enumerate(choice.kept)]
         for time in TIMES:
+            if not budget.goes_on(PAIRS_PART):
+                return best
             # T in physical units has two digits, so that a text shows it
             trial = Choice(choice.times | ({pair: neat(time * found.a[pair] * ratio) / ratio} if time else {}), kept)
             there = found.far(trial, pair, least)
-            progress.reach(progress.done + 1)
             if there < least:
                 best, least = trial, there
         if least <= wanted:
@@ -130,13 +132,14 @@ def with_pair(found: Search, units: numpy.ndarray, choice: Choice, pair: tuple[i
     return best
 
 
-def smaller_boxes(found: Search, choice: Choice, progress: Progress) -> Iterator[Choice]:
+def smaller_boxes(found: Search, choice: Choice, budget: Budget) -> Iterator[Choice]:
     """Choices with a box that is smaller in one coordinate after the other, in that which helps most."""
-    everything = tuple(range(found.own))
+    able = [i for i in range(found.design.states) if found.half[i]]
     for _ in range(ROUNDS):
-        trials = [(found.far(cut(choice, i), everything), i) for i in everything]
+        trials = [(found.far(cut(choice, i), tuple(able)), i) for i in able if budget.goes_on()]
+        if len(trials) < len(able):
+            return
         choice = cut(choice, min(trials)[1])
-        progress.reach(progress.done + found.own)
         yield choice
 
 
@@ -145,53 +148,63 @@ def cut(choice: Choice, i: int) -> Choice:
     return Choice(choice.times, [part * SMALLER if k == i else part for k, part in enumerate(choice.kept)])
 
 
-def choices(model: Model, found: Search, progress: Progress) -> Iterator[Choice]:
+def choices(model: Model, found: Search, budget: Budget) -> Iterator[Choice]:
     """What is to be drafted, one after the other."""
-    plain_choice = Choice({}, [1.0] * found.design.states)
-    pairs = found.pairs()
-    last = plain_choice
+    plain_choice, able = Choice({}, [1.0] * model.n), tuple(i for i in range(model.n) if found.half[i])
+    pairs, last = found.pairs(), Choice({}, [1.0] * model.n)
     for wanted in WANTED if pairs else ():
         choice = plain_choice
         for pair in pairs:
             if found.far(choice, pair, wanted) > wanted:
-                choice = with_pair(found, model.state_units, choice, pair, wanted, progress)
+                choice = with_pair(found, model.state_units, choice, pair, wanted, budget)
         if choice != last:
             yield choice
         last = choice
-    yield from smaller_boxes(found, last, progress)
+    held, best, least = list(range(model.own, model.own + len(model.held))), last, found.far(last, able)
+    for times in candidates(found.design, model.own, held, model.state_units):
+        if times and budget.goes_on(TURNED_PART) and (far := found.far(Choice(times, plain_choice.kept), able, least)) < least:
+            best, least = Choice(times, plain_choice.kept), far
+            if least <= 1:
+                break
+    if best != last:
+        yield best
+    yield from smaller_boxes(found, best, budget)
 
 
-def reach(model: Model, choice: Choice, count: int) -> float:
+def reach(model: Model, choice: Choice, count: int) -> numpy.ndarray:
     """How far the loops of the choice's drafted design go; infinite where it can't be drafted."""
     try:
-        return float(max(reach_of(draft(Model(changed_text(model, choice))), count)))
+        return reach_of(draft(Model(changed(model, choice))), count)
     except Refusal:
-        return float("inf")
+        return numpy.full(model.n, numpy.inf)
 
 
 def told(model: Model, choice: Choice) -> str:
     """A choice in words."""
     units, names = model.state_units, model.names
-    words = [f"{name_of(model, i, j, time * units[i] / units[j])} in place of {names[i][0]}" for (i, j), time in choice.times.items()]
-    words += [f"{plain(part)} of the box of {names[i][0]}" for i, part in enumerate(choice.kept) if part < 1]
+    rows = (units[:, None] * choice.rows(model.n) / units[None, :]) @ model.to
+    words = [f"{name_of(model, i, rows[i])} in place of {names[i][0]}" for i in sorted({i for i, _ in choice.times})]
+    words += [f"{plain(part)} of the box of {names[i][0]}" for i, part in enumerate(choice.kept) if abs(part - 1) > 1e-9]
     return "with " + ", ".join(words) if words else "as it is"
 
 
-def search(model: Model, design: Design, count: int) -> Choice | None:
-    """The choice in which loops stay, or None."""
-    as_it_is, far = Choice({}, [1.0] * design.states), float(max(reach_of(design, count)))
-    say(f"{told(model, as_it_is)}: the loops reach {plain(far)} of the box")
-    if far <= 1:
-        return as_it_is
-    found = Search(design, len(model.to), count)
-    with Progress("trials at most", len(found.pairs()) * len(TIMES) * CUTS + ROUNDS * found.own) as progress:
-        for choice in choices(model, found, progress):
+def search(model: Model, design: Design, count: int, seconds: float = 60.0) -> tuple[Choice, numpy.ndarray]:
+    """The choice in which loops stay, or the one in which they go least far; and how far they go in each coordinate, as a part of the box."""
+    best = Choice({}, [1.0] * design.states), reach_of(design, count)
+    say(f"{told(model, best[0])}: the loops reach {plain(best[1].max())} of the box")
+    if best[1].max() <= 1:
+        return best
+    found = Search(design, model.own, count)
+    with Budget(seconds) as budget:
+        for choice in choices(model, found, budget):
             far = reach(model, choice, count)
-            progress.clear()
-            say(f"{told(model, choice)}: the loops reach {plain(far)} of the box")
-            if far <= 1:
-                return choice
-    return None
+            say(f"{told(model, choice)}: the loops reach {plain(far.max())} of the box")
+            if far.max() < best[1].max():
+                best = choice, far
+                budget.best = f"best so far, the loops reach {plain(far.max())} of the box {told(model, choice)}"
+            if far.max() <= 1:
+                break
+    return best
 
 
 def changed_text(model: Model, choice: Choice) -> str:
@@ -200,40 +213,78 @@ def changed_text(model: Model, choice: Choice) -> str:
 
 def changed(model: Model, choice: Choice) -> dict:
     """The model's keys with the choice's coordinates and box."""
-    own, text = len(model.to), dict(model.text)
-    units = model.state_units[:own]
-    rows = (units[:, None] * choice.rows(len(model.state_units))[:own, :own] / units[None, :]) @ model.to
+    own, text, units = model.own, dict(model.text), model.state_units
+    turn = units[:, None] * choice.rows(model.n) / units[None, :]
     if choice.times:
-        names = [" ".join(filter(None, words)) for words in model.names[:own]]
-        for (i, j), time in choice.times.items():
-            names[i] = name_of(model, i, j, time * units[i] / units[j])
-        text["coordinates"] = {"rows": [[neat_sum(v) for v in row] for row in rows], "names": names}
-    if any(part < 1 for part in choice.kept[:own]):
-        box = dict(text["box"])
-        hi, lo = box["hi"], box.get("lo", [-v for v in box["hi"]])
-        ends = [((h + l) / 2, (h - l) / 2 * part) for h, l, part in zip(hi, lo, choice.kept)]
-        box["hi"] = [float(f"{middle + half:.4g}") for middle, half in ends]
-        if "lo" in box:
-            box["lo"] = [float(f"{middle - half:.4g}") for middle, half in ends]
-        text["box"] = box
+        text["coordinates"] = coordinates_of(model, turn @ model.to)
+    ends = numpy.array([model.lo, model.hi], float)
+    middle, half = turn @ ends.mean(axis=0), (ends[1] - ends[0]) / 2 * numpy.array(choice.kept)
+    if choice.times or min(choice.kept) < 1:
+        text["box"] = box_of(model, choice, middle, half)
+        text["held"] = [still if part == 1 else still | {"lo": four(m - h), "hi": four(m + h)} for still, part, m, h in zip(model.held, choice.kept[own:], middle[own:], half[own:])]
+        if not text["held"]:
+            del text["held"]
+    if choice.times and any(model.disturbed):
+        text["box"]["disturbed"] = [four(v) for v in (abs(turn[:own, :own]) @ numpy.array(model.disturbed))]
     return text
+
+
+def coordinates_of(model: Model, rows: numpy.ndarray) -> dict:
+    """The table of coordinates, as sums of the model's own states, of the held ones and of last inputs."""
+    own, kept = model.own, model.own + len(model.held)
+    neat_rows = lambda table: [[neat_sum(v) for v in row] for row in table]
+    out = {"rows": neat_rows(rows[:own, :own])}
+    if model.held and rows[:own, own:kept].any():
+        out["held"] = neat_rows(rows[:own, own:kept])
+    if rows[:own, kept:].any():
+        last = numpy.zeros((own, model.p))
+        last[:, model.last] = rows[:own, kept:]
+        out["last"] = neat_rows(last)
+    return out | {"names": [name_of(model, i, rows[i]) for i in range(own)]}
+
+
+def box_of(model: Model, choice: Choice, middle: numpy.ndarray, half: numpy.ndarray) -> dict:
+    """The table of the box with other ends."""
+    own, kept, box = model.own, model.own + len(model.held), dict(model.text["box"])
+    box["hi"] = [four(m + h) for m, h in zip(middle[:own], half)]
+    if "lo" in box or any(middle[:own]):
+        box["lo"] = [four(m - h) for m, h in zip(middle[:own], half)]
+    if min(choice.kept[kept:], default=1) < 1:
+        most = dict(zip(model.last, half[kept:]))
+        box["last"] = [four(most[l]) if l in most else box.get("last", [1.0] * model.p)[l] for l in range(model.p)]
+    return box
 
 
 def neat_sum(value: float) -> float:
     return float(f"{value:.9g}")
 
 
-def name_of(model: Model, i: int, j: int, time: float) -> str:
-    """What a state with another one in it is called: where it is a state of the plant with its rate in it, by the time."""
-    (word, unit), (other, _) = model.names[i], model.names[j]
-    row, plant = model.to[i] + time * model.to[j], numpy.array(model.text["a"], float)
-    for k, rate in itertools.permutations(range(len(row)), 2):
-        alone = row[k] == 1.0 and row[rate] > 0 and numpy.count_nonzero(row) == 2
-        if alone and plant[k][rate] == 1.0 and not model.text.get("sampled"):
-            own, unit = split_name(model.text["states"][k], f"x{k + 1}") if "states" in model.text else (f"x{k + 1}", "")
-            ahead = f"{plain(row[rate] * 1000)} ms" if row[rate] < 1 else f"{plain(row[rate])} s"
-            return f"{own} in {ahead} {unit or 'units'}"
-    return f"{word} and {plain(time)} {other} {unit or 'units'}"
+def four(value: float) -> float:
+    """A number of four digits."""
+    return float(f"{value:.4g}")
+
+
+def name_of(model: Model, i: int, row: numpy.ndarray) -> str:
+    """What a coordinate is called that is this sum of the model's states, held ones and last inputs: where it is a state of the plant with its rate in it, by the time."""
+    text, plant = model.text, numpy.array(model.text["a"], float)
+    names = [split_name(words, f"x{k + 1}") for k, words in enumerate(text.get("states", [""] * model.own))] + model.names[model.own :]
+    unit = model.names[i][1] or "units"
+    if numpy.count_nonzero(row) == 1 or not numpy.any(row != model.to[i]):
+        return " ".join(filter(None, model.names[i]))
+    ahead, rest = {}, dict(enumerate(row))
+    for k, rate in itertools.permutations(range(model.own), 2):
+        if row[k] == 1.0 and row[rate] > 0 and numpy.count_nonzero(row[: model.own]) == 2 and plant[k][rate] == 1.0 and not text.get("sampled"):
+            ahead = {k: f" in {plain(row[rate] * 1000)} ms" if row[rate] < 1 else f" in {plain(row[rate])} s"}
+            del rest[rate]
+    terms = [(v, names[k][0] + ahead.get(k, "")) for k, v in rest.items() if v]
+    words = "".join(f" {'-' if v < 0 else '+'} {f'{plain(abs(v))} ' if abs(v) != 1 else ''}{name}" for v, name in terms).removeprefix(" + ").strip()
+    return f"{words} {unit}" if len(words) + len(unit) < 60 else f"{model.names[i][0]} and others {unit}"
+
+
+def to_blame(model: Model, far: numpy.ndarray) -> str:
+    """Which coordinates the loops leave, and by how much."""
+    out = [f"{model.names[i][0]} ({plain(far[i])} of its box)" for i in numpy.argsort(-far) if far[i] > 1]
+    return f"the loops leave in {', '.join(out)}"
 
 
 def main() -> int:
@@ -241,20 +292,21 @@ def main() -> int:
     parser.add_argument("model", metavar="MODEL")
     parser.add_argument("new", metavar="NEW_MODEL", nargs="?")
     parser.add_argument("--turns", type=turns, default=50, metavar="N")
+    parser.add_argument("--seconds", type=positive, default=60.0, metavar="S")
     given = parser.parse_args()
     files.keep_apart({"MODEL": given.model}, {"NEW_MODEL": given.new or files.STANDARD_OUTPUT})
     model = read_model(given.model)
-    choice = search(model, draft(model), given.turns)
-    if choice is None:
-        say("no coordinates and no box were found in which loops stay: weights that move states less, more stages, or limits on what overshoots (docs/DESIGNING.md)")
-        return 12
+    choice, far = search(model, draft(model), given.turns, given.seconds)
+    if far.max() > 1:
+        say(f"no coordinates and no box were found in which loops stay; the best is kept, {told(model, choice)}: {to_blame(Model(changed(model, choice)), far)}")
+        say("what helps: weights that move these less, more stages, limits on what overshoots, or --stay, which limits the next state (docs/DESIGNING.md)")
     changes = bool(choice.times) or min(choice.kept) < 1
     text = changed_text(model, choice) if changes else files.read_bytes(given.model).decode()
     if given.new:
         files.write(given.new, text)
     else:
         sys.stdout.write(text)
-    return 0
+    return 12 if far.max() > 1 else 0
 
 
 if __name__ == "__main__":

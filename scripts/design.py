@@ -1,11 +1,11 @@
 #!/usr/bin/env python3
 """From a model to a controller that is judged: each step shown as the command that it runs, so that you can go on by hand where you like.
 
-    ./mpc design MODEL FOLDER [--as-it-is | --stay] [--generate] [--gap PART] [--turns N] [--corners N] [--random N] [--states N] [--seed N]
+    ./mpc design MODEL FOLDER [--as-it-is | --stay] [--generate] [--gap PART] [--turns N] [--seconds S] [--corners N] [--random N] [--states N] [--seed N]
 
 In FOLDER, which is made where it isn't there, stand then
 
-    fitted.toml       the model in coordinates and a box in which its loops stay (scripts/coordinates.py; with --as-it-is, and where nothing was found, MODEL itself)
+    fitted.toml       the model in coordinates and a box in which its loops stay (scripts/coordinates.py), or the best that was seen; with --as-it-is MODEL itself is taken
     design.toml       the design (scripts/draft.py)
     policy.csv        a plan for each corner, and reference.csv the best ones without limits (scripts/policy.py --lean)
     controller.txt    the controller, and report.txt its bounds (./mpc lean; with --generate ./mpc generate, which needs no reference plans)
@@ -14,29 +14,33 @@ In FOLDER, which is made where it isn't there, stand then
     loop.svg          both in one picture (scripts/plot.py)
     judged.txt        what the controller's plans do beside exact ones (scripts/judge.py)
     explained.txt     what the report holds, in the model's units (./mpc explain)
+    report.html       all of it on one page, for a review, warnings first (scripts/report_page.py)
 
 and where no loop is to leave the box, by --stay or by `stay` in the model's `[box]`, fitted.toml is by scripts/staying.py, and beside it stand
 
-    faces.csv         the sums of limits that show that none does, and disturbances.csv the greatest disturbances of a turn that they bear (scripts/faces.py); the controller
-                      is by ./mpc stay, which tests them, and has no reference.csv
+    faces.csv         the sums of limits that show that none does, and disturbances.csv the greatest disturbances of a turn that they bear (scripts/faces.py); ./mpc lean
+                      tests them, with --generate ./mpc stay
 
-    --generate    makes the controller that keeps far from its limits: of more steps, mostly far more, and with real violations far below the printed ones
+    --generate    makes the controller that keeps far from its limits, by `generate` or `stay`: of more steps, mostly far more, and with real violations far below the printed ones
     --as-it-is    takes the model's own coordinates and box, whatever its loops do
     --stay        searches limits on the next state, coordinates and a box for which faces hold
     --gap PART    the gap target, as a part of the greatest cost (0.1)
     --turns N     so many turns a loop (50)
+    --seconds S   how long coordinates and a box are searched at most (60); Ctrl-C ends the search before, and what is best so far is taken
     --corners N   at most so many corners to begin loops from (8); --random N so many random states (4); --seed N which of them (1)
     --states N    so many random states to judge, beside all corners (96)
 
-It ends with the status of the first step that is refused. Nothing rests on it: what `generate` checks is what counts.
+First it says what can be said at once (scripts/outlook.py): units, poles, corners without a plan, sizes. It ends with the status of the first step that is refused. Nothing rests on it: what `generate` checks is what counts.
 """
 import os
 import shlex
 import subprocess
 import sys
+import tempfile
 import time
 from argparse import Namespace
 from dataclasses import dataclass
+from typing import IO
 
 from common.libraries import PACKAGES, Refusal, need, run
 
@@ -44,10 +48,9 @@ need(*PACKAGES)
 from common import files
 from common.arguments import Parser, count, positive, turns
 from common.models import read_model
-from common.progress import Progress
 
 TOP = os.path.dirname(os.path.dirname(os.path.realpath(__file__)))
-MADE = ["fitted.toml", "design.toml", "policy.csv", "reference.csv", "controller.txt", "report.txt", "states.csv", "loop.txt", "exact.txt", "loop.svg", "judged.txt", "explained.txt"]
+MADE = ["fitted.toml", "design.toml", "policy.csv", "reference.csv", "controller.txt", "report.txt", "states.csv", "loop.txt", "exact.txt", "loop.svg", "judged.txt", "explained.txt", "report.html"]
 STAYS = ["faces.csv", "disturbances.csv"]
 LEFT_THE_BOX = 12
 
@@ -69,70 +72,73 @@ class Steps:
     def path(self, name: str) -> str:
         return os.path.join(self.folder, name)
 
-    def run(self, *words: str, to: str | None = None, shown: int | None = None) -> Step:
-        """Runs a command of the repository; what it prints goes to a file where one is named, and else below the command. At most so many lines of it are shown."""
+    def run(self, *words: str, to: str | None = None) -> Step:
+        """Runs a command of the repository; what it prints goes to a file where one is named. What else it prints and says stands below the command as it comes."""
         program = os.path.relpath(os.path.join(TOP, words[0]))
         program = program if program.startswith("..") else os.path.join(".", program)
         print("$ " + shlex.join([program, *words[1:]]) + (f" > {shlex.quote(to)}" if to else ""), flush=True)
         command = [sys.executable, *[program, *words[1:]]] if program.endswith(".py") else [program, *words[1:]]
-        began = subprocess.Popen(command, stdout=subprocess.PIPE, stderr=subprocess.PIPE if to else subprocess.STDOUT, text=True, env=os.environ)
-        out, said = watched(began)
-        if to:
-            if began.returncode in (0, LEFT_THE_BOX):
-                files.write(to, out)
-        else:
-            said = out
-        lines = said.splitlines()
-        for line in lines[:shown]:
-            print(f"    {line}")
-        return Step(began.returncode, out)
+        with tempfile.TemporaryFile("w+") as out:
+            began = subprocess.Popen(command, stdout=out if to else subprocess.PIPE, stderr=subprocess.PIPE if to else subprocess.STDOUT, text=True, env=os.environ)
+            said = told(began, began.stderr if to else began.stdout)
+            out.seek(0)
+            printed = out.read() if to else said
+        if to and began.returncode in (0, LEFT_THE_BOX):
+            files.write(to, printed)
+        return Step(began.returncode, printed)
 
-    def must(self, *words: str, to: str | None = None, shown: int | None = None) -> Step:
+    def must(self, *words: str, to: str | None = None) -> Step:
         """The same of a command without which nothing follows."""
-        step = self.run(*words, to=to, shown=shown)
+        step = self.run(*words, to=to)
         if step.status:
             sys.stdout.flush()
             raise Refusal(f"{words[0]} ended with status {step.status}: what stands above says why", step.status)
         return step
 
 
-def watched(began: subprocess.Popen) -> tuple[str, str]:
-    """What a command prints and says; while it runs a terminal is told for how long."""
-    start = time.monotonic()
-    with Progress("s", 0) as progress:
-        while True:
-            try:
-                out, said = began.communicate(timeout=0.5)
-                return out, said or ""
-            except subprocess.TimeoutExpired:
-                progress.tell(f"{time.monotonic() - start:.0f} s")
+def told(began: subprocess.Popen, lines: IO[str]) -> str:
+    """What a command says, shown line by line. An interrupt is the command's: a search ends by it with its best, and others end."""
+    said, ends = [], 0
+    while True:
+        try:
+            for line in iter(lines.readline, ""):
+                said.append(line)
+                print(f"    {line}", end="", flush=True)
+            began.wait()
+            return "".join(said)
+        except KeyboardInterrupt:
+            ends += 1
+            if ends > 1:
+                began.kill()
+                raise
 
 
 def fitted(steps: Steps, model: str, given: Namespace, stays: bool) -> str:
-    """The model to draft: one whose loops stay, where there is one; where they have to, no other."""
+    """The model to draft: one whose loops stay, where there is one, or the best that was seen; where they have to stay, no other."""
     if given.as_it_is:
         return model
+    seconds, path = ["--seconds", str(given.seconds)], steps.path("fitted.toml")
     if stays:
-        steps.must("scripts/staying.py", model, steps.path("fitted.toml"))
-        return steps.path("fitted.toml")
-    step = steps.run("scripts/coordinates.py", model, steps.path("fitted.toml"), "--turns", str(given.turns))
+        steps.must("scripts/staying.py", model, path, *(["--generate"] if given.generate else []), *seconds)
+        return path
+    step = steps.run("scripts/coordinates.py", model, path, "--turns", str(given.turns), *seconds)
     if step.status not in (0, LEFT_THE_BOX):
         raise Refusal(f"scripts/coordinates.py ended with status {step.status}: what stands above says why", step.status)
-    return steps.path("fitted.toml") if step.status == 0 else model
+    return path
 
 
 def make(steps: Steps, model: str, given: Namespace, stays: bool) -> None:
-    """The design, its policy, its faces and its controller: a lean one, but where no loop is to leave the box."""
+    """The design, its policy, its faces where no loop is to leave the box, and its controller: a lean one, but where the other is asked for."""
     design, policy, reference = map(steps.path, ("design.toml", "policy.csv", "reference.csv"))
     made = [steps.path("controller.txt"), steps.path("report.txt")]
     steps.must("scripts/draft.py", model, design, "--gap", str(given.gap), *([] if given.generate else ["--lean"]))
     steps.must("scripts/policy.py", design, policy, *([] if given.generate else ["--lean", reference]), "--turns", "0")
+    texts = [design, policy] if given.generate else [design, policy, reference]
+    command = "lean" if not given.generate else "stay" if stays else "generate"
+    faces = list(map(steps.path, STAYS)) if stays else []
     if stays:
-        faces = list(map(steps.path, STAYS))
-        steps.must("scripts/faces.py", design, policy, faces[0], "--bears", faces[1])
-        steps.must("mpc", "stay", design, policy, *made, *faces)
-    else:
-        steps.must("mpc", *(["generate", design, policy] if given.generate else ["lean", design, policy, reference]), *made)
+        steps.must("scripts/faces.py", design, policy, faces[0], *([] if given.generate else ["--lean", reference]), "--bears", faces[1])
+    steps.must("mpc", command, *texts, *made, *faces)
 
 
 def show(steps: Steps, given: Namespace) -> None:
@@ -141,6 +147,7 @@ def show(steps: Steps, given: Namespace) -> None:
     steps.must("scripts/states.py", design, states, "--corners", str(given.corners), "--random", str(given.random), "--seed", str(given.seed))
     left = steps.run("mpc", "loop", design, controller, states, str(given.turns), to=loop)
     if left.status == LEFT_THE_BOX:
+        add_other_starts(steps, design, controller, states, loop, given.turns)
         steps.must("scripts/reach.py", design, states, loop, "--turns", str(given.turns))
     elif left.status:
         raise Refusal(f"mpc loop ended with status {left.status}: what stands above says why", left.status)
@@ -154,6 +161,35 @@ def show(steps: Steps, given: Namespace) -> None:
     for line in explained.said.splitlines():
         if line.startswith(("every run", "stage row", "final row", "the plan costs", "a run has")):
             print(f"    {line}")
+    if left.said:
+        steps.must("scripts/report_page.py", steps.folder, steps.path("report.html"))
+
+
+def add_other_starts(steps: Steps, design: str, controller: str, states: str, loop: str, count: int) -> None:
+    """Adds the loops of the starts after one that leaves the box, at which `mpc loop` ends."""
+    starts, all_lines, leaving, done = files.read_bytes(states).decode().splitlines(), files.read_bytes(loop).decode().splitlines(), [], 0
+    lines = all_lines
+    while True:
+        # the last start that has a line leaves
+        done += max((int(line.split(" ", 1)[0]) for line in lines), default=1)
+        leaving.append(str(done))
+        if done >= len(starts):
+            break
+        status, lines = looped(design, controller, starts[done:], count)
+        all_lines = all_lines + [f"{int(number) + done} {others}" for number, others in (line.split(" ", 1) for line in lines)]
+        if status != LEFT_THE_BOX:
+            break
+    files.write(loop, "".join(line + "\n" for line in all_lines))
+    print(f"    the loops of starts {', '.join(leaving)} leave the box, and {loop} has them up to there, and those of the others after them")
+
+
+def looped(design: str, controller: str, starts: list[str], count: int) -> tuple[int, list[str]]:
+    """The status and the lines of `mpc loop` from these starts; what it says is known already."""
+    with tempfile.NamedTemporaryFile("w", suffix=".csv") as rest:
+        rest.write("".join(start + "\n" for start in starts))
+        rest.flush()
+        got = subprocess.run([os.path.join(TOP, "mpc"), "loop", design, controller, rest.name, str(count)], stdout=subprocess.PIPE, stderr=subprocess.DEVNULL, text=True)
+    return got.returncode, got.stdout.splitlines()
 
 
 def asks_to_stay(path: str) -> bool:
@@ -174,6 +210,7 @@ def main() -> int:
     parser.add_argument("--generate", action="store_true")
     parser.add_argument("--gap", type=positive, default=0.1, metavar="PART")
     parser.add_argument("--turns", type=turns, default=50, metavar="N")
+    parser.add_argument("--seconds", type=positive, default=60.0, metavar="S")
     for name, value in (("--corners", 8), ("--random", 4), ("--states", 96)):
         parser.add_argument(name, type=count, default=value, metavar="N")
     parser.add_argument("--seed", type=int, default=1, metavar="N")
@@ -183,10 +220,10 @@ def main() -> int:
     files.read_bytes(given.model)
     os.makedirs(given.folder, exist_ok=True)
     began, stays = time.monotonic(), given.stay or asks_to_stay(given.model)
-    given.generate = given.generate or stays
+    steps.must("scripts/outlook.py", given.model)
     make(steps, fitted(steps, given.model, given, stays), given, stays)
     show(steps, given)
-    print(f"in {time.monotonic() - began:.0f} s: {steps.path('loop.svg')} has the loops, {steps.path('explained.txt')} every bound, and {steps.path('controller.txt')} the controller")
+    print(f"in {time.monotonic() - began:.0f} s: {steps.path('report.html')} has it all on one page, and {steps.path('controller.txt')} the controller")
     return 0
 
 

@@ -62,6 +62,7 @@ class Side:
     tolerance: float
     unit: str
     later: bool = False
+    stays: bool = False
 
 
 @dataclass
@@ -96,23 +97,29 @@ def sides_of(model: Model, a: numpy.ndarray, b: numpy.ndarray) -> list[Side]:
 
 
 def staying_sides(model: Model, a: numpy.ndarray, b: numpy.ndarray) -> list[Side]:
-    """Limits on the next state, by which it stays in the box: inside its ends by what they may be exceeded, and by what moves it from outside."""
+    """Limits on the next state, by which it stays in the box: inside its ends by what they may be exceeded, and by what moves it from outside: whole steps of the grid, and half of
+    one for rounding."""
     out, grid, (lo, hi) = [], int(model.text["box"].get("grid", 4)), model.ends()
     for i, (tolerance, moved) in enumerate(zip(model.stay, model.disturbed)):
         size, (word, unit) = model.state_units[i], model.names[i]
         if tolerance and not any(abs(b[i]) > 1e-12 * abs(a[i]).max()):
             models.refuse([f"box.stay[{i + 1}]: 0 is expected, since no input moves the next {word}: what drives it keeps it in the box, or nothing does"])
+        shift = math.ceil(moved / size * 2**grid - 1e-9) + 0.5
         for sign, end, side in ((1, hi[i], "upper"), (-1, lo[i], "lower")) if tolerance else ():
-            bound = sign * end * size / 2**grid - tolerance - moved
-            out.append(Side(f"{side} end of {word}", numpy.r_[sign * a[i] * size, sign * b[i] * size, bound] / tolerance, tolerance, unit or "units"))
+            bound = (sign * end - shift) * size / 2**grid - tolerance
+            out.append(Side(f"{side} end of {word}", numpy.r_[sign * a[i] * size, sign * b[i] * size, bound] / tolerance, tolerance, unit or "units", stays=True))
     return out
 
 
 def unit_of(model: Model, limit: dict) -> str:
-    """The unit of the first coordinate that a limit is on."""
-    own = [split[1] for split in map(lambda words: models.split_name(words, ""), model.text.get("states", []))]
-    units = model.input_names and [u for key in ("input", "change") for f, (_, u) in zip(limit.get(key, []), model.input_names) if f]
-    return ((units or [u for f, u in zip(limit.get("state", []), own) if f]) or ["units"])[0] or "units"
+    """The unit of what a limit is on: the one of all its coordinates, or of those that it takes as they are; where these differ no one's."""
+    own = [split[1] for split in map(lambda words: models.split_name(words, ""), model.text.get("states", [""] * model.own))]
+    held, inputs = [unit for _, unit in model.names[model.own : model.own + len(model.held)]], [unit for _, unit in model.input_names]
+    parts = [(f, unit) for key, units in (("state", own), ("held", held), ("input", inputs), ("change", inputs)) for f, unit in zip(limit.get(key, []), units) if f]
+    for chosen in (parts, [part for part in parts if abs(part[0]) == 1]):
+        if len({unit for _, unit in chosen}) == 1:
+            return chosen[0][1] or "units"
+    return "units"
 
 
 def reach_of(design: Design, rows: list[numpy.ndarray]) -> numpy.ndarray:
@@ -136,6 +143,7 @@ def names_of(model: Model, sides: list[Side]) -> dict:
 
 def in_floats(model: Model) -> Design:
     """The design of a model with no number of plant, cost and limits rounded: over 1, in floats. The box is whole already."""
+    models.refuse_growth(model)
     text, (a, b) = model.text, model.scaled()
     box, sides = text["box"], sides_of(model, a, b)
     grid, (lo, hi) = int(box.get("grid", 4)), model.ends()
@@ -213,6 +221,15 @@ def keep_weights(design: Design, weights: list[float], part: float) -> None:
     set_weights(design, [max(1, round(w * den)) for w in weights], den)
 
 
+def tighten(limits: list[list[int]], sides: list[Side], den: int, reach: numpy.ndarray) -> None:
+    """Takes from the bounds of limits that keep the box what rounding their factors comes to over it."""
+    known = numpy.isfinite(reach)
+    for made, side in zip(limits, sides):
+        if side.stays:
+            off = abs(side.row[:-1] * den - made[:-1])[known] @ reach[known]
+            made[-1] = min(made[-1], math.floor(side.row[-1] * den - off + 1e-6))
+
+
 def whole(model: Model, exact: Design, den: int, part: float, keep: bool, step: int) -> Design:
     """The design of a model over these denominators and with this step exponent, with a gap yet to be chosen."""
     whole_a, whole_b = rounded(*model.scaled(), den)
@@ -220,8 +237,9 @@ def whole(model: Model, exact: Design, den: int, part: float, keep: bool, step: 
         models.refuse([f"units: units are expected in which no number of the plant over {den} is above 2^31"])
     sides = sides_of(model, whole_a / den, whole_b / den)
     rows = [side.row for side in sides]
-    limit_den = model.limit_den or limit_denominator(rows, reach_of(exact, rows), part)[0]
+    limit_den = model.limit_den or limit_denominator(rows, reach_of(exact, rows), part, [side.stays for side in sides])[0]
     limits = whole_limits(rows, limit_den) or [[0] * (model.n + model.p) + [1]]
+    tighten(limits, sides, limit_den, reach_of(exact, rows))
     if any(abs(v) > NUMERATOR for row in limits for v in row):
         models.refuse(["limit: factors and bounds are expected of which none is more than 2^31 tolerances, in the design's units"])
     design = replace(exact, plant_den=den, a=whole_a.tolist(), b=whole_b.tolist(), limit_den=limit_den, stage_rows=limits)

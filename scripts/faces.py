@@ -1,20 +1,21 @@
 #!/usr/bin/env python3
 """Finds the faces of a design's box: the sums of limits that show that no closed loop ever leaves it.
 
-    scripts/faces.py DESIGN POLICY [FACES] [--disturbances FILE] [--bears FILE]
+    scripts/faces.py DESIGN POLICY [FACES] [--lean REFERENCE] [--disturbances FILE] [--bears FILE]
 
 For each coordinate the upper face, then the lower: a factor and a weight for each first row, so that the rows have together of each input as much as the coordinate has, and
 the coordinate of the next state can go least far. It is a linear program, whose best vertex is taken in exact fractions, and so the equations hold exactly. First rows are the
 stage rows at stage 0, then those rows on the next state: with one stage the final rows, else the stage rows that no input is a part of. Each may be exceeded by what rests on
-DESIGN and POLICY alone: half the violation target, and what the errors of a step cost over R.
+these texts alone: with a controller of `stay` by half the violation target, and what the errors of a step cost over R; with one of `lean` by nearly all of the target.
 
 The faces go to FACES, or are printed; how far each coordinate can go, and the greatest disturbance that the box bears in each, go to standard error.
 
+    --lean REFERENCE      of the controller that `lean` makes with these reference plans, not of that of `stay`
     --disturbances FILE   two records, a number for each coordinate over `2^grid`: the least and the greatest that is added to a next state
     --bears FILE          writes two such records: the greatest disturbances that the faces bear
 
-Where a face doesn't hold, it says which, by how much, and what a tolerance or a box would have to be, and ends with status 17, as `./mpc stay` does. Nothing rests on the solver: what is
-found is tested in whole numbers, and `stay` tests it again.
+Where a face doesn't hold, it says which, by how much, and what a tolerance or a box would have to be, and ends with status 17, as `./mpc stay` and `./mpc lean` do. Nothing rests on the solver: what is
+found is tested in whole numbers, and they test it again.
 """
 import sys
 from dataclasses import dataclass
@@ -27,11 +28,12 @@ need("numpy", "scipy")
 import numpy
 from scipy.optimize import linprog
 
-from common import files, sizes
+from common import files, matching, sizes
 from common.arguments import Parser
-from common.corners import corners_of, half_target, margin_of, multiplier_of
+from common.corners import corners_of, cost_limit, lean_multiplier_of, margin_of, multiplier_of, step_share
 from common.design_text import plain, read_design
 from common.disturbances import box_in
+from common.excess import excesses_of
 from common.texts import read_text, records_of
 from common.trajectories import dot
 
@@ -68,15 +70,23 @@ def first_rows(design):
     return rows
 
 
-def excesses(design, policy):
-    """By how much each first row may be exceeded at most, over 2^40, whatever the step's exponents are; None where the policy has no margin, or 48 fraction bits do not do."""
-    bound = multiplier_of(*margin_of(corners_of(design, policy)))
+def excesses(design, policy, reference=None):
+    """By how much each first row may be exceeded at most, over 2^40, whatever the step's exponents are, by a controller of `stay`, or with reference plans by one of `lean`; None where
+    the policy has no margin, or 48 fraction bits do not do."""
+    lean, form, (margin, cost) = reference is not None, sizes.form_of(design), margin_of(corners_of(design, policy))
+    bound = lean_multiplier_of(design, margin, max(0, *excesses_of(design, form, policy, reference)[0])) if lean else multiplier_of(margin, cost)
     if bound is None:
         return None
-    errors = sizes.Errors(design, sizes.form_of(design), bound)
-    target = min(SCALE * design.gap // design.target_den, bound * half_target(design))
-    f = next((f for f in range(design.grid, 49) if errors.cost(f) <= target), None)
-    return None if f is None else [half_target(design) + ceil(Fraction(errors.cost(f), bound))] * len(first_rows(design))
+    errors, limit = sizes.Errors(design, form, bound), cost_limit(design, bound, lean)
+    f = next((f for f in range(design.grid, 49) if errors.cost(f) <= limit), None)
+    if f is None:
+        return None
+    steps, rounding = step_share(design, lean), errors.cost(f)
+    most = steps + ceil(Fraction(rounding, bound))
+    if lean:
+        target = SCALE * design.violation // design.target_den
+        most = min(target, ceil(Fraction(target, 2)) + ceil(Fraction(steps, 2)) + ceil(Fraction(rounding, 2 * bound)))
+    return [most] * len(first_rows(design))
 
 
 # ---- one face
@@ -321,6 +331,19 @@ def holding(design, excess, low, high):
     return faces
 
 
+def beyond(design, excess, low, high):
+    """Of each face that doesn't hold under these disturbances by how much, in words."""
+    for face in faces_of(design):
+        record = find_face(design, face, excess)
+        if record is None:
+            yield f"no sum of first rows makes {face.words(design)}"
+            continue
+        over = face.sign * (farthest(design, face, record, excess, (high if face.upper else low)[face.coordinate]) - face.end(design))
+        if over > 0:
+            name = design.name("state", face.coordinate + 1)
+            yield f"{face.words(design)} is passed by {over} of 2^-{design.grid}, {name.shown(Fraction(over, 2**design.grid))}"
+
+
 def find(design, excess, low, high):
     """The faces, or None where one doesn't hold, each said."""
     faces, bad = [], False
@@ -359,14 +382,20 @@ def main():
     parser.add_argument("design", metavar="DESIGN")
     parser.add_argument("policy", metavar="POLICY")
     parser.add_argument("faces", metavar="FACES", nargs="?")
+    parser.add_argument("--lean", metavar="REFERENCE")
     parser.add_argument("--disturbances", metavar="FILE")
     parser.add_argument("--bears", metavar="FILE")
     given = parser.parse_args()
-    inputs = {"DESIGN": given.design, "POLICY": given.policy} | ({"--disturbances": given.disturbances} if given.disturbances else {})
+    optional = {"--lean": given.lean, "--disturbances": given.disturbances}
+    inputs = {"DESIGN": given.design, "POLICY": given.policy} | {word: path for word, path in optional.items() if path}
     files.keep_apart(inputs, {"FACES": given.faces or files.STANDARD_OUTPUT} | ({"--bears": given.bears} if given.bears else {}))
     design = read_design(given.design)
     low, high = box_in(given.disturbances, design) if given.disturbances else ([0] * design.states, [0] * design.states)
-    excess = excesses(design, records_of(read_text(given.policy)))
+    plans = {"POLICY": given.policy} | ({"REFERENCE": given.lean} if given.lean else {})
+    records = [records_of(read_text(path)) for path in plans.values()]
+    for (word, path), found in zip(plans.items(), records):
+        matching.refuse(f"{word} {path}", "design", matching.policy_fault(found, design))
+    excess = excesses(design, *records)
     if excess is None:
         say("the policy has no margin, or its gap target asks for more than 48 fraction bits: no controller can be made, so there is nothing that could stay")
         return 6

@@ -124,7 +124,8 @@ def draw(design: Design, files: list[dict], labels: list[str], starts: list[int]
         chosen = [record for record in sorted(loops) if not starts or record in starts]
         for place, record in enumerate(chosen):
             draw_start(axes, design, loops[record][:turns], STYLES[number % 4], f"C{place % 10}", f"{label}, start {record}", step)
-    axes[0].legend(fontsize=6, loc="upper right", ncol=len(files))
+    # above the first picture, where it covers nothing
+    axes[0].legend(fontsize=6, loc="lower left", bbox_to_anchor=(0.0, 1.02), borderaxespad=0.0, ncol=4)
     for last in axes[-columns:]:
         last.set_xlabel("s" if design.period else "turn", fontsize=8)
     figure.tight_layout()

@@ -1,15 +1,16 @@
 #!/usr/bin/env python3
 """Proposes coordinates, limits on the next state and a box for which faces show that no loop ever leaves the box.
 
-    scripts/staying.py MODEL [NEW_MODEL] [--steps N]
+    scripts/staying.py MODEL [NEW_MODEL] [--generate] [--steps N] [--seconds S]
 
-For each state whose faces don't hold by the model's own limits it adds limits on the next state, by `stay` in the model's `[box]`: the next state is kept so much inside the box, and may exceed
-that by as much. From each corner a plan must then lead back inside, at every stage. Where none does with enough room, it tries `position + T rate` in place of a position, for each
-state that another one moves, with T from half a period to 40 of them, and a box that is smaller in the coordinate that helps most. Of the parts that `stay` may have, and of the T
-near the best, it takes those of the fewest steps K; where these are more than N (20000) it makes the box smaller, too.
+Each state whose faces don't hold by the model's own limits gets limits on the next state, by `stay` in the model's `[box]`: the next state is kept so much inside the box, and may exceed
+that by as much. From each corner some inputs must then lead back inside. Which box has such inputs at all its corners, and is the largest, a linear program says, of each choice of
+coordinates: the model's own, `position + T rate`, and those in which loops of linear gains shrink each by itself, with held states and last inputs in them, as `speed - reference`.
+Each box is judged by how much of the model's own it holds, and by the steps K of its controller: one of `lean`, or with --generate of `stay`, of at most N steps (20000).
 
-What was tried goes to standard error, and the model with what was found to NEW_MODEL, or is printed. Where `disturbed` stands in `[box]`, faces hold under it. It ends with status 12
-where nothing was found. Nothing rests on it: scripts/faces.py finds the faces of the design that is drafted of it.
+What was tried goes to standard error, and every few seconds how far the search is: it ends after S seconds (60), or by an interrupt. The model with what was found goes to NEW_MODEL, or
+is printed. Where `disturbed` stands in `[box]`, faces hold under it. Where nothing was found, NEW_MODEL gets the best that was seen, the status is 12, and it is said which corner,
+limit, coordinate or disturbance is in the way. Nothing rests on it: scripts/faces.py finds the faces of the design that is drafted of it.
 """
 import contextlib
 import io
@@ -22,39 +23,61 @@ from common.libraries import Refusal, need, run, say
 need("numpy", "scipy", "cvxopt", "jsonschema")
 import numpy
 import scipy.linalg
-import scipy.optimize
 
 import faces
 from common import files
-from common.arguments import Parser, several
+from common.arguments import Parser, positive, several
+from common.budget import Budget
 from common.design_text import Design, plain
+from common.kept_boxes import Plant, covered, largest, short_of
+from common.lean_plans import LeanPlans
 from common.model_text import model_text
-from common.models import Model, read_model
+from common.models import Model, neat, read_model
 from common.programs import Programs
-from common.progress import Progress
-from coordinates import COUPLED, ROUNDS, SMALLER, TIMES, Choice, changed, told
-from draft import draft, in_floats
-from policy import plans_with
+from common.turns import candidates
+from coordinates import COUPLED, TIMES, Choice, changed, told
+from draft import corner_plans, drafted, in_floats, too_wide
 from policy import find as find_policy
+from policy import find_lean, plans_with
 
-# the room that a box must have at each corner, and the tolerance by which it is measured, as parts of half the box
-ROOM, TOUCH = 0.04, 0.01
-# by which `stay` is tried larger and smaller, and how often at most
-FACTOR, TURNS = 1.4, 6
+# the slack that a corner's inputs leave in each limit, in tolerances
+SLACK = 0.125
+# parts of half the box by which next states are kept inside
+STAYS = (0.02, 0.04, 0.07, 0.12, 0.2, 0.32)
+STARTS = (0.02, 0.07)
+# by which a T is tried larger and smaller, and a part for `stay`
+FACTORS, PARTS = (0.5, 0.8, 1.25, 2.0), (1.4, 0.7)
+# up to which part of the time coordinates are tried, made better, priced, and priced again with other parts
+TRIED, BETTER, PRICED, FINE = 0.25, 0.5, 0.7, 0.85
+# how many choices are made better, and how many priced
+FEW, SOME = 2, 3
+# e times the steps are worth so much of the box, as a logarithm; fewer than so many steps are worth nothing
+WORTH, CHEAP = 0.25, 40
+# less of the model's box than this is nothing
+NOTHING = 0.005
 # parts of the greatest slack at which plans are tried
 SLACKS = (0.5, 0.75, 0.92)
-# parts of the room that `stay` may have at first
-PARTS = (0.25, 0.45)
-LEAST = 2**-8
-# by how many quarters of its tolerance a limit is taken to be exceeded: half of it is the steps, and what rounding takes is mostly less than the other half
-EXCEEDED = 3
+LEAST, FAR = 2**-8, 64.0
+# by how many quarters of its tolerance a limit is taken to be exceeded where its steps aren't known
+EXCEEDED = {True: 4, False: 3}
 
 
 @dataclass
 class Staying(Choice):
-    """A choice with the parts of half the box by which the next state is kept inside; 0 for no limit."""
+    """A choice with the parts of half the box by which the next state is kept inside, 0 for no limit; how much of the model's box it holds, about how many steps a run takes, and the parts
+    where each coordinate has limits; and fewer stages than the model's, where its own are refused."""
 
     stay: list = field(default_factory=list)
+    covers: float = 0.0
+    steps: float = math.inf
+    wide: list = field(default_factory=list)
+    stages: int | None = None
+
+    @property
+    def worth(self) -> float:
+        if self.covers < NOTHING or math.isinf(self.steps):
+            return -math.inf
+        return math.log(self.covers) - WORTH * math.log(max(self.steps, CHEAP) / CHEAP)
 
 
 def with_limits(model: Model, choice: Staying) -> dict:
@@ -63,12 +86,7 @@ def with_limits(model: Model, choice: Staying) -> dict:
     box = dict(text["box"])
     lo = box.get("lo", [-v for v in box["hi"]])
     box["stay"] = [neat(part * (high - low) / 2) for part, low, high in zip(choice.stay, lo, box["hi"])]
-    return text | {"box": box}
-
-
-def neat(value: float) -> float:
-    """A number of two digits."""
-    return float(f"{value:.2g}")
+    return text | {"box": box} | ({"stages": choice.stages} if choice.stages else {})
 
 
 def grid_disturbances(model: Model, design: Design) -> tuple[list[int], list[int]]:
@@ -78,57 +96,47 @@ def grid_disturbances(model: Model, design: Design) -> tuple[list[int], list[int
     return [-v for v in most], most
 
 
-# ---- what a choice is worth, in floating point
+def plant_of(model: Model) -> Plant:
+    """A model's plant with its own limits, and the box that it wants, in the design's units."""
+    design = in_floats(Model(model.text | {"box": {key: v for key, v in model.text["box"].items() if key != "stay"}}))
+    lo, hi = numpy.array(design.lo) / 2**design.grid, numpy.array(design.hi) / 2**design.grid
+    rows = numpy.array(design.stage_rows, float)
+    low, high = grid_disturbances(model, design)
+    # half a step of the grid is what rounding takes
+    shift = (numpy.array(high) + 0.5) / 2**design.grid
+    own, kept = model.own, model.own + len(model.held)
+    return Plant(numpy.array(design.a), numpy.array(design.b), rows[:, :-1], rows[:, -1], (lo + hi) / 2, (hi - lo) / 2, shift, list(range(own, kept)), list(range(kept, model.n)))
 
 
-@dataclass
-class Worth:
-    """The least over the corners of the greatest common slack, in tolerances; the steps; and the first coordinate, from 0, that no face keeps."""
-
-    slack: float
-    steps: float
-    lost: int | None
+# ---- what a choice costs, in floating point
 
 
 def corner_states(design: Design) -> list[list[float]]:
     return [[float(v) for v in design.corner(number)] for number in range(1, 2**design.states + 1)]
 
 
-def least_slack(programs: Programs) -> float:
-    return min(programs.most_slack(state)[0] for state in corner_states(programs.design))
-
-
-def steps_of(programs: Programs, slack: float) -> float:
+def steps_of(design: Design, generate: bool) -> float:
     """About how many steps a run takes, with weights whose curvature is just below a power of two."""
+    programs = Programs(design)
+    slack = min(programs.most_slack(state)[0] for state in corner_states(design))
     if slack <= LEAST:
         return math.inf
-    if math.isinf(slack):
-        return 4.0
-    bound = min(plans_with(programs, slack * part)[1] for part in SLACKS)
     steep = scipy.linalg.eigh(programs.rows.T @ programs.rows, programs.hess / 2, eigvals_only=True)[-1]
-    return 4 * max(1.0, bound * steep)
+    if generate:
+        bound = min(plans_with(programs, slack * part)[1] for part in SLACKS) if math.isfinite(slack) else 1 / steep
+        return 4 * max(1.0, bound * steep)
+    lean = LeanPlans(programs)
+    bound = min(lean.bound(lean.plans(part)) for part in (LEAST / 2, *(min(slack, FAR) * part for part in SLACKS[:2])))
+    return 32 / 15 * max(1.0, bound * steep)
 
 
-def room_of(programs: Programs, ends: int) -> float:
-    """The least over the corners of the greatest slack that a plan keeps in the last so many rows of each stage, in tolerances, where each other row is kept."""
-    design, count = programs.design, programs.rows.shape[1]
-    own = len(design.stage_rows) - ends
-    moved = numpy.array([float(row % len(design.stage_rows) >= own) for row in range(len(programs.bounds))])
-    rows = numpy.hstack([programs.rows, moved[:, None]])
-    least = math.inf
-    for state in corner_states(design):
-        found = scipy.optimize.linprog(numpy.r_[numpy.zeros(count), -1.0], A_ub=rows, b_ub=programs.room(state) - LEAST, bounds=(None, None))
-        least = min(least, -math.inf if found.fun is None else -found.fun)
-    return least
-
-
-def lost_coordinate(model: Model, design: Design, stay: list) -> int | None:
+def lost_coordinate(model: Model, design: Design, generate: bool) -> int | None:
     """The first coordinate without a limit on the next state that no sum of limits keeps in the box, each exceeded by a part of its tolerance."""
-    excess = [EXCEEDED * faces.SCALE // 4] * len(faces.first_rows(design))
+    excess = [EXCEEDED[not generate] * faces.SCALE // 4] * len(faces.first_rows(design))
     shifts = grid_disturbances(model, design)
     for face in faces.faces_of(design):
         i = face.coordinate
-        if i < len(stay) and stay[i]:
+        if i < len(model.stay) and model.stay[i]:
             continue
         weights = faces.program(design, face, excess)
         if weights is None:
@@ -139,131 +147,163 @@ def lost_coordinate(model: Model, design: Design, stay: list) -> int | None:
     return None
 
 
-def worth_of(model: Model, choice: Staying, counted: bool = True) -> Worth:
-    """What a choice is worth; its steps only where they are wanted."""
-    try:
-        made = Model(with_limits(model, choice))
-        design = in_floats(made)
-    except Refusal:
-        return Worth(-math.inf, math.inf, None)
-    programs = Programs(design)
-    slack = least_slack(programs)
-    return Worth(slack, steps_of(programs, slack) if counted else math.inf, lost_coordinate(made, design, made.stay))
+def priced(model: Model, choice: Staying, generate: bool) -> Staying:
+    """The choice with limits where faces need them and nowhere else, and about how many steps it takes; infinitely many where it has no faces or no plans."""
+    stay = [0.0] * model.own
+    while True:
+        trial = replace(choice, stay=stay)
+        try:
+            made = Model(with_limits(model, trial))
+            design = in_floats(made)
+            lost = lost_coordinate(made, design, generate)
+        except Refusal:
+            return replace(choice, steps=math.inf)
+        if lost is None:
+            return replace(trial, steps=steps_of(design, generate), wide=choice.stay)
+        if lost >= model.own or stay[lost] or not choice.stay[lost]:
+            return replace(choice, steps=math.inf)
+        stay = [choice.stay[i] if i == lost else part for i, part in enumerate(stay)]
 
 
 # ---- the search
 
 
 class Search:
-    """Choices for a model, the best of which is changed."""
+    """Choices for a model, and the best of them."""
 
-    def __init__(self, model: Model, progress: Progress) -> None:
-        self.model, self.progress, self.own = model, progress, len(model.to)
-        self.half = [(high - low) / 2 for low, high in zip(model.lo, model.hi)][: self.own]
-        self.pairs = pairs_of(model)
+    def __init__(self, model: Model, budget: Budget, generate: bool) -> None:
+        self.model, self.budget, self.generate, self.plant = model, budget, generate, plant_of(model)
+        self.best: Staying | None = None
+        self.pool: list[dict] = []
 
-    def worth(self, choice: Staying, counted: bool = True) -> Worth:
-        self.progress.reach(self.progress.done + 1)
-        return worth_of(self.model, choice, counted)
-
-    def limited(self) -> list[bool]:
-        """The coordinates that need a limit on the next state: which the model's own limits don't keep, and which inputs move."""
-        plain_choice, out = self.plain([0.0] * self.own), [v > 0 for v in self.model.stay]
-        while True:
-            lost = self.worth(replace(plain_choice, stay=[TOUCH * v for v in out]), False).lost
-            if lost is None or lost >= self.own or out[lost]:
-                return out
-            out[lost] = True
-
-    def plain(self, stay: list) -> Staying:
-        return Staying({}, [1.0] * self.model.n, stay)
-
-    def room(self, choice: Staying) -> float:
-        """The least over the corners of how far inside the box a plan can keep the next states, as a part of half the box, where the other limits are kept; below 0 it can't."""
-        self.progress.reach(self.progress.done + 1)
-        try:
-            made = Model(with_limits(self.model, replace(choice, stay=[TOUCH * (v > 0) for v in choice.stay])))
-            return TOUCH * (1 + room_of(Programs(in_floats(made)), 2 * sum(map(bool, choice.stay))))
-        except Refusal:
-            return -math.inf
-
-    def timed(self, choice: Staying) -> Staying:
-        """The choice with the T of each pair that leaves most room."""
-        for pair in self.pairs:
-            trials = [choice] + [replace(choice, times=choice.times | {pair: self.time(pair, part)}) for part in TIMES[1:]]
-            choice = max(trials, key=self.room)
+    def larger(self, times: dict, stay: float | list[float]) -> Staying | None:
+        """The largest box in these coordinates, with these parts of it for `stay`, and how much of the model's box that holds."""
+        choice = Staying(times, [1.0] * self.model.n, stay if isinstance(stay, list) else [stay] * self.model.own)
+        turn = choice.rows(self.model.n)
+        found = largest(self.plant, turn, numpy.array(choice.stay + [0.0] * (self.model.n - self.model.own)), SLACK)
+        if found is None or found.least <= 0:
+            return None
+        # a little less, so that two digits of `stay` do
+        choice.kept = [1.0 if half == 0 or i in self.plant.last or part == 1.0 else 0.998 * part for i, (part, half) in enumerate(zip(found.parts, self.plant.half))]
+        choice.covers = covered(self.plant, turn, numpy.array(choice.kept) * 1.003)
         return choice
 
-    def time(self, pair: tuple[int, int], part: float) -> float:
-        """T of so many periods' coupling, in the design's units."""
-        return self.other_time(pair, self.model.a[pair] / self.ratio(pair), part)
-
-    def other_time(self, pair: tuple[int, int], time: float, factor: float) -> float:
-        """This T so many times, of two digits in physical units."""
-        return neat(time * self.ratio(pair) * factor) / self.ratio(pair)
-
-    def ratio(self, pair: tuple[int, int]) -> float:
-        return self.model.state_units[pair[0]] / self.model.state_units[pair[1]]
-
-    def roomy(self, choice: Staying) -> Staying | None:
-        """The choice with T, and a smaller box where that is needed, so that each corner has room; None where it never has."""
-        for _ in range(ROUNDS):
-            choice = self.timed(choice)
-            if self.room(choice) >= ROOM:
-                return choice
-            choice = self.smaller(choice)
-        return None
-
-    def smaller(self, choice: Staying) -> Staying:
-        """The choice with a smaller box in the coordinate that helps most."""
-        return max((self.cut(choice, i) for i in range(self.own)), key=self.room)
-
-    def cheaper(self, choice: Staying) -> Staying:
-        """The choice with a smaller box in the coordinate that takes off most steps."""
-        return min((self.cut(choice, i) for i in range(self.own)), key=self.steps)
-
-    def cut(self, choice: Staying, i: int) -> Staying:
-        """The choice with a smaller box in a coordinate, and its limits as far inside."""
-        times = [SMALLER if k == i else 1.0 for k in range(len(choice.kept))]
-        return replace(choice, kept=[part * by for part, by in zip(choice.kept, times)], stay=[part / by for part, by in zip(choice.stay, times)])
-
-    def cheapest(self, choice: Staying) -> tuple[Staying, float]:
-        """The choice of the fewest steps with other T and other parts for `stay`."""
-        best, choice = min(((self.steps(trial), number, trial) for number, trial in enumerate(self.timely(choice))), key=lambda one: one[:2])[::2]
-        for _ in range(TURNS):
-            steps, _, trial = min(((self.steps(trial), number, trial) for number, trial in enumerate(self.near(choice))), key=lambda one: one[:2])
-            if steps >= 0.98 * best:
-                break
-            best, choice = steps, trial
-        return choice, best
-
-    def timely(self, choice: Staying) -> list[Staying]:
-        """The choice with each T of its strongest pair that leaves room, and with as much of the room for `stay` as is mostly good."""
-        trials = [choice] + [replace(choice, times=choice.times | {pair: self.time(pair, part)}) for pair in self.pairs[:1] for part in TIMES[1:]]
-        roomy = [(trial, room) for trial in trials if (room := self.room(trial)) >= ROOM]
-        return [replace(trial, stay=[part * room * (v > 0) for v in choice.stay]) for trial, room in roomy for part in PARTS]
-
-    def steps(self, choice: Staying) -> float:
-        worth = self.worth(choice)
-        return worth.steps if worth.lost is None else math.inf
-
-    def near(self, choice: Staying) -> list[Staying]:
-        out = []
-        for factor in (FACTOR, 1 / FACTOR):
-            parts = [i for i, v in enumerate(choice.stay) if v]
-            out += [replace(choice, stay=[v * factor if k in some else v for k, v in enumerate(choice.stay)]) for some in [parts, *([i] for i in parts if len(parts) > 1)]]
-            out += [replace(choice, times=choice.times | {pair: self.other_time(pair, time, factor**0.5)}) for pair, time in choice.times.items()]
+    def turns(self) -> list[dict]:
+        """What is tried: coordinates of loops of gains, and positions some time ahead."""
+        design, model = in_floats(self.model), self.model
+        out = list(candidates(design, model.own, self.plant.held, model.state_units))
+        for i, j in pairs_of(model, self.plant)[:3]:
+            ratio = model.state_units[i] / model.state_units[j]
+            out += [{(i, j): neat(self.plant.a[i, j] * part * ratio) / ratio} for part in TIMES[1:]]
         return out
 
+    def coordinates(self) -> list[Staying]:
+        """The boxes that hold most, in other coordinates each, the best first: a few with narrow parts for `stay`, and a few with wide ones."""
+        out: list[Staying] = []
+        self.pool = self.turns()
+        for number, stay in enumerate(STARTS, 1):
+            found: list[Staying] = []
+            for times in self.pool:
+                if found and not self.budget.goes_on(TRIED * number / len(STARTS)):
+                    break
+                if (choice := self.larger(times, stay)) is not None and choice.covers > NOTHING / 10:
+                    found.append(choice)
+                    self.tell(max(out + found, key=lambda one: one.covers))
+            out += sorted(found, key=lambda one: -one.covers)[:FEW]
+        return sorted(out, key=lambda one: -one.covers)
 
-def pairs_of(model: Model) -> list[tuple[int, int]]:
+    def rows_for(self, i: int) -> list[dict]:
+        """What is tried in the place of a coordinate: of all that was tried one of each that look alike."""
+        rows: dict[tuple, dict] = {}
+        for times in self.pool:
+            row = {pair: time for pair, time in times.items() if pair[0] == i}
+            rows.setdefault(tuple(sorted((pair, float(f"{time:.1g}")) for pair, time in row.items())), row)
+        return list(rows.values())
+
+    def tell(self, choice: Staying) -> None:
+        self.budget.best = f"best so far: {plain(100 * choice.covers)} % of the model's box {told(self.model, choice)}" + (f", K about {choice.steps:.0f}" if math.isfinite(choice.steps) else "")
+
+    def better(self, choice: Staying, part: float) -> Staying:
+        """The choice with single coordinates of others, and then with other T, one at a time, as long as its box holds more, within this part of the time."""
+        stay, improved = choice.stay[0], True
+        while improved:
+            improved = False
+            for i in range(self.model.own):
+                for row in self.rows_for(i):
+                    if not self.budget.goes_on(part):
+                        return choice
+                    times = {key: v for key, v in choice.times.items() if key[0] != i} | row
+                    trial = self.larger(times, stay) if times != choice.times else None
+                    if trial and trial.covers > choice.covers + 0.002:
+                        choice, improved = trial, True
+                        self.tell(choice)
+            for pair, time in list(choice.times.items()):
+                ratio = self.model.state_units[pair[0]] / self.model.state_units[pair[1]]
+                for factor in (*FACTORS, 0.0):
+                    if not self.budget.goes_on(part):
+                        return choice
+                    times = {key: v for key, v in choice.times.items() if key != pair} | ({pair: neat(time * ratio * factor) / ratio} if factor else {})
+                    trial = self.larger(times, stay)
+                    if trial and trial.covers > choice.covers + (0.002 if factor else -0.002):
+                        choice, improved = trial, True
+                        self.tell(choice)
+                        break
+        return choice
+
+    def prices(self, choices: list[Staying]) -> list[Staying]:
+        """What these cost with several parts for `stay`, the best first; and the best with other parts of single coordinates."""
+        out: list[Staying] = []
+        for choice in choices[:SOME]:
+            for stay in STAYS:
+                if self.budget.goes_on(PRICED) or not out:
+                    self.price(self.larger(choice.times, stay), out)
+        improved = True
+        while improved and out:
+            best = max(out, key=lambda one: one.worth)
+            for i, factor in [(i, factor) for i, part in enumerate(best.stay) if part for factor in PARTS]:
+                if self.budget.goes_on(FINE):
+                    self.price(self.larger(best.times, [part * factor if k == i else part for k, part in enumerate(best.stay)]), out)
+            improved = max(out, key=lambda one: one.worth).worth > best.worth + 0.01
+        return sorted(out, key=lambda one: -one.worth)
+
+    def price(self, sized: Staying | None, out: list[Staying]) -> None:
+        """Adds a choice with its price."""
+        if sized is None:
+            return
+        out.append(priced(self.model, sized, self.generate))
+        best = max(out, key=lambda one: one.worth)
+        if math.isfinite(best.worth):
+            self.best = best
+            self.tell(best)
+
+    def run(self, most: float) -> dict | None:
+        """The keys of the model with the best choice whose faces are found, of at most so many steps."""
+        found = self.coordinates()
+        self.best = found[0] if found else None
+        parts = [TRIED + (BETTER - TRIED) * (place + 1) / len(found) for place in range(len(found))]
+        found = sorted((self.better(choice, part) for choice, part in zip(found, parts)), key=lambda one: -one.covers)
+        for choice in self.prices(found):
+            if not math.isfinite(choice.worth) or choice.steps > most or not self.budget.goes_on():
+                continue
+            say(f"{words_of(self.model, choice)}: {plain(100 * choice.covers)} % of the model's box, K about {choice.steps:.0f}")
+            wide = [replace(choice, stay=choice.wide)] * (choice.stay != choice.wide)
+            fewer = [replace(choice, stages=-(-self.model.stages // part)) for part in (2, 4) if self.model.stages >= part]
+            for trial in [choice, *wide, *fewer]:
+                made = drafted_faces(self.model, trial, self.generate)
+                if not isinstance(made, str):
+                    self.best = trial
+                    if trial.stages:
+                        say(f"  drafted with {trial.stages} stages in place of {self.model.stages} the faces hold")
+                    return with_limits(self.model, trial)
+                say(f"  drafted, {made}")
+        return None
+
+
+def pairs_of(model: Model, plant: Plant) -> list[tuple[int, int]]:
     """Each state with one that moves it and that it moves less, the strongest coupling first."""
-    own, a = len(model.to), model.a
-    half = [(high - low) / 2 / unit for low, high, unit in zip(model.lo, model.hi, model.state_units)]
-    scaled = model.scaled()[0]
-    part = lambda i, j: abs(scaled[i, j]) * half[j] / half[i] if half[i] > 0 else 0.0
-    found = [(part(i, j), (i, j)) for i in range(own) for j in range(own) if i != j]
-    return [pair for weight, pair in sorted(found, reverse=True) if weight > COUPLED and scaled[pair[0], pair[0]] > 0.5 and weight > part(*pair[::-1]) and a[pair]]
+    part = lambda i, j: abs(plant.a[i, j]) * plant.half[j] / plant.half[i] if plant.half[i] > 0 else 0.0
+    found = [(part(i, j), (i, j)) for i in range(model.own) for j in range(model.n) if i != j and plant.half[j] > 0]
+    return [pair for weight, pair in sorted(found, reverse=True) if weight > COUPLED and plant.a[pair[0], pair[0]] > 0.5 and weight > part(*pair[::-1])]
 
 
 # ---- what is drafted of a choice
@@ -275,13 +315,29 @@ def quietly(call, *arguments):
         return call(*arguments)
 
 
-def found_faces(model: Model) -> tuple[Design, list] | None:
+def drafted_faces(model: Model, choice: Staying | None, generate: bool) -> tuple[Design, list] | str:
+    """The design of a model, or of a choice for it, and its faces; or why there are none."""
+    try:
+        model = Model(with_limits(model, choice)) if choice else model
+        design = drafted(model, lean=not generate).design
+    except Refusal as fault:
+        return str(fault)
+    wide = too_wide(design, corner_plans(design))
+    if wide:
+        return f"the program would refuse {', '.join(wide)}"
+    policy = quietly(find_policy, design) if generate else quietly(find_lean, design)
+    excess = faces.excesses(design, *([policy] if generate else policy)) if policy else None
+    if excess is None:
+        return "the design has no policy"
+    low, high = grid_disturbances(model, design)
+    found = faces.holding(design, excess, low, high)
+    return (design, found) if found else "; ".join(faces.beyond(design, excess, low, high))
+
+
+def found_faces(model: Model, generate: bool = False) -> tuple[Design, list] | None:
     """The design of a model and its faces; None where it has no policy or a face doesn't hold."""
-    design = draft(model)
-    policy = quietly(find_policy, design)
-    excess = faces.excesses(design, policy) if policy else None
-    found = faces.holding(design, excess, *grid_disturbances(model, design)) if excess is not None else None
-    return (design, found) if found else None
+    found = drafted_faces(model, None, generate)
+    return None if isinstance(found, str) else found
 
 
 def words_of(model: Model, choice: Staying) -> str:
@@ -290,49 +346,71 @@ def words_of(model: Model, choice: Staying) -> str:
     return told(model, choice) + (", and " if kept else "") + ", ".join(kept)
 
 
-def search(model: Model, most: float = 20000.0) -> dict | None:
-    """The keys of a model whose design has faces, or None."""
-    if any(model.stay) and found_faces(model):
+# ---- what is in the way
+
+
+def in_the_way(model: Model, plant: Plant, choice: Staying | None) -> list[str]:
+    """What stops the model's box, or the best that was seen, in words: the corner, the limits and ends that meet there, and whether the disturbances are to blame."""
+    turn = choice.rows(model.n) if choice else numpy.eye(model.n)
+    parts = numpy.ones(model.n)
+    stay = numpy.array([STARTS[-1]] * model.own + [0.0] * (model.n - model.own))
+    names = [name for name, _ in Model(changed(model, Staying(choice.times, list(parts), []))).names] if choice and choice.times else [name for name, _ in model.names]
+    short = short_of(plant, turn, parts, stay)
+    if short is None or short.blame is None:
+        return ["no inputs are within the limits at all"]
+    own = plant.turned(turn)
+    at = ", ".join(f"{name} {'high' if sign > 0 else 'low'}" for name, sign in zip(names, short.blame.corner) if sign)
+    ends = [f"the {'upper' if sign > 0 else 'lower'} end of {names[i]}" for i, sign in short.blame.ends]
+    limits = [limit_words(model, row) for row in short.blame.limits]
+    words = [f"at the corner of {at} the next state can't be kept in the box: {' and '.join(ends + limits)} meet there, {plain(max(0.0, -short.least))} tolerances short"]
+    calm = short_of(replace(plant, shift=numpy.zeros(model.n)), turn, parts, stay)
+    if any(own.shift > 0.6 / 2 ** int(model.text["box"].get("grid", 4))) and calm and calm.least - short.least > 0.25 * max(0.25, -short.least):
+        words.append(f"without what is disturbed it would be {plain(max(0.0, -calm.least))}: a smaller `disturbed` helps")
+    return words
+
+
+def limit_words(model: Model, row: int) -> str:
+    """A stage row by its name."""
+    return f"the limit {in_floats(model).name('stage row', row + 1).word}"
+
+
+def search(model: Model, most: float = 20000.0, seconds: float = 60.0, generate: bool = False) -> tuple[dict, bool]:
+    """The keys of a model whose design has faces, and whether they hold; else of the best that was seen."""
+    if any(model.stay) and found_faces(model, generate):
         say("as it is: the faces hold")
-        return model.text
-    with Progress("trials", 0) as progress:
-        found = Search(model, progress)
-        choice = found.plain([TOUCH * v for v in found.limited()])
-        if not any(choice.stay):
-            say("the model's own limits keep it in the box")
-            return model.text if found_faces(model) else None
-        for _ in range(ROUNDS):
-            choice = found.roomy(choice)
-            if choice is None:
-                return None
-            cheap, steps = found.cheapest(choice)
-            progress.clear()
-            say(f"{words_of(model, cheap)}: K about {steps:.0f}" if math.isfinite(steps) else f"{words_of(model, cheap)}: no faces")
-            if steps <= most and found_faces(Model(with_limits(model, cheap))):
-                return with_limits(model, cheap)
-            choice = found.cheaper(cheap)
-    return None
+        return model.text, True
+    if not any(model.stay) and found_faces(model, generate):
+        say("the model's own limits keep it in the box")
+        return model.text, True
+    with Budget(seconds) as budget:
+        found = Search(model, budget, generate)
+        keys = found.run(most)
+    if keys is not None:
+        return keys, True
+    for words in in_the_way(model, found.plant, found.best):
+        say(words)
+    return (with_limits(model, found.best) if found.best else model.text), False
 
 
 def main() -> int:
     parser = Parser(__doc__)
     parser.add_argument("model", metavar="MODEL")
     parser.add_argument("new", metavar="NEW_MODEL", nargs="?")
+    parser.add_argument("--generate", action="store_true")
     parser.add_argument("--steps", type=several, default=20000, metavar="N")
+    parser.add_argument("--seconds", type=positive, default=60.0, metavar="S")
     given = parser.parse_args()
     files.keep_apart({"MODEL": given.model}, {"NEW_MODEL": given.new or files.STANDARD_OUTPUT})
     model = read_model(given.model)
-    found = search(model, given.steps)
-    if found is None:
-        say("no coordinates, no limits and no box were found for which faces hold: stronger inputs, a smaller box, fewer stages or a smaller `disturbed` (docs/DESIGNING.md)")
-        return 12
-    same = found is model.text
-    text = files.read_bytes(given.model).decode() if same else model_text(found, "a model whose loops never leave the box, by scripts/staying.py")
+    found, holds = search(model, given.steps, given.seconds, given.generate)
+    if not holds:
+        say("no coordinates, no limits and no box were found for which faces hold, and the best that was seen is kept: stronger inputs, a smaller box or a smaller `disturbed` (docs/DESIGNING.md)")
+    text = files.read_bytes(given.model).decode() if found is model.text else model_text(found, "a model whose loops never leave the box, by scripts/staying.py")
     if given.new:
         files.write(given.new, text)
     else:
         sys.stdout.write(text)
-    return 0
+    return 0 if holds else 12
 
 
 if __name__ == "__main__":

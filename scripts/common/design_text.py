@@ -69,7 +69,7 @@ class Design:
     violation: int
     gap: int
     names: dict = field(default_factory=dict)
-    period: float = None
+    period: float | None = None
 
     @property
     def entries(self):

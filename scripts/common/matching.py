@@ -78,7 +78,7 @@ def made_difference(controller: Controller, report: dict) -> str | None:
 def controller_difference(controller: Controller, design: Design) -> str | None:
     """Of a controller and a design: sizes, box, rows and gains."""
     c, d = controller, design
-    pairs = [("version", c.version, d.version), ("number of states", c.states, d.states), ("number of inputs", c.inputs, d.inputs), ("number of stages", c.stages, d.stages)]
+    pairs: list[tuple[str, object, object]] = [("version", c.version, d.version), ("number of states", c.states, d.states), ("number of inputs", c.inputs, d.inputs), ("number of stages", c.stages, d.stages)]
     pairs += [("number of rows", c.rows, d.rows), ("grid", c.grid, d.grid), ("lo", c.lo, list(d.lo)), ("hi", c.hi, list(d.hi))]
     found = first(pairs, "design")
     if found:
@@ -101,13 +101,13 @@ def row_difference(controller: Controller, design: Design, form: Condensed) -> s
 def gain_difference(controller: Controller, form: Condensed) -> str | None:
     """Of the gains, which solve the condensed cost: those of the state, of the targets and of a row."""
     scale = 2**controller.bits
-    lower = factor([[v / form.hess_den for v in row] for row in form.hess])
+    lower: list = factor([[v / form.hess_den for v in row] for row in form.hess])
     column = lambda table, i: [row[i] for row in table]
     pairs = [(column(controller.P, i), [row[i] / form.hess_den for row in form.lin]) for i in range(controller.states)]
     pairs += [(controller.T, [v / form.hess_den for v in form.off]), (column(controller.W, 0), [v / form.row_den for v in form.rows[0]])]
     for gains, right in pairs:
-        wanted = [v * scale for v in solve(lower, right)]
-        allowed = GAIN_PART * max(map(abs, wanted)) + GAIN_UNITS
+        wanted: list[float] = [v * scale for v in solve(lower, right)]
+        allowed = GAIN_PART * max(abs(v) for v in wanted) + GAIN_UNITS
         if any(abs(gain - value) > allowed for gain, value in zip(gains, wanted)):
             return "its gains are those of other weights or targets, or of another plant"
     return None

@@ -29,7 +29,7 @@ def bound(_: object, value: object) -> bool:
 
 
 def whole(_: object, value: object) -> bool:
-    return finite(_, value) and value == int(value)
+    return isinstance(value, (int, float)) and finite(_, value) and value == int(value)
 
 
 Validator = jsonschema.validators.extend(
@@ -88,11 +88,20 @@ def schema_of(version: int, n: int | None, p: int | None, held: int, plant_alone
             "b": list_of(list_of(NUMBER, p, "numbers, one for each input"), n, "lists, one for each state"),
             "states": names(n, "state"),
             "inputs": names(p, "input"),
-            "coordinates": table_of({"rows": list_of(states, n, "lists, one for each state"), "names": names(n, "state")}, ("rows",)),
+            "coordinates": table_of(
+                {
+                    "rows": list_of(states, n, "lists, one for each state"),
+                    "held": list_of(helds, n, "lists, one for each state"),
+                    "last": list_of(inputs, n, "lists, one for each state"),
+                    "names": names(n, "state"),
+                },
+                ("rows",),
+            ),
             "units": table_of(
                 {
                     "states": sizes(n, "state"),
                     "inputs": sizes(p, "input"),
+                    "changes": sizes(p, "input"),
                     "den": whole_from(1, DENOMINATOR),
                     "limits": whole_from(1, DENOMINATOR),
                     "weights": whole_from(1, DENOMINATOR),
@@ -227,10 +236,15 @@ def limit_faults(model: dict) -> list[str]:
                 out.append(f"cost.{key}[{number}]: a factor other than 0 is expected, in state, held or last")
             if any(factor and l not in changed(model) for l, factor in enumerate(row.get("last", []))):
                 out.append(f"cost.{key}[{number}].last: no such key here, since the last inputs are no states: plan = 'changes', delay = 1 or a limit on a change makes them so")
+    for number, row in enumerate(model.get("coordinates", {}).get("last", []), 1):
+        if any(factor and l not in changed(model) for l, factor in enumerate(row)):
+            out.append(f"coordinates.last[{number}]: zeros are expected for inputs whose last values are no states: plan = 'changes', delay = 1 or a limit on a change makes them so")
     rows = sum(math.isfinite(limit.get("bound", math.inf)) + math.isfinite(limit.get("least", -math.inf)) for limit in model.get("limit", []))
     ends = 2 * sum(map(bool, model.get("box", {}).get("stay", [])))
     if rows + ends > ROWS:
         out.append(f"limit: at most {ROWS} sides are expected, above and below, and {rows} stand there" + f", beside {ends} ends of the box" * bool(ends))
+    if "changes" in model.get("units", {}) and model.get("plan") != "changes":
+        out.append("units.changes: no such key here, since inputs are planned: plan = 'changes' plans their changes")
     if model.get("plan") == "changes" and model.get("delay", 0):
         out.append("delay: 0 is expected where changes are planned")
     box = model.get("box", {"hi": []})

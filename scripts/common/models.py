@@ -13,11 +13,14 @@
 
     [coordinates]                                # optional: the design's states as sums of the model's
     rows = [[1.0, 0.01], [0.0, 1.0]]
+    held = [[-1.0], [0.0]]                       # what of the held states is added to each, as angle - target; left out: nothing
+    last = [[0.0], [0.0]]                        # and of the last inputs, where these are states
     names = ["angle soon rad", "speed rad/s"]
 
     [units]                                      # how much 1 of the design is; left out: chosen so that the row sums of |A| + |B| are small
     states = [0.0625, 5.0]
     inputs = [1.0]
+    changes = [0.25]                             # of an input's change, where these are planned; left out: as inputs, or where that is left out, too, chosen like the others
     den = 64                                     # the plant's denominator; left out: the least power of two at which responses are within 0.1 % and no coupling is lost
     rounding = 0.001                             # by how much of itself a weight, a target or a limit may move, or a limit of its tolerance
     limits = 64                                  # the limits' denominator; left out: the least at which they move by no more than that
@@ -56,6 +59,7 @@ import json
 import math
 import os
 import tomllib
+from dataclasses import dataclass
 from typing import Any
 
 from common.libraries import Refusal, need
@@ -65,11 +69,15 @@ import numpy
 import scipy.io
 import scipy.linalg
 
-from common.design_text import Name
+from common.design_text import Name, plain
 from common.files import read_bytes
 from common.model_schema import changed, faults_of, version_of
 
 NUMERATOR = 2147483647
+# by how much a pole may multiply in a stage, and over the horizon
+MOST_GROWTH, MOST_FAR = 4, 1e5
+# the unit of a change, as a part of that of its input
+CHANGE = 0.15
 
 
 class Model:
@@ -85,7 +93,7 @@ class Model:
         self.n = self.own + len(self.held) + len(self.last)
         self.delay, self.by_changes = int(t.get("delay", 0)), t.get("plan") == "changes"
         turn = t.get("coordinates", {})
-        self.to = numpy.array(turn.get("rows", numpy.eye(self.own)), float)
+        self.to = self.coordinates(turn)
         if not numpy.all(numpy.isfinite(self.to)) or numpy.linalg.cond(self.to) > 1e12:
             refuse(["coordinates.rows: rows of which none is a sum of the others are expected, and these give no state back"])
         self.input_names = [split_name(v, f"u{i + 1}") for i, v in enumerate(t.get("inputs", [""] * self.p))]
@@ -99,6 +107,16 @@ class Model:
         self.choose_units(units)
         self.den, self.limit_den, self.weight_den = (int(units[key]) if key in units else None for key in ("den", "limits", "weights"))
         self.rounding = float(units.get("rounding", 0.001))
+
+    def coordinates(self, turn: dict) -> numpy.ndarray:
+        """The design's states as sums of the plant's, the held ones and the last inputs."""
+        to, kept = numpy.eye(self.n), self.own + len(self.held)
+        to[: self.own, : self.own] = numpy.array(turn.get("rows", numpy.eye(self.own)), float)
+        if "held" in turn and self.held:
+            to[: self.own, self.own : kept] = numpy.array(turn["held"], float)
+        if "last" in turn:
+            to[: self.own, kept:] = numpy.array(turn["last"], float)[:, self.last]
+        return to
 
     def state_names(self, own: list) -> list:
         names = [split_name(v, f"x{i + 1}") for i, v in enumerate(own)]
@@ -142,23 +160,22 @@ class Model:
             moved = numpy.hstack([b, into])
         else:
             a, moved = hold(a, numpy.hstack([b, into]), self.period)
-        back = numpy.linalg.inv(self.to)
-        own_a, moved = self.to @ a @ back, self.to @ moved
         own_b, into = moved[:, : self.p], moved[:, self.p :]
         held, last = len(self.held), len(self.last)
-        self.a, self.b = numpy.zeros((self.n, self.n)), numpy.zeros((self.n, self.p))
+        natural, driven = numpy.zeros((self.n, self.n)), numpy.zeros((self.n, self.p))
         kept = self.own + held
-        self.a[: self.own, : self.own], self.a[: self.own, self.own : kept] = own_a, into
-        self.a[self.own : kept, self.own : kept] = numpy.eye(held)
+        natural[: self.own, : self.own], natural[: self.own, self.own : kept] = a, into
+        natural[self.own : kept, self.own : kept] = numpy.eye(held)
         for place, l in enumerate(self.last):
-            self.b[kept + place, l] = 1.0
+            driven[kept + place, l] = 1.0
         if self.delay or self.by_changes:
-            self.a[: self.own, kept:] = own_b
+            natural[: self.own, kept:] = own_b
         if self.by_changes:
-            self.a[kept:, kept:] = numpy.eye(last)
+            natural[kept:, kept:] = numpy.eye(last)
         if not self.delay:
-            self.b[: self.own] = own_b
-        self.moving = numpy.vstack([own_b, numpy.zeros((held, self.p))])
+            driven[: self.own] = own_b
+        self.a, self.b = self.to @ natural @ numpy.linalg.inv(self.to), self.to @ driven
+        self.moving = (self.to[:, : self.own] @ own_b)[:kept]
         if not (numpy.all(numpy.isfinite(self.a)) and numpy.all(numpy.isfinite(self.b)) and max(abs(self.a).max(), abs(self.b).max()) < 1e9):
             refuse([f"a: over a period of {self.period:g} s the plant grows beyond 10^9: slower numbers, other units or a shorter period are expected"])
 
@@ -168,9 +185,11 @@ class Model:
         # a state that is one number is 1 of its unit, so that its box holds it
         states = [abs(h) if l == h != 0 else unit for unit, l, h in zip(states, self.lo, self.hi)]
         states = list(units.get("states", states[: self.own])) + [still.get("unit", unit) for still, unit in zip(self.held, states[self.own :])]
+        # a change that adds to the last input in a unit of its own, so that its row has little more than the 1 of the last input
+        changes = list(units.get("changes", units.get("inputs", [neat(CHANGE * v) for v in inputs])))
         inputs = list(units.get("inputs", inputs))
         self.state_units = numpy.array(states + [inputs[l] for l in self.last], float)
-        self.input_units = numpy.array(inputs, float)
+        self.input_units = numpy.array(changes if self.by_changes else inputs, float)
         a, b = self.scaled()
         if not max(abs(a).max(), abs(b).max()) <= NUMERATOR:
             refuse(["units: units are expected in which no number of the plant is above 2^31"])
@@ -178,7 +197,8 @@ class Model:
     def ends(self) -> tuple[list[int], list[int]]:
         """The box over 2^grid in the design's units: its least and its greatest values."""
         grid = int(self.text.get("box", {}).get("grid", 4))
-        return tuple([int(round(v / u * 2**grid)) for v, u in zip(values, self.state_units)] for values in (self.lo, self.hi))
+        lo, hi = ([int(round(v / u * 2**grid)) for v, u in zip(values, self.state_units)] for values in (self.lo, self.hi))
+        return lo, hi
 
     def scaled(self) -> tuple[numpy.ndarray, numpy.ndarray]:
         """A and B in the design's units."""
@@ -187,16 +207,53 @@ class Model:
 
     def row(self, factors: dict) -> numpy.ndarray:
         """Factors over the model's states, held states, inputs and their changes, as factors over the design's states."""
-        own = numpy.array(factors.get("state", [0.0] * self.own), float) @ numpy.linalg.inv(self.to)
+        own = numpy.array(factors.get("state", [0.0] * self.own), float)
         held = numpy.array(factors.get("held", [0.0] * len(self.held)), float)
         # an input is its last value and its change, a change is the input less its last value
         of = numpy.array(factors.get("input", [0.0] * self.p), float) if self.by_changes else -numpy.array(factors.get("change", [0.0] * self.p), float)
         last = (of + numpy.array(factors.get("last", [0.0] * self.p), float))[self.last]
-        return numpy.r_[own, held, last] * self.state_units
+        return numpy.r_[own, held, last] @ numpy.linalg.inv(self.to) * self.state_units
 
     def planned(self, factors: dict) -> numpy.ndarray:
         """Factors over the inputs and their changes, as factors over the design's inputs."""
         return (numpy.array(factors.get("input", [0.0] * self.p), float) + numpy.array(factors.get("change", [0.0] * self.p), float)) * self.input_units
+
+
+@dataclass
+class Pole:
+    """By what a stage multiplies, and for a continuous plant the pole over a second; how often it turns within a stage."""
+
+    a_stage: complex
+    a_second: complex | None
+    turns: float
+
+    @property
+    def told(self) -> str:
+        return number_words(self.a_stage) + (f" (pole {number_words(self.a_second)} /s)" if self.a_second is not None else "")
+
+
+def number_words(value: complex) -> str:
+    """A number of a pair with its other."""
+    real = plain(value.real if abs(value.real) > 1e-12 else 0.0)
+    return real if abs(value.imag) < 1e-9 * max(1.0, abs(value)) else f"{real} ± {plain(abs(value.imag))}j"
+
+
+def poles_of(model: "Model") -> list[Pole]:
+    """The poles of a model's own states, one of each pair, what grows most first."""
+    a, sampled = numpy.array(model.text["a"], float), model.text.get("sampled", False)
+    values = [v for v in numpy.linalg.eigvals(a) if v.imag >= 0]
+    with numpy.errstate(all="ignore"):
+        made = [Pole(v, None, 0.0) if sampled else Pole(numpy.exp(v * model.period), v, abs(v.imag) * model.period / (2 * math.pi)) for v in values]
+    return sorted(made, key=lambda pole: -abs(pole.a_stage))
+
+
+def refuse_growth(model: "Model") -> None:
+    """Ends where a pole multiplies more over a stage, or over the horizon, than plans could follow: with the pole, before anything is searched."""
+    pole = poles_of(model)[0]
+    grown, far = abs(pole.a_stage), abs(pole.a_stage) ** model.stages
+    if grown > MOST_GROWTH or far > MOST_FAR:
+        key, other = ("a", "a plant") if model.text.get("sampled") else ("period", "a shorter period, or a plant")
+        refuse([f"{key}: a stage multiplies a state by {pole.told}, {model.stages} stages by {plain(far)}: {other} that grows by at most {MOST_GROWTH} a stage, and fewer stages than take it beyond {MOST_FAR:g} are expected"])
 
 
 def refuse(faults: list[str]) -> None:
@@ -225,15 +282,19 @@ def hold(a: numpy.ndarray, b: numpy.ndarray, period: float) -> tuple[numpy.ndarr
     return both[:n, :n], both[:n, n:]
 
 
-def units_for(a: numpy.ndarray, b: numpy.ndarray, box: list) -> tuple[list, list]:
+def neat(value: float) -> float:
+    """A number of two digits."""
+    return float(f"{value:.2g}")
+
+
+def units_for(a: numpy.ndarray, b: numpy.ndarray, reach: list) -> tuple[list, list]:
     """Units in which the row sums of |A| + |B| are small: the growth of |A| between the box's sizes, and inputs in units that add 15 %."""
-    box = numpy.array(box, float)
+    box = numpy.array(reach, float)
     coupled = abs(a) * box[None, :] / box[:, None] + 0.05
     values, vectors = numpy.linalg.eig(coupled)
     states = box * abs(vectors[:, numpy.argmax(values.real)].real)
     inputs = numpy.array([0.15 / max(max(abs(b[:, l]) / states), 1e-12) for l in range(b.shape[1])])
     scale = 16 / max(box / states)
-    neat = lambda v: float(f"{v:.2g}")
     return [neat(v / scale * 4) for v in states], [neat(v / scale * 4) for v in inputs]
 
 
@@ -302,7 +363,7 @@ def with_plant(model: dict[str, Any], folder: str) -> dict[str, Any]:
         return model
     refuse(["plant: the name of a .mat or .json is expected"] if not isinstance(path, str) or not path.endswith((".mat", ".json")) or "\0" in path else [])
     refuse([f"{key}: is given by plant, too" for key in ("a", "b") if key in model])
-    path = os.path.join(folder, path)
+    path = os.path.join(folder, str(path))
     plant = plant_of(matrices_of(path) if path.endswith(".mat") else json_of(text_in(read_bytes(path))), path)
     if "period" in plant and "period" in model and model["period"] != plant["period"]:
         refuse([f"period: {plant['period']} is expected, which the plant of {path} is sampled with, and {model['period']} stands there"])

@@ -28,14 +28,14 @@ class Programs:
         self.rows, self.state_rows = floats(form.rows, form.row_den), floats(form.state_rows, form.row_den)
         self.bounds = numpy.array([v / form.row_den for v in form.bounds])
 
-    def pull(self, state: list) -> numpy.ndarray:
+    def pull(self, state: list | numpy.ndarray) -> numpy.ndarray:
         return self.lin @ numpy.array(state, float) + self.off
 
-    def room(self, state: list) -> numpy.ndarray:
+    def room(self, state: list | numpy.ndarray) -> numpy.ndarray:
         """What each row leaves for the plan."""
         return self.bounds - self.state_rows @ numpy.array(state, float)
 
-    def best(self, state: list, slack: float = 0.0) -> numpy.ndarray | None:
+    def best(self, state: list | numpy.ndarray, slack: float = 0.0) -> numpy.ndarray | None:
         """The plan of least cost that keeps each limit with this slack, or None where there is none."""
         matrix = cvxopt.matrix
         try:
@@ -46,7 +46,7 @@ class Programs:
         kept = (self.room(state) - self.rows @ plan).min() > slack - 1e-6 * (1 + abs(self.bounds).max())
         return plan if kept else None
 
-    def unlimited(self, state: list) -> numpy.ndarray:
+    def unlimited(self, state: list | numpy.ndarray) -> numpy.ndarray:
         """The plan of least cost where there are no limits."""
         return -numpy.linalg.solve(self.hess, self.pull(state))
 

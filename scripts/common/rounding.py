@@ -9,6 +9,8 @@ from common.design_text import plain
 # a factor that comes to less than this part of its row's greatest, over the box, is one of rounding
 NOTHING = 1e-6
 LONGEST = 2**20
+# what a factor of a limit that keeps the box may come to over it, of the tolerance: a lean controller leaves a sixtieth of the tolerance for all of them
+STRICT = 0.002
 CHUNK = 4096
 
 
@@ -41,14 +43,17 @@ def whole_ratio(weights: list[float], part: float) -> list[int]:
     return [int(v) for v in numpy.rint(values * scale)]
 
 
-def limit_denominator(rows: list[numpy.ndarray], reach: numpy.ndarray, part: float) -> tuple[int, bool]:
+def limit_denominator(rows: list[numpy.ndarray], reach: numpy.ndarray, part: float, strict: list[bool] | None = None) -> tuple[int, bool]:
     """The least denominator by which no factor moves by more than the part of itself, or comes to more than the part of the tolerance over the box, and no bound by more
-    than the part of itself or of the tolerance; and whether there is one."""
+    than the part of itself or of the tolerance; and whether there is one. A factor of a strict row comes to no more than STRICT of the tolerance, where anything says how far
+    its coordinate goes."""
     if not rows:
         return 1, True
-    factors, bounds = numpy.array([row[:-1] for row in rows]).ravel(), numpy.array([row[-1] for row in rows])
-    wide = numpy.tile(reach, len(rows))
-    allowed = numpy.maximum(part * abs(factors), part / numpy.maximum(wide, 1e-300))
+    factors, bounds = numpy.array([row[:-1] for row in rows]), numpy.array([row[-1] for row in rows])
+    allowed = numpy.maximum(part * abs(factors), part / numpy.maximum(reach, 1e-300))
+    for line, is_strict in zip(allowed, strict or []):
+        if is_strict:
+            line[:] = numpy.where(numpy.isfinite(reach), STRICT / numpy.maximum(reach, 1e-300), line)
     for den in [*range(1, CHUNK), *(2**k for k in range(12, 21))]:
         near = abs(numpy.rint(factors * den) - factors * den) <= allowed * den * (1 + 1e-9) + 1e-9
         below = bounds * den - numpy.floor(bounds * den + 1e-6) <= part * numpy.maximum(abs(bounds), 1) * den + 1e-6

@@ -1,9 +1,14 @@
 """From a model to a judged picture: loops that leave and where they go, coordinates in which they stay, and the one command that goes the whole way."""
+import contextlib
+import io
 import os
+import signal
 import subprocess
 import sys
+import time
 import tomllib
 import unittest
+import unittest.mock
 
 from common.libraries import PACKAGES, missing
 from common.model_text import model_text
@@ -19,6 +24,7 @@ if not LACKING:
     from draft import draft
     from common.models import Model
     from common.programs import Programs, reach_of
+    from common.texts import read_text, records_of
 
 MASS = """period = 0.2
 stages = 6
@@ -77,26 +83,35 @@ class Loops(unittest.TestCase):
         model = Model(MASS)
         made = draft(model)
         self.assertGreater(max(reach_of(made, 30)), 1)
-        choice = coordinates.search(model, made, 30)
-        self.assertEqual(list(choice.times), [(0, 1)])
+        choice, far = coordinates.search(model, made, 30)
+        self.assertEqual((list(choice.times), max(far) <= 1), ([(0, 1)], True))
         changed = Model(coordinates.changed_text(model, choice))
         self.assertLessEqual(max(reach_of(draft(changed), 30)), 1)
         self.assertRegex(changed.names[0][0], "^position in [0-9]+ ms$")
         self.assertGreater(changed.to[0][1], 0)
 
     def test_names_of_new_coordinates(self):
-        name = lambda text, time: coordinates.name_of(Model(text), 0, 1, time)
+        name = lambda text, time: coordinates.name_of((model := Model(text)), 0, model.to[0] + [0.0, time])
         self.assertEqual((name(MASS, 0.5), name(MASS, 2.5)), ("position in 500 ms m", "position in 2.5 s m"))
         ahead = MASS + "[coordinates]\nrows = [[1.0, 0.25], [0.0, 1.0]]\nnames = ['soon m', 'speed m/s']\n"
-        self.assertEqual((name(ahead, 0.5), name(ahead, -0.5)), ("position in 750 ms m", "soon and -0.5 speed m"))
+        self.assertEqual((name(ahead, 0.5), name(ahead, -0.5), name(ahead, 0.0)), ("position in 750 ms m", "position - 0.25 speed m", "soon m"))
         other = MASS.replace("a = [[0.0, 1.0]", "a = [[0.0, 2.0]")
-        self.assertEqual((name(other, 0.5), name("sampled = true\n" + MASS, 0.5)), ("position and 0.5 speed m", "position and 0.5 speed m"))
+        self.assertEqual((name(other, 0.5), name("sampled = true\n" + MASS, 0.5)), ("position + 0.5 speed m", "position + 0.5 speed m"))
         self.assertEqual(name(MASS.replace('states = ["position m", "speed m/s"]\n', ""), 0.5), "x1 in 500 ms units")
 
     def test_a_box_that_is_kept(self):
         model = Model(MASS.replace("a = [[0.0, 1.0], [0.0, 0.0]]", "a = [[-2.0, 0.1], [0.0, -2.0]]"))
-        choice = coordinates.search(model, draft(model), 30)
+        choice, _ = coordinates.search(model, draft(model), 30)
         self.assertEqual((choice.times, choice.kept), ({}, [1.0, 1.0]))
+
+    def test_the_best_is_kept_where_none_stays(self):
+        # a mass that nothing stops in time: a limit on its force is so narrow that each box is left
+        model = Model(MASS.replace("bound = 1.0\nleast = -1.0\ntolerance = 0.1", "bound = 0.02\nleast = -0.02\ntolerance = 0.002"))
+        with contextlib.redirect_stderr(io.StringIO()):
+            before = max(reach_of(draft(model), 30))
+            choice, far = coordinates.search(model, draft(model), 30, seconds=4)
+        self.assertTrue(1 < max(far) < before)
+        self.assertRegex(coordinates.to_blame(Model(coordinates.changed(model, choice)), far), r"^the loops leave in position.* \([0-9.]+ of its box\)")
 
 
 @unittest.skipIf(LACKING, f"missing: {', '.join(LACKING)}")
@@ -108,7 +123,7 @@ class WholeWay(unittest.TestCase):
         run = lambda *words: subprocess.run([sys.executable, os.path.join(TOP, "scripts", "design.py"), *words], cwd=folder, capture_output=True, text=True)
         got = run(paths["bad"], "made", "--as-it-is")
         self.assertEqual(got.returncode, 1)
-        self.assertIn("scripts/draft.py ended with status 1", got.stderr)
+        self.assertIn("scripts/outlook.py ended with status 1", got.stderr)
         self.assertIn("period", got.stdout)
         self.assertEqual(run("nowhere", "made").stderr, "design.py: nowhere: No such file or directory\n")
         got = run(paths["model"], paths["model"])
@@ -126,7 +141,7 @@ class WholeWay(unittest.TestCase):
         self.assertEqual((got.returncode, got.stderr), (0, ""), got.stdout)
         self.assertEqual(sorted(os.listdir(made)), sorted(design.MADE))
         commands = [line for line in got.stdout.splitlines() if line.startswith("$ ")]
-        for step in ("coordinates.py", "draft.py", "policy.py", "mpc lean", "states.py", "mpc loop", "exact_loop.py", "plot.py", "judge.py", "mpc explain"):
+        for step in ("outlook.py", "coordinates.py", "draft.py", "policy.py", "mpc lean", "states.py", "mpc loop", "exact_loop.py", "plot.py", "judge.py", "mpc explain"):
             self.assertTrue(any(step in command for command in commands), step)
         # each is a command that can be run by hand
         again = subprocess.run(commands[-1][2:], shell=True, capture_output=True, text=True)
@@ -139,6 +154,28 @@ class WholeWay(unittest.TestCase):
         self.assertEqual(sorted(os.listdir(by_cost)), sorted(set(design.MADE) - {"reference.csv"}))
         self.assertIn("mpc generate", got.stdout)
 
+    def test_starts_after_one_that_leaves(self):
+        # of four starts the first leaves after a turn, and the third at once; the launcher ends at each
+        folder, paths = folder_with(self, states="1\n2\n3\n4\n", loop="1 1 5 8 0\n")
+        answers = iter([(12, ["1 1 6 8 0", "1 2 6 8 0", "2 1 7 8 0"]), (0, ["1 1 8 8 0"])])
+        with unittest.mock.patch.object(design, "looped", lambda *given: next(answers)), contextlib.redirect_stdout(io.StringIO()) as said:
+            design.add_other_starts(design.Steps(folder), "d", "c", paths["states"], paths["loop"], 2)
+        with open(paths["loop"], encoding="ascii") as file:
+            self.assertEqual(file.read(), "1 1 5 8 0\n2 1 6 8 0\n2 2 6 8 0\n3 1 7 8 0\n4 1 8 8 0\n")
+        self.assertIn("the loops of starts 1, 3 leave the box", said.getvalue())
+
+    def test_an_interrupt_ends_a_search_and_keeps_its_best(self):
+        folder, paths = folder_with(self, model=MASS)
+        began = subprocess.Popen(
+            [sys.executable, os.path.join(TOP, "scripts", "staying.py"), paths["model"], os.path.join(folder, "new.toml")], stdout=subprocess.PIPE, stderr=subprocess.PIPE, text=True
+        )
+        time.sleep(4)
+        began.send_signal(signal.SIGINT)
+        _, said = began.communicate(timeout=120)
+        # it had ended already, or ends with what it has
+        self.assertIn(began.returncode, (0, 12, -2, 130), said)
+        self.assertNotIn("Traceback", said)
+
     def test_asks_to_stay(self):
         _, paths = folder_with(self, plain=MASS, stays=MASS + "stay = [0.1, 0.0]\n", bad=MASS.replace("period = 0.2", "period = -1"))
         self.assertEqual([design.asks_to_stay(paths[name]) for name in ("plain", "stays", "bad")], [False, True, False])
@@ -149,12 +186,15 @@ class WholeWay(unittest.TestCase):
         made, model = os.path.join(folder, "made"), os.path.join(EXAMPLES, "motor", "stay", "model.toml")
         got = subprocess.run([os.path.join(TOP, "mpc"), "design", model, made, "--turns", "5", "--states", "0", "--random", "0"], capture_output=True, text=True)
         self.assertEqual((got.returncode, got.stderr), (0, ""), got.stdout)
-        self.assertEqual(sorted(os.listdir(made)), sorted({*design.MADE, *design.STAYS} - {"reference.csv"}))
-        self.assertIn("mpc stay", got.stdout)
+        self.assertEqual(sorted(os.listdir(made)), sorted({*design.MADE, *design.STAYS}))
+        self.assertIn("mpc lean", got.stdout)
         self.assertIn("as it is: the faces hold", got.stdout)
-        for name in design.STAYS + ["fitted.toml"]:
-            with open(os.path.join(made, name), encoding="utf-8") as one, open(os.path.join(os.path.dirname(model), name.replace("fitted", "model")), encoding="utf-8") as other:
-                self.assertEqual(one.read(), other.read(), name)
+        beside = os.path.dirname(model)
+        for name, other in (("faces.csv", "faces.csv"), ("policy.csv", "lean.csv"), ("reference.csv", "reference.csv"), ("fitted.toml", "model.toml")):
+            self.assertEqual(read_text(os.path.join(made, name)), read_text(os.path.join(beside, other)), name)
+        # a lean controller bears what the model asks for, and less than that of `stay`
+        bears, more = (records_of(read_text(os.path.join(where, "disturbances.csv"))) for where in (made, beside))
+        self.assertTrue(all(0 < v < w for v, w in zip(bears[1], more[1])))
         both = subprocess.run([sys.executable, os.path.join(TOP, "scripts", "design.py"), model, made, "--stay", "--as-it-is"], capture_output=True, text=True)
         self.assertEqual(both.returncode, 2)
 

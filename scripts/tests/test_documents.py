@@ -14,6 +14,11 @@ def text_of(name: str) -> str:
     return (TOP / name).read_text(encoding="utf-8")
 
 
+def joined(text: str) -> str:
+    """The words with one space between two, wherever the lines end."""
+    return " ".join(text.split())
+
+
 def names_in(text: str) -> list[str]:
     return re.findall(r"`(\w+)`", text)
 
@@ -75,6 +80,15 @@ class Theorem(unittest.TestCase):
         count = sum(map(lines_in, self.promise))
         self.assertEqual(re.findall(r"They are (\d+) lines together", self.page), [str(count)])
         self.assertEqual(re.findall(r"the (\d+) lines that say what is promised", text_of("README.md")), [str(count)])
+
+    def test_clauses(self):
+        """Each clause that the page quotes stands in `run` word for word, and each that it names is one of `run`'s."""
+        contract = joined(text_of("crates/command_run/src/command.rt").split("pub fn run<", 1)[1])
+        quoted = [joined(clause) for clause in re.findall(r"^    (ensures .*(?:\n     .*)*)", self.page, re.MULTILINE)]
+        self.assertNotEqual(quoted, [])
+        for clause in [*quoted, *(f"ensures {name} {{" for name in re.findall(r"\bclause\s+`(\w+)`", self.page))]:
+            with self.subTest(clause=clause):
+                self.assertIn(clause, contract)
 
     def test_what_else_is_cited(self):
         """Each module that what is built cites is named, beside its crate."""

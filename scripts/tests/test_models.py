@@ -211,6 +211,23 @@ class Added(unittest.TestCase):
             for made, exact in ((row[3], sign * model.input_units[0] / 0.1), (row[4], 5)):
                 self.assertAlmostEqual(made / design.limit_den / exact, 1, delta=0.001)
 
+    def test_changes_have_a_unit_of_their_own(self):
+        text = 'plan = "changes"\n' + PLANT + HELD + LIMIT + CHANGE + TARGET + BOX
+        model = models.Model(text)
+        a, b = model.scaled()
+        # the last input's row is its 1 and what a change adds, where one unit for both makes it 2
+        self.assertEqual((a[-1, -1], round(b[-1, 0], 3)), (1.0, round(model.input_units[0] / model.state_units[-1], 3)))
+        self.assertTrue(0.1 < b[-1, 0] < 0.2)
+        both = models.Model(text + "[units]\ninputs = [0.5]\nchanges = [0.125]\n")
+        self.assertEqual((both.state_units[-1], both.input_units[0], both.scaled()[1][-1, 0]), (0.5, 0.125, 0.25))
+        self.assertEqual(models.Model(text + "[units]\ninputs = [0.5]\n").input_units[0], 0.5)
+        # limits and costs are of the same values in either unit
+        for units in ("inputs = [0.5]", "inputs = [0.5]\nchanges = [0.125]"):
+            made = models.Model(text + f"[units]\n{units}\n")
+            self.assertEqual((list(made.planned({"input": [1.0]}) / made.input_units), made.row({"input": [1.0]})[-1] / made.state_units[-1]), ([1.0], 1.0))
+        with self.assertRaisesRegex(Refusal, "^units.changes: no such key here, since inputs are planned"):
+            models.Model(PLANT + LIMIT + COST + BOX + "[units]\nchanges = [0.5]\n")
+
     def test_changes_that_are_planned(self):
         text = 'plan = "changes"\n' + PLANT + HELD + LIMIT + CHANGE + TARGET + BOX
         model = models.Model(text)
@@ -219,7 +236,8 @@ class Added(unittest.TestCase):
         self.assertEqual((model.names[3][0], model.planned_names[0][0]), ("last u1", "change of u1"))
         made = draft.drafted(model)
         above, _, change, _ = made.design.stage_rows
-        self.assertEqual((above[:3], above[3], change[:4]), ([0, 0, 0], above[4], [0, 0, 0, 0]))
+        self.assertEqual((above[:3], change[:4]), ([0, 0, 0], [0, 0, 0, 0]))
+        self.assertAlmostEqual(above[3] / above[4], model.state_units[3] / model.input_units[0], delta=0.01)
         self.assertAlmostEqual(above[4] / made.design.limit_den / (model.input_units[0] / 0.25), 1, delta=0.001)
         self.assertAlmostEqual(change[4] / made.design.limit_den / (model.input_units[0] / 0.1), 1, delta=0.001)
         with self.assertRaisesRegex(Refusal, "^delay: 0 is expected where changes are planned$"):

@@ -72,8 +72,16 @@ class Costs(unittest.TestCase):
         self.assertEqual(told, self.written("The first answer takes 7 minutes."))
         self.assertEqual(page.first_line(page.with_first(told, "The first answer takes 6 minutes.")), "The first answer takes 6 minutes.")
 
+    def test_pace(self):
+        """Twice the marks' time for the three crates is a pace of 2, and what is measured is told beside its mark at that pace."""
+        seconds = {name: 2 * mark for name, mark in page.PACE.items()}
+        self.assertEqual(page.pace_of(seconds), 2)
+        self.assertIn("the pace of this machine: 2.00 times the marks' time (integer_algebra 24 s of 12", page.pace_line(seconds))
+        self.assertEqual(page.beside("the gate", 18000, page.WHOLE, 2), "the gate: 300.0 processor minutes, 150.0 at the marks' speed, where 150 are the mark: kept")
+        self.assertTrue(page.beside("a look", 181, page.LOOK, 2).endswith("where 1.5 are the mark: NOT KEPT"))
+
     def test_the_page_has_the_form(self):
-        text = page.read(os.path.join(TOP, "docs", "COSTS.md"))
+        text = page.read(os.path.join(TOP, "bench", "gate", "COSTS.md"))
         self.assertTrue(text.startswith(page.HEAD) and page.first_line(text))
         self.assertGreater(len(re.findall(r"^\| `[a-z_]+` \|(?: [*0-9]* \|){4} [0-9.]+ \| [0-9]+ \|$", text, re.M)), 60)
 

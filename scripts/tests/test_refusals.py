@@ -402,7 +402,7 @@ class Launcher(unittest.TestCase):
         got = self.launched("echo there || { echo error 4 write-fault 0 >&2; exit 4; }", "demo", "7", redirected=">&-")
         self.assertEqual((got.returncode, got.stderr.split("\n")[-2]), (4, "error 4 write-fault 0"))
 
-    def built(self, toolchain, kept=(), command="solve", name="mpc_cli"):
+    def built(self, toolchain, kept=(), words=("solve", "c", "s"), name="mpc_cli"):
         """What the launcher says where no program is there: of the crates `low`, the two programs above it and `trials`, with a stand-in for the toolchain."""
         folder = self.folder("exit 0")
         os.remove(os.path.join(folder, "crates/mpc_cli/out/mpc_cli"))
@@ -413,12 +413,13 @@ class Launcher(unittest.TestCase):
                 file.write(text)
         os.chmod(os.path.join(folder, "bin", "rt"), 0o755)
         got = subprocess.run(
-            [os.path.join(folder, "mpc"), command],
+            [os.path.join(folder, "mpc"), *words],
             capture_output=True,
             text=True,
             env=os.environ | {"PATH": os.path.join(folder, "bin") + ":" + os.environ["PATH"]},
         )
         self.assertEqual((got.returncode, got.stdout), (0, "built\n"))
+        self.assertIn(f"; for a look before it is proved: ./mpc try {words[0]} ..", got.stderr.split("\n")[0])
         self.assertIn("mpc: 0 of 2 crates are proved; low\n", got.stderr)
         self.assertIn("mpc: 1 of 2 crates are proved\n", got.stderr)
         self.assertFalse(os.path.exists(os.path.join(folder, f"crates/{name}/build.log.begun")))
@@ -453,7 +454,7 @@ echo "== mpc_cli"; echo "logic=proved functions=1"; printf '#!/bin/bash\necho bu
 sleep 1; mkdir -p crates/low/out; sleep 6; echo "== low"; echo "logic=proved functions=1"; sleep 6
 mkdir -p crates/mpc_generate/out; printf '#!/bin/bash\necho built\n' >crates/mpc_generate/out/mpc_generate; chmod +x crates/mpc_generate/out/mpc_generate
 """,
-            command="generate",
+            words=("generate", "d", "p", "c", "r"),
             name="mpc_generate",
         )
         self.assertIn("mpc: building the program of generate alone", told)
@@ -520,6 +521,105 @@ mkdir -p crates/mpc_generate/out; printf '#!/bin/bash\necho built\n' >crates/mpc
         self.assertEqual(self.run_in(folder, "cat d p s").stdout, "dps")
         for words in ("generate d p c r", "generate d p /dev/null /dev/null", "solve c s > out", "loop d c s 3 | cat"):
             self.assertEqual(self.run_in(folder, "./mpc " + words + " && cat out 2>/dev/null; true").stderr, "", words)
+
+    CALLS = [
+        (words, told)
+        for words, told in (
+            ("", "A command is needed"),
+            ("frob", "`frob` is no command"),
+            ("solved c s", "`solved` is no command"),
+            ("demo", "`demo` takes 1 arguments, NUMBER, and 0 were given"),
+            ("solve c", "`solve` takes 2 arguments, CONTROLLER STATES, and 1 were given"),
+            ("generate d p c", "`generate` takes 4 arguments"),
+            ("generate d p c r f", "`generate` takes 4 arguments"),
+            ("loop d c s", "`loop` takes 4 or 5 arguments"),
+            ("loop d c s 3 w w", "`loop` takes 4 or 5 arguments"),
+            ("lean d p q c", "`lean` takes 5, 6 or 7 arguments"),
+            ("stay d p c r f w w", "`stay` takes 5 or 6 arguments"),
+        )
+    ]
+
+    def test_what_is_no_call_needs_no_build(self):
+        """A word that is no command and a wrong count of arguments are told at once, as the program tells them, and the toolchain isn't asked."""
+        folder = self.folder("")
+        os.remove(os.path.join(folder, "crates/mpc_cli/out/mpc_cli"))
+        self.run_in(folder, "mkdir bin; printf '#!/bin/bash\necho asked\nexit 1\n' > bin/rt; chmod +x bin/rt")
+        for words, told in self.CALLS:
+            got = self.run_in(folder, "PATH=$PWD/bin:$PATH ./mpc " + words)
+            self.assertEqual((got.returncode, got.stdout, got.stderr.split("\n")[0]), (2, "", "error 2 usage"), words)
+            self.assertIn(told, got.stderr.split("\n")[1])
+            self.assertFalse(os.path.exists(os.path.join(folder, "crates/mpc_cli/build.log")), words)
+        for words in ("demo 7", "solve c s", "loop d c s 3 w", "lean d p q c r f w", "stay d p c r f", "serve c s"):
+            self.assertEqual(self.run_in(folder, "PATH=$PWD/bin:$PATH ./mpc " + words).returncode, 98, words)
+
+    @unittest.skipUnless(os.path.exists(os.path.join(TOP, "crates/mpc_cli/out/mpc_cli")), "missing: the program, which ./mpc builds")
+    def test_what_is_no_call_is_told_as_the_program_tells_it(self):
+        """The built program ends with the same line and status."""
+        for words, _ in self.CALLS:
+            got = subprocess.run([os.path.join(TOP, "crates/mpc_cli/out/mpc_cli"), *words.split()], capture_output=True, text=True)
+            self.assertEqual((got.returncode, got.stdout, got.stderr), (2, "", "error 2 usage\n"), words)
+
+    def looked(self, toolchain, words):
+        """What a look says, with a stand-in for the toolchain, in a folder with a program that says what is proved; and the folder."""
+        folder = self.folder("echo proved")
+        os.makedirs(os.path.join(folder, "bin"))
+        os.makedirs(os.path.join(folder, "crates/mpc_generate"))
+        with open(os.path.join(folder, "bin", "rt"), "w") as file:
+            file.write("#!/bin/bash\n" + toolchain)
+        os.chmod(os.path.join(folder, "bin", "rt"), 0o755)
+        return self.run_in(folder, "PATH=$PWD/bin:$PATH ./mpc try " + words), folder
+
+    NOTE = "mpc: a look before it is proved: nothing is proved of this run, and what it prints and writes is not certified"
+
+    def test_look_names_whole_paths(self):
+        """The kit runs the command in a folder of its own, so each file is named by its whole path, and a number stays."""
+        told = 'echo "$(basename "$PWD") $*"; echo "run=ended status=0 runners=1 proved=no" >&2'
+        for words, crate, wanted in (
+            ("demo 7", "mpc_cli", "demo 7"),
+            ("loop d /c s 3 w", "mpc_cli", "loop {0}/d /c {0}/s 3 {0}/w"),
+            ("generate d 'p q' c r.json", "mpc_generate", "generate {0}/d {0}/p q {0}/c {0}/r.json"),
+        ):
+            got, folder = self.looked(told, words)
+            self.assertEqual((got.returncode, got.stdout), (0, f"{crate} try --seconds 600 -- {wanted.format(os.path.realpath(folder))}\n"))
+            self.assertEqual(got.stderr, self.NOTE + "\n")
+
+    def test_look_ends_as_the_command(self):
+        got, _ = self.looked("echo 1 2; printf 'checked: ended status=13\nerror 13 long 1\nrun=ended status=13 runners=1 proved=no\n' >&2; exit 13", "solve c s")
+        self.assertEqual((got.returncode, got.stdout), (13, "1 2\n"))
+        self.assertEqual(got.stderr.split("\n")[:2], [self.NOTE, "error 13 long 1"])
+        self.assertIn("longer than 4194304 bytes", got.stderr.split("\n")[2])
+        # (the kit ends with numbers that the command has other meanings for)
+        got, _ = self.looked("printf 'checked: no-answer\nrun=no-answer proved=no\n' >&2; exit 6", "solve c s")
+        self.assertEqual((got.returncode, got.stdout), (98, ""))
+        self.assertEqual(got.stderr.split("\n")[-2], "mpc: the look came to no end")
+
+    def test_look_refuses_at_once(self):
+        for words, told in [*self.CALLS, ("explain r", "`explain` is no command"), ("generate d p c ./c", "The report file ./c is the controller file c")]:
+            got, _ = self.looked("echo asked", words)
+            self.assertEqual((got.returncode, got.stdout, got.stderr.split("\n")[0]), (2, "", "error 2 usage"), words)
+            self.assertIn(told, got.stderr)
+
+    def test_nothing_rests_on_a_look(self):
+        """No script, check or page calls it, so what they tell comes from the proved program; only bench/gate measures what it takes."""
+        asks = self.run_in(TOP, r"grep -rlE '(mpc|\./mpc) try|\"try\"' --include='*.py' --include=run --include=test --include='README.md' scripts checks bench examples .ci test | sort")
+        self.assertEqual([file for file in asks.stdout.split() if not file.startswith("bench/gate/")], ["scripts/tests/test_refusals.py"])
+
+    @unittest.skipIf(shutil.which("rt") is None, "missing: rt")
+    def test_look_is_of_the_sources_and_leaves_no_program(self):
+        """A real look, at the crates alone: it writes the controller and the report that are kept beside the first design, and the next call has a program to build."""
+        folder, _ = folder_with(self)
+        for part in ("crates", "docs", "scripts", "examples/first"):
+            shutil.copytree(os.path.join(TOP, part), os.path.join(folder, part), ignore=shutil.ignore_patterns("out", "must-fail", "proofs", "tests", "__pycache__"))
+        for name in ("mpc", "crates.txt", "HANDLES", "CHANGELOG.md"):
+            shutil.copy(os.path.join(TOP, name), folder)
+        os.mkdir(os.path.join(folder, ".git"))
+        got = self.run_in(folder, "./mpc try generate examples/first/design.toml examples/first/policy.csv made report")
+        self.assertEqual((got.returncode, got.stdout, got.stderr), (0, "", self.NOTE + "\n"))
+        with open(os.path.join(folder, "made"), encoding="utf-8") as made, open(os.path.join(TOP, "examples/first/controller.txt"), encoding="utf-8") as kept:
+            self.assertEqual(made.read(), kept.read())
+        self.assertEqual(sorted(os.listdir(folder)), sorted([".git", "CHANGELOG.md", "HANDLES", "crates", "crates.txt", "docs", "examples", "made", "mpc", "report", "scripts"]))
+        self.assertEqual(self.run_in(folder, "find crates -newer report").stdout, "")
+        self.assertEqual(self.run_in(folder, "find crates -name 'mpc_*' -type f").stdout, "")
 
     def test_answers_of_the_launcher(self):
         """Without a program there is help and a version, and both fail where they can't be written."""
