@@ -9,13 +9,13 @@ cp -r "$top/crates" "$top/crates.txt" "$top/HANDLES" "$copy/"
 cd "$copy"
 rt new crates/condense_speed start_io > /dev/null
 rm -f crates/condense_speed/src/clock.rt crates/condense_speed/stdin crates/condense_speed/stdout
-echo "condense_speed: anyhow mat_int exact_condense qp_model" >> crates.txt
+echo "condense_speed: anyhow mat_int qp_model scaled_condense" >> crates.txt
 cat > crates/condense_speed/src/main.rt <<'MAIN'
 #![tactic(auto)]
 
 use anyhow::Error;
 use mat_int::Mat;
-use exact_condense::condense_exact;
+use scaled_condense::condense_exact;
 use qp_model::{Design, DesignParts};
 use std::alloc::{AllocError, Global};
 use std::time::Instant;

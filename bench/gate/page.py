@@ -1,14 +1,21 @@
-"""docs/COSTS.md, as bench/gate/run.py writes it of what it measured."""
+"""bench/gate/COSTS.md, as bench/gate/run.py writes it of what it measured."""
 import os
 import re
 from dataclasses import dataclass
 
-# the marks, in seconds of processor time; on a machine that takes more time they are as much longer (`pace`)
-PROOF, TESTS, WHOLE = 120, 180, 220 * 60
+# the marks, in seconds of processor time; on a machine that takes more time they are as much longer (`pace`): of a crate's proof and its tests,
+PROOF, TESTS = 120, 180
+# of the gate's proofs, tests and edits and of the whole,
+PARTS = {"proofs": 45 * 60, "tests": 25 * 60, "edits": 80 * 60}
+WHOLE = sum(PARTS.values())
+# of a look, of the first answer by `generate`, and of that by another command with all that the first one proved
+LOOK, FIRST, BOTH = 90, 20 * 60, 38 * 60
+# the crates that seldom change, with the seconds that their proofs take at the marks' speed: what they take on a machine tells its pace
+PACE = {"integer_algebra": 12, "word_region": 15, "frac_scaled": 19}
 FIRST_ANSWER = "The first answer"
 HEAD = """# What proofs cost
 
-Written by `bench/gate/run.py --anew --page docs/COSTS.md`. [CONTRIBUTING.md](../CONTRIBUTING.md#what-keeps-a-proof-short) says what keeps a proof short, and what a change costs.
+Written by `bench/gate/run.py --page`. [CONTRIBUTING.md](../../CONTRIBUTING.md#what-keeps-a-proof-short) says what keeps a proof short, and what a change costs.
 """
 
 
@@ -41,6 +48,21 @@ def minutes(seconds: float) -> str:
     return f"{seconds / 60:.0f}"
 
 
+def pace_of(seconds: dict[str, float]) -> float:
+    """How many times the marks' time a machine takes, by the proofs of the crates that seldom change."""
+    return sum(seconds[name] for name in PACE) / sum(PACE.values())
+
+
+def pace_line(seconds: dict[str, float]) -> str:
+    each = ", ".join(f"{name} {seconds[name]:.0f} s of {mark}" for name, mark in PACE.items())
+    return f"the pace of this machine: {pace_of(seconds):.2f} times the marks' time ({each})"
+
+
+def beside(what: str, seconds: float, mark: float, pace: float) -> str:
+    """What was measured beside its mark, both in processor minutes, at the pace of the machine."""
+    return f"{what}: {seconds / 60:.1f} processor minutes, {seconds / pace / 60:.1f} at the marks' speed, where {mark / 60:.4g} are the mark: {'kept' if seconds <= mark * pace else 'NOT KEPT'}"
+
+
 def cell(seconds: float, mark: float) -> str:
     """Seconds, bold beyond their mark; empty where there are none."""
     return "" if not seconds else f"**{seconds:.0f}**" if seconds > mark else f"{seconds:.0f}"
@@ -59,8 +81,8 @@ def text(kit: str, processors: int, wall: float, costs: dict[str, Cost], chain: 
     lines = [
         f"Processor seconds from nothing, and the most memory of one check in GB, of one run with `{kit}` on a machine with {processors} processors, which ended after {minutes(wall)} minutes."
         + (f" {note}" if note else ""),
-        f"The proofs take {minutes(proof)} processor minutes, the tests {minutes(tests)} and the {sum(cost.edits for cost in costs.values())} edits {minutes(edits)}, in which each crate's proof "
-        f"is made once more to begin with: {minutes(proof + tests + edits)} in all, where {minutes(WHOLE)} are the mark{slower}.",
+        f"The proofs take {minutes(proof)} processor minutes (mark {minutes(PARTS['proofs'])}), the tests {minutes(tests)} ({minutes(PARTS['tests'])}) and the {sum(cost.edits for cost in costs.values())} edits "
+        f"{minutes(edits)} ({minutes(PARTS['edits'])}), in which each crate's proof is made once more to begin with: {minutes(proof + tests + edits)} in all, where {minutes(WHOLE)} are the mark{slower}.",
         f"The longest chain of proofs is {chain[0] / 60:.1f} minutes: {', '.join(f'`{name}`' for name in chain[1])}.",
         *([first] if first else []),
         f"Beyond the mark of {minutes(PROOF)} minutes for a proof or {minutes(TESTS)} for tests{slower}, where the number is bold: {', '.join(beyond) or 'none'}. An empty field has no tests or no edits.",
@@ -70,13 +92,14 @@ def text(kit: str, processors: int, wall: float, costs: dict[str, Cost], chain: 
     return HEAD + "\n" + "\n".join(lines) + "\n\n" + "\n".join(table) + "\n"
 
 
-def first_answer(first: tuple[float, float], others: tuple[float, float], processors: int, marks: tuple[float, float], pace: float = 1) -> str:
-    """The line of the first answer, in seconds of the processor and by the clock, and of what the first answer of another command takes after it."""
+def first_answer(look: float, first: tuple[float, float], others: tuple[float, float], processors: int, pace: float = 1) -> str:
+    """The line of the look and of the first answer, in seconds of the processor and by the clock, and of what the first answer of another command takes after it."""
     slower = f", {pace:g} times on this machine" if pace != 1 else ""
     return (
-        f"{FIRST_ANSWER} (`./mpc generate` in a fresh clone, with nothing kept on the machine, which proves that command's program) takes {first[0] / 60:.1f} processor minutes and "
-        f"{first[1] / 60:.1f} minutes on {processors} processors, where {minutes(marks[0])} and {minutes(marks[1])} are the marks{slower}; the first of another command, which proves the rest, takes "
-        f"{others[0] / 60:.1f} processor minutes and {others[1] / 60:.1f} minutes more (`bench/gate/run.py --first`)."
+        f"{FIRST_ANSWER} (`./mpc generate` in a fresh clone, with nothing kept, which proves that command's program) takes {first[0] / 60:.1f} processor minutes and "
+        f"{first[1] / 60:.1f} minutes on {processors} processors; the first of another command, which proves the rest, takes {others[0] / 60:.1f} processor minutes and {others[1] / 60:.1f} minutes more: "
+        f"{(first[0] + others[0]) / 60:.1f} in all, where {minutes(FIRST)} are the mark for `generate` and {minutes(BOTH)} for all{slower}. A look before any proof, `./mpc try demo 7`, takes {look:.0f} processor "
+        f"seconds, where {LOOK} are the mark{slower} (`bench/gate/run.py --first`)."
     )
 
 

@@ -1,21 +1,22 @@
 #!/usr/bin/env python3
-"""Proves everything from nothing in a fresh clone, and prints what it took, crate by crate.
+"""Measures in a fresh clone, with nothing kept, what the first answers and the gate take, each beside its mark at the pace of this machine.
 
-    bench/gate/run.py --anew [--lanes N] [--log FILE] [--page FILE [--note TEXT] [--pace X]] [NAME ..]    the gate, `rt ci --anew`: every proof, every test, every must-fail edit
-    bench/gate/run.py --first [--page FILE] [--pace X]                                         the first answer: ./mpc generate, which proves and builds that command's program; and then
-                                                                                               that of ./mpc demo 7, which proves and builds the rest
+    bench/gate/run.py [--processors N] [--page [FILE] [--note TEXT]]       one run of all: the pace, a look, the first answers, the gate
+    bench/gate/run.py --pace                                               the pace alone, by the proofs of three crates that seldom change
+    bench/gate/run.py --first [--page [FILE]]                              the pace; a look, ./mpc try demo 7; the first answer, ./mpc generate, which proves and builds that command's
+                                                                           program; and then that of ./mpc demo 7, which proves and builds the rest
+    bench/gate/run.py --gate [--kept] [--lanes N] [--log FILE] [NAME ..]   the pace; the gate, `rt ci --anew`: every proof, every test, every must-fail edit
 
-What is measured is what is committed. The clone has no kept work, and with --anew the gate reads none. Without it the gate of a kit that keeps what passed takes what an earlier
-run on this machine passed of the same files, as it does in a checkout, and the table has what is left; the gate of a kit without that flag always begins from nothing. With names, these crates and those below them are proved, and the others are taken out of the
-clone. --lanes N proves N crates side by side with one process each, whatever memory there is;
-without it the gate chooses by processors and memory, and a proof may share several processors, which costs some more processor time. Stopped by Ctrl-C or a
-SIGTERM, it tells what it has measured. Below the table stand the dearest must-fail edits, each with its seconds.
+What is measured is what is committed. The clone has no kept work, the first answers are those of a kit that has kept nothing, and the gate reads nothing that was kept but with --kept, as it does in a
+checkout: then the table has what is left. With names, these crates and those below them are proved, and the others are taken out of the clone. With --processors N all runs on N of the processors alone,
+so the minutes by the clock are what N would take. --lanes N proves N crates side by side with one process each, whatever memory there is; without it the gate chooses by processors and memory, and a
+proof may share several processors, which costs some more processor time. Stopped by Ctrl-C or a SIGTERM, it tells what it has measured. Below the table stand the dearest must-fail edits, each with
+its seconds. With --page the page of costs, bench/gate/COSTS.md or FILE, is written of what was measured, with the words of --note, or with --first its line of the first answer. --pace-is X takes X for
+the pace in place of measuring it.
 
-With --page docs/COSTS.md that page is written of what was measured, with the words of --note, or with --first its line of the first answer. A machine that takes X times
-the time of the one that the marks are for says so by --pace X, and the page takes the marks X times.
-
-Processor time is that of the prover's processes, as the system counts it, and memory the most that one process held. The longest chain is that of the proofs'
-times, each crate after those that it stands on: no number of processors gives the first answer sooner.
+Processor time is that of the prover's processes, as the system counts it, and memory the most that one process held. The marks are for a machine on which the three crates take their marks' seconds, and
+one that is slower, or that other work shares, is allowed as many times more. The longest chain is that of the proofs' times, each crate after those that it stands on: no number of processors gives the
+first answer sooner.
 """
 import argparse
 import collections
@@ -34,11 +35,9 @@ import time
 
 sys.path.insert(0, os.path.dirname(os.path.abspath(__file__)))
 import page
-from page import PROOF, TESTS, WHOLE
+from page import BOTH, FIRST, LOOK, PACE, PROOF, TESTS, WHOLE
 
-# the marks of the first answer, in seconds: of processor time, and by the clock on four processors
-FIRST = 27 * 60
-FIRST_WALL = 9 * 60
+HERE = os.path.dirname(os.path.abspath(__file__))
 PARTS = ("proof", "tests", "edits")
 # how many edits are told by name
 DEAREST = 20
@@ -175,7 +174,7 @@ def longest_chain(crates, seconds):
     return max(map(chain, crates), key=lambda it: it[0])
 
 
-def table(crates, said, wall, total, pace):
+def table(crates, said, wall, total, pace, is_whole):
     spent, memory, others, lost = collections.Counter(), collections.Counter(), collections.Counter(), 0
     for it in RUNS:
         if it.seconds is None:
@@ -209,8 +208,12 @@ def table(crates, said, wall, total, pace):
     steps = [f"{it} {spent[it, 'proof']:.0f}" for it in chain]
     print(f"longest chain of proofs: {length:.0f} s: {', '.join(steps)}")
     beyond = [f"the proof of {crate}" for crate in order if spent[crate, "proof"] > PROOF * pace] + [f"the tests of {crate}" for crate in order if spent[crate, "tests"] > TESTS * pace]
-    beyond += ["the whole"] * (total > WHOLE * pace)
     print("beyond its mark: " + (", ".join(beyond) or "nothing"))
+    if is_whole:
+        for part, (name, mark) in zip(PARTS, page.PARTS.items()):
+            print(page.beside(f"the gate's {name}", sums[part], mark, pace))
+        print(page.beside("the gate", total, WHOLE, pace))
+    print(f"by the clock on {len(os.sched_getaffinity(0))} processors: {wall / 60:.1f} minutes, {wall / pace / 60:.1f} at the marks' speed")
     costs = {
         crate: page.Cost(*(spent[crate, part] for part in PARTS[:2]), named[crate], spent[crate, "edits"], max(memory[crate, part] for part in PARTS) / 2**30) for crate in order
     }
@@ -219,9 +222,9 @@ def table(crates, said, wall, total, pace):
 
 
 def write_page(options, wall, measured):
-    """docs/COSTS.md, of a whole run."""
+    """bench/gate/COSTS.md, of a whole run."""
     kit = subprocess.run([tool_path(), "version"], capture_output=True, text=True).stdout.split(" ")[0]
-    page.write(options.page, page.text(kit, os.cpu_count(), wall, *measured, page.first_line(page.read(options.page)), options.note, options.pace))
+    page.write(options.page, page.text(kit, len(os.sched_getaffinity(0)), wall, *measured, page.first_line(page.read(options.page)), options.note, options.pace_is))
 
 
 def gate(options):
@@ -231,7 +234,7 @@ def gate(options):
         if options.names:
             keep_only(root, options.names)
         crates = crates_in(root)
-        print(f"{commit}\n{len(crates)} crates, {os.cpu_count()} processors", flush=True)
+        print(f"{commit}\n{len(crates)} crates, {len(os.sched_getaffinity(0))} processors", flush=True)
         if options.lanes:
             os.environ["RT_JOBS"] = str(options.lanes)
         log, sent = options.log or f"{room}/log", os.dup(1)
@@ -245,8 +248,8 @@ def gate(options):
             with open(log) as file:
                 said = file.read()
             print("\n".join(said.rstrip("\n").split("\n")[-40 if status else -1 :]))
-            measured = table(crates, said, wall, after.ru_utime + after.ru_stime - before.ru_utime - before.ru_stime, options.pace)
-            if options.page and not status:
+            measured = table(crates, said, wall, after.ru_utime + after.ru_stime - before.ru_utime - before.ru_stime, options.pace_is, not options.names and not status)
+            if options.page and not status and not options.names and not options.kept:
                 write_page(options, wall, measured)
             sys.stdout.flush()
 
@@ -268,7 +271,7 @@ def gate(options):
         try:
             made = tool()
             time_edits(made)
-            status = made.main(gate_words(options.anew))
+            status = made.main(gate_words(not options.kept))
         except SystemExit as ended:
             status = ended.code
         os.chdir("/")
@@ -276,54 +279,105 @@ def gate(options):
         return status
 
 
-def tell_what_is_kept():
-    """Says where the gate that ./mpc calls will not begin from nothing."""
-    store = getattr(tool(), "STORE", None)
-    if store and os.path.isdir(store) and any(it.startswith("proof-") for it in os.listdir(store)):
-        print(f"note: what earlier runs on this machine passed is taken over; with {store} moved aside the time is that of a new machine", file=sys.stderr)
+def kit_without_kept(room):
+    """A kit that has kept nothing, and the environment with it: rt keeps what passed beside the kit that it stands in."""
+    kit, made = os.path.dirname(os.path.dirname(tool_path())), f"{room}/kit/rattle"
+    os.makedirs(f"{made}/bin")
+    for name in os.listdir(kit):
+        if name != "bin":
+            os.symlink(f"{kit}/{name}", f"{made}/{name}")
+    for name in os.listdir(f"{kit}/bin"):
+        # (a script finds its kit by where it stands itself)
+        (shutil.copy2 if name in ("rt", "rtlib.py") else os.symlink)(f"{kit}/bin/{name}", f"{made}/bin/{name}")
+    return os.environ | {"PATH": f"{made}/bin:{os.environ['PATH']}"}
 
 
-def launched(root, words):
+def launched(root, words, env):
     """A call of the launcher in a clone: whether it ended well, and its processor and clock seconds."""
     began = time.monotonic()
-    started = subprocess.Popen(["./mpc", *words], cwd=root, stdout=subprocess.DEVNULL)
+    started = subprocess.Popen(["./mpc", *words], cwd=root, env=env, stdout=subprocess.DEVNULL)
     _, status, usage = os.wait4(started.pid, 0)
     return os.waitstatus_to_exitcode(status) == 0, usage.ru_utime + usage.ru_stime, time.monotonic() - began
 
 
+def pace():
+    """Proves the crates that seldom change from nothing, and tells what each took."""
+    with tempfile.TemporaryDirectory(prefix="gate-") as room:
+        root, sent = f"{room}/clone", os.dup(1)
+        clone(root)
+        keep_only(root, PACE)
+        for crate in PACE:
+            shutil.rmtree(f"{root}/crates/{crate}/must-fail", ignore_errors=True)
+        with open(f"{room}/log", "w") as file:
+            os.dup2(file.fileno(), 1)
+        os.chdir(root)
+        watch()
+        try:
+            status = tool().main(gate_words(True))
+        except SystemExit as ended:
+            status = ended.code
+        sys.stdout.flush()
+        os.dup2(sent, 1)
+        os.chdir("/")
+        if status:
+            with open(f"{room}/log") as file:
+                sys.exit(file.read()[-2000:])
+    spent = collections.Counter()
+    for it in RUNS:
+        if it.seconds is not None and it.work()[1] == "proof":
+            spent[it.work()[0]] += it.seconds
+    print(page.pace_line(spent))
+    return 0
+
+
+def measured_pace():
+    """The pace, measured in a process of its own, since what watches the commands stays."""
+    said = subprocess.run([sys.executable, os.path.abspath(__file__), "--pace"], stdout=subprocess.PIPE, text=True, check=True).stdout
+    print(said, end="", flush=True)
+    return float(re.search(r": ([0-9.]+) times the marks' time", said)[1])
+
+
 def first(options):
-    tell_what_is_kept()
     with tempfile.TemporaryDirectory(prefix="gate-") as room:
         root = f"{room}/clone"
         print(clone(root), flush=True)
-        well, spent, wall = launched(root, ["generate", "examples/first/design.toml", "examples/first/policy.csv", f"{room}/controller", f"{room}/report"])
-        print(
-            f"the first answer: {'given' if well else 'none'}, {spent / 60:.1f} processor minutes (mark {FIRST * options.pace / 60:.4g}), "
-            f"{wall / 60:.1f} minutes (mark {FIRST_WALL * options.pace / 60:.4g})",
-            flush=True,
-        )
+        env = kit_without_kept(room)
+        looked, look, look_wall = launched(root, ["try", "demo", "7"], env)
+        print(f"{page.beside('a look', look, LOOK, options.pace_is) if looked else 'a look: none'}; {look_wall:.0f} s by the clock", flush=True)
+        well, spent, wall = launched(root, ["generate", "examples/first/design.toml", "examples/first/policy.csv", f"{room}/controller", f"{room}/report"], env)
+        print(f"{page.beside('the first answer', spent, FIRST, options.pace_is) if well else 'the first answer: none'}; {wall / 60:.1f} minutes by the clock", flush=True)
         # what `generate` has proved is kept, so this is what the whole program takes besides
-        others_well, others, others_wall = launched(root, ["demo", "7"]) if well else (False, 0, 0)
-    print(f"the first answer of another command after it: {'given' if others_well else 'none'}, {others / 60:.1f} processor minutes more, {others_wall / 60:.1f} minutes")
+        others_well, others, others_wall = launched(root, ["demo", "7"], env) if well else (False, 0, 0)
+    both = page.beside("the first answer of another command with it", spent + others, BOTH, options.pace_is)
+    print(f"{both if others_well else 'the first answer of another command: none'}; {others_wall / 60:.1f} minutes more by the clock", flush=True)
     if others_well and options.page:
-        line = page.first_answer((spent, wall), (others, others_wall), os.cpu_count(), (FIRST, FIRST_WALL), options.pace)
+        line = page.first_answer(look, (spent, wall), (others, others_wall), len(os.sched_getaffinity(0)), options.pace_is)
         page.write(options.page, page.with_first(page.read(options.page), line))
-    return 0 if others_well else 1
+    return 0 if looked and others_well else 1
 
 
 def main():
     parser = argparse.ArgumentParser(description=__doc__, formatter_class=argparse.RawDescriptionHelpFormatter)
     parser.add_argument("names", nargs="*", metavar="NAME")
-    parser.add_argument("--anew", action="store_true")
+    for flag in ("--pace", "--first", "--gate", "--kept"):
+        parser.add_argument(flag, action="store_true")
+    parser.add_argument("--processors", type=int)
     parser.add_argument("--lanes", type=int)
     parser.add_argument("--log")
-    parser.add_argument("--first", action="store_true")
-    parser.add_argument("--page")
+    parser.add_argument("--page", nargs="?", const=f"{HERE}/COSTS.md")
     parser.add_argument("--note", default="")
-    parser.add_argument("--pace", type=float, default=1)
+    parser.add_argument("--pace-is", type=float)
     options = parser.parse_args()
+    if options.names and not options.gate:
+        parser.error("names of crates go with --gate")
+    if options.processors:
+        os.sched_setaffinity(0, sorted(os.sched_getaffinity(0))[: options.processors])
+    if options.pace:
+        sys.exit(pace())
     options.log, options.page = options.log and os.path.abspath(options.log), options.page and os.path.abspath(options.page)
-    sys.exit(first(options) if options.first else gate(options))
+    options.pace_is = options.pace_is or measured_pace()
+    status = first(options) if options.first or not options.gate else 0
+    sys.exit(gate(options) or status if options.gate or not options.first else status)
 
 
 main()

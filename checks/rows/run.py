@@ -1,20 +1,22 @@
 #!/usr/bin/env python3
 """Runs worked examples whose answers were computed by hand, as commands over files, and compares the status, both outputs and every file.
 
-    checks/rows/run.py PROGRAM [--valgrind] [--only COMMAND]
+    checks/rows/run.py PROGRAM [--valgrind] [--only COMMAND] [--limits]
 
 With --only these are the rows of one command alone, as for a program that has no other: a row whose words are of another is asked, too, and must be refused as no
 command's. With --valgrind each runs under valgrind's memory checker, which must have nothing to report: no invalid read or write, no branch on what was never written, no
-block that is lost. The rows of fine designs, whose exact numbers pass 2^126, of fine corners, of other faces than the worked ones and of the examples' listings have the
-numbers of the model in ../fuzz.
+block that is lost. With --limits also those at the limits, which the gate leaves out. The rows of fine designs, whose exact numbers pass 2^126, of fine corners, of other faces than the worked ones and of
+the examples' listings have the numbers of the model in ../fuzz.
 """
 import contextlib
+import itertools
 import os
 import subprocess
 import sys
 import tempfile
 
 import lean_rows
+import limit_rows
 import listing_rows
 import split_rows
 import stay_rows
@@ -23,6 +25,7 @@ from worked_texts import AXIS, AXIS_POLICY, CONTROLLER, DESIGN, JSON, LISTING, P
 
 PROGRAM = os.path.abspath(sys.argv[1])
 VALGRIND = "--valgrind" in sys.argv[2:]
+AT_LIMITS = "--limits" in sys.argv[2:]
 ONLY = sys.argv[sys.argv.index("--only") + 1] if "--only" in sys.argv[2:-1] else None
 # where the words name the files that a command writes
 OUTPUTS = {"generate": (3, 4), "lean": (4, 5), "stay": (3, 4), "list": (2,), "split": (4, 5)}
@@ -346,8 +349,9 @@ def wrong(words, files, status, out, line, whole, lines, output=None):
 
 def main():
     failed = count = 0
-    own = [(name, row, None) for name, row in [*rows(), *fine_rows(), *corner_rows(), *version_rows(), *second_rows(), *lean_rows.rows(), *stay_rows.rows(), *listing_rows.rows(), *split_rows.rows()]]
-    for name, row, output in [*own, *full_rows(), *split_rows.full_rows()]:
+    own = itertools.chain(rows(), fine_rows(), corner_rows(), version_rows(), second_rows(), lean_rows.rows(), stay_rows.rows(), listing_rows.rows(), split_rows.rows(),
+                          limit_rows.rows() if AT_LIMITS else ())
+    for name, row, output in itertools.chain(((name, row, None) for name, row in own), full_rows(), split_rows.full_rows()):
         words, files = row[0], row[1]
         if ONLY and words[:1] != [ONLY]:
             # (another command's words, which this program hasn't)
