@@ -5,11 +5,11 @@ use Rattle.std.proofs.lemmas.Bool.{cases_Bool, cases_lt, or_parts, or_cases, con
 use Rattle.integer_algebra.specs.Sums.{at}
 use Rattle.qp_model.specs.machine.Controller.{Numbers}
 use Rattle.qp_model.specs.machine.Machine.{IsInside, IsAdmissible}
-use Rattle.c_program.specs.Syntax.{Program}
+use Rattle.c_program.specs.Syntax.{CProgram}
 use Rattle.c_program.specs.Meaning.{is_outside, first_from, first_outside, outcome_at}
 use Rattle.c_program.specs.Meaning.Outcome.{Refused}
 use Rattle.c_program.specs.Of.{program_of}
-use Rattle.c_program.specs.Laws.{IsFirstOutside}
+use Rattle.c_program.specs.Laws.{IsCoordinateRefused}
 
 not_lt : (x y : ℤ) → int_lt x y ≡ false → y ≤ℤ x
 not_lt x y h = grind (arith, ints)
@@ -77,12 +77,12 @@ none_outside c xi long grid = elim (searched c xi long) [
     last zero one = absurd (omega (arith, one.low))
     last (suc i) one = one.outside i (omega arith) (grid.each i (omega (arith, one.high)))
 
-pub first_told : (c : Numbers) (xi : List ℤ) → length c.low ≡ c.states → length xi ≡ c.states → ¬ IsAdmissible c xi → IsFirstOutside c xi (first_outside (program_of c) xi)
+pub first_told : (c : Numbers) (xi : List ℤ) → length c.low ≡ c.states → length xi ≡ c.states → ¬ IsAdmissible c xi → IsCoordinateRefused c xi (first_outside (program_of c) xi)
 first_told c xi long size outside = elim (searched c xi long) [
   | inl all ↦ absurd (outside (record { long = size; each = all.inside }))
   | inr one ↦ record { low = one.low; high = one.high; outside = one.outside; before = one.before }
 ]
 
-pub refused_at : (p : Program) (xi : List ℤ) (k : ℕ) → 1 ≤ k → outcome_at p xi k ≡ Refused k
+pub refused_at : (p : CProgram) (xi : List ℤ) (k : ℕ) → 1 ≤ k → outcome_at p xi k ≡ Refused k
 refused_at p xi zero l = absurd (omega (arith, l))
 refused_at p xi (suc k) l = refl

@@ -24,9 +24,9 @@ use Rattle.overflow_check.proofs.Runs.{after_sums_le, after_sums_length, after_s
 use Rattle.c_program.specs.Syntax.{variable}
 use Rattle.c_program.specs.Syntax.Family.{Sum, Output}
 use Rattle.c_program.specs.Syntax.Expression.{Value}
-use Rattle.c_program.specs.Meaning.{Environment, held, value, IsDefined, all_done, begun, after_repetitions, outcome_at, first_outside, handed, averages_of, AreAveraged}
+use Rattle.c_program.specs.Meaning.{Environment, held, value, IsDefined, all_done, begun, after_rounds, outcome_at, first_outside, handed, averages_of, AreAveraged}
 use Rattle.c_program.specs.Meaning.Outcome.{Solved}
-use Rattle.c_program.specs.Of.{entry_top, before_of, body_of, shifted_average, divided_average, average_expression, program_of}
+use Rattle.c_program.specs.Of.{entry_top, before_of, repetition_body, shifted_average, divided_average, average_expression, program_of}
 use Rattle.c_program.specs.Laws.{first_inputs, Solves, ProgramLaw}
 use Rattle.c_program.proofs.Runs.{Runs, repeats}
 use Rattle.c_program.proofs.Terms.{Makes, makes_same, makes_value}
@@ -100,17 +100,17 @@ starts c xi e b =
     })
 
 steps : (c : Numbers) (xi : List ℤ) (k : ℕ) (e : Environment) → IsController c → c.width ≤ 64 → IsAdmissible c xi → k < c.steps → Holds c (loaded c xi) (after c (loaded c xi) k) e →
-    Runs (kinds c) e (body_of c) (Holds c (loaded c xi) (after c (loaded c xi) (suc k)))
+    Runs (kinds c) e (repetition_body c) (Holds c (loaded c xi) (after c (loaded c xi) (suc k)))
 steps c xi k e sound narrow grid l h =
     let same : after c (loaded c xi) (suc k) ≡ step_of c (loaded c xi) (after c (loaded c xi) k) = rw add-one at (after_suc c (loaded c xi) k) in
-    subst (λ (made : Iterate). Runs (kinds c) e (body_of c) (Holds c (loaded c xi) made)) (sym same)
+    subst (λ (made : Iterate). Runs (kinds c) e (repetition_body c) (Holds c (loaded c xi) made)) (sym same)
     (body_runs c (loaded c xi) (after c (loaded c xi) k) e (step_ready c xi k sound narrow grid l) h)
 
 holds_after : (c : Numbers) (xi : List ℤ) → IsController c → c.width ≤ 64 → IsAdmissible c xi → (k : ℕ) → k ≤ c.steps →
-    Holds c (loaded c xi) (after c (loaded c xi) k) (after_repetitions (program_of c) xi k)
+    Holds c (loaded c xi) (after c (loaded c xi) k) (after_rounds (program_of c) xi k)
 holds_after c xi sound narrow grid k l =
     let first = before_runs c xi (ready c xi sound narrow grid) in
-    repeats (kinds c) (body_of c) (λ k. Holds c (loaded c xi) (after c (loaded c xi) k)) c.steps (all_done (begun xi) (before_of c)) (starts c xi _ first.ends)
+    repeats (kinds c) (repetition_body c) (λ k. Holds c (loaded c xi) (after c (loaded c xi) k)) c.steps (all_done (begun xi) (before_of c)) (starts c xi _ first.ends)
     (λ k t m h. steps c xi k t sound narrow grid m h) k (omega (arith, l))
 
 -- ---- what is put out
@@ -176,7 +176,7 @@ averages_are c xi sound narrow grid =
 
 solves : (c : Numbers) (xi : List ℤ) → IsController c → c.width ≤ 64 → IsAdmissible c xi → Solves c xi
 solves c xi sound narrow grid =
-    let e = after_repetitions (program_of c) xi c.steps in
+    let e = after_rounds (program_of c) xi c.steps in
     record {
       state = state_fits c xi sound grid;
       run = record {

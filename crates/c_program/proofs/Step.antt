@@ -21,7 +21,7 @@ use Rattle.c_program.specs.Syntax.Family.{EntryBase, RowBase, Multiplier, Differ
 use Rattle.c_program.specs.Syntax.Expression.{Constant, Value, Minus}
 use Rattle.c_program.specs.Syntax.Statement.{Declare, Assign, AtLeastZero, AtMost}
 use Rattle.c_program.specs.Meaning.{Environment, held, with_value, value, done}
-use Rattle.c_program.specs.Of.{entry_top, multiplier_top, partner, is_first, plus_plan, moved_expression, difference_statements, entry_statements, sum_statements, gradient_statements, move_statements, row_statements, body_of}
+use Rattle.c_program.specs.Of.{entry_top, multiplier_top, partner, is_first, plus_plan, moved_expression, difference_statements, entry_statements, sum_statements, gradient_statements, move_statements, row_statements, repetition_body}
 use Rattle.c_program.proofs.Runs.{Runs, runs_none, runs_first, runs_append, runs_groups, held_new}
 use Rattle.c_program.proofs.Terms.{Makes, fits64, kind_fits, makes_value, makes_plus, makes_minus}
 use Rattle.c_program.proofs.Pairs.{AreMultipliers, pair_there, difference_le}
@@ -279,7 +279,7 @@ moves c state made i e r l s =
 
 -- ---- the whole step
 pub body_runs : (c : Numbers) (state : List ℤ) (made : Iterate) (e : Environment) → StepReady c state made → Holds c state made e →
-    Runs (kinds c) e (body_of c) (Holds c state (step_of c state made))
+    Runs (kinds c) e (repetition_body c) (Holds c state (step_of c state made))
 body_runs c state made e r h =
     let p = length c.offsets in
     let m = length c.bounds in

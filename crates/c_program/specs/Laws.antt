@@ -12,12 +12,12 @@ use Rattle.c_program.specs.Syntax.Kind.{Wide}
 use Rattle.c_program.specs.Syntax.Statement.{Declare, Assign, AtLeastZero, AtMost}
 use Rattle.c_program.specs.Syntax.Expression.{Constant, Value, Plus, Minus, Times, Quotient, Remainder, Shifted}
 use Rattle.c_program.specs.Text.{expression_text, statement_text}
-use Rattle.c_program.specs.Meaning.{first_outside, outcome_of, IsRun, averages_of, AreAveraged}
+use Rattle.c_program.specs.Meaning.{first_outside, outcome_of, IsDefinedRun, averages_of, AreAveraged}
 use Rattle.c_program.specs.Meaning.Outcome.{Refused, Solved}
 use Rattle.c_program.specs.Of.{program_of}
 
 -- coordinate number k, from 1, lies outside the box, and each before it inside
-pub record IsFirstOutside (c : Numbers) (xi : List ℤ) (k : ℕ) : Type 0 where
+pub record IsCoordinateRefused (c : Numbers) (xi : List ℤ) (k : ℕ) : Type 0 where
   pub low : 1 ≤ k
   pub high : k ≤ c.states
   pub outside : (i : ℕ) → i + 1 ≡ k → ¬ IsInside c xi i
@@ -31,14 +31,14 @@ first_inputs c xi = map (λ j. round_of (at (averaged_plan c xi) j) c.steps) (ra
 -- handed these, the second function is defined, and puts out the averaged first inputs
 pub record Solves (c : Numbers) (xi : List ℤ) : Type 0 where
   pub state : All (FitsWidth 32) xi
-  pub run : IsRun (program_of c) xi
+  pub run : IsDefinedRun (program_of c) xi
   pub outcome : outcome_of (program_of c) xi ≡ Solved (averaged_plan c xi)
   pub averaged : AreAveraged (program_of c) (averaged_plan c xi)
   pub averages : averages_of (program_of c) (averaged_plan c xi) ≡ first_inputs c xi
 
 -- from any other state of this length the first coordinate outside the box is answered
 pub record Refuses (c : Numbers) (xi : List ℤ) : Type 0 where
-  pub first : IsFirstOutside c xi (first_outside (program_of c) xi)
+  pub first : IsCoordinateRefused c xi (first_outside (program_of c) xi)
   pub outcome : outcome_of (program_of c) xi ≡ Refused (first_outside (program_of c) xi)
 
 pub record IsProgram (c : Numbers) : Type 0 where

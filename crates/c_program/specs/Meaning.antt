@@ -4,7 +4,7 @@ use Rattle.std.specs.Int.{int_max, int_min}
 use Rattle.integer_algebra.specs.Division.{floor_of}
 use Rattle.integer_algebra.specs.Sums.{at}
 use Rattle.qp_model.specs.machine.ValuesMet.{FitsWidth}
-use Rattle.c_program.specs.Syntax.{Family, Variable, letter_of, Kind, bits_of, Expression, Statement, Program}
+use Rattle.c_program.specs.Syntax.{Family, Variable, letter_of, Kind, bits_of, Expression, Statement, CProgram}
 use Rattle.c_program.specs.Syntax.Family.{State, Output}
 use Rattle.c_program.specs.Syntax.Expression.{Constant, Value, Plus, Minus, Times, Quotient, Remainder, Shifted}
 use Rattle.c_program.specs.Syntax.Statement.{Declare, Assign, AtLeastZero, AtMost}
@@ -85,15 +85,15 @@ repeated e body (suc k) = all_done (repeated e body k) body
 
 -- ---- programs
 -- number i of the state lies outside the box
-abbrev pub is_outside : Program → List ℤ → ℕ → Bool
+abbrev pub is_outside : CProgram → List ℤ → ℕ → Bool
 is_outside p state i = int_lt (at state i) (at p.low i) || int_lt (at p.high i) (at state i)
 
 -- the first such number, from 1, of so many from number i on, and 0 where none is
-abbrev pub first_from : Program → List ℤ → (i many : ℕ) → ℕ
+abbrev pub first_from : CProgram → List ℤ → (i many : ℕ) → ℕ
 first_from p state i zero = 0
 first_from p state i (suc many) = if is_outside p state i then suc i else first_from p state (suc i) many
 
-abbrev pub first_outside : Program → List ℤ → ℕ
+abbrev pub first_outside : CProgram → List ℤ → ℕ
 first_outside p state = first_from p state 0 (length p.low)
 
 -- what the variables hold before the loop, and after so many repetitions of its body; no variable is read before it is declared, which a compiler tells
@@ -101,34 +101,34 @@ abbrev pub begun : List ℤ → Environment
 begun state State i = at state i
 begun state family i = pos 0
 
-abbrev pub after_repetitions : Program → List ℤ → ℕ → Environment
-after_repetitions p state k = repeated (all_done (begun state) p.before) p.body k
+abbrev pub after_rounds : CProgram → List ℤ → ℕ → Environment
+after_rounds p state k = repeated (all_done (begun state) p.before) p.body k
 
 -- the call answers a number and stores nothing, or it answers 0 and stores these numbers
 pub data Outcome : Type 0 where
   Refused : ℕ → Outcome
   Solved : List ℤ → Outcome
 
-abbrev pub outcome_at : Program → List ℤ → (first : ℕ) → Outcome
-outcome_at p state zero = Solved (map (held (after_repetitions p state p.repetitions)) p.outputs)
+abbrev pub outcome_at : CProgram → List ℤ → (first : ℕ) → Outcome
+outcome_at p state zero = Solved (map (held (after_rounds p state p.repetitions)) p.outputs)
 outcome_at p state (suc i) = Refused (suc i)
 
-abbrev pub outcome_of : Program → List ℤ → Outcome
+abbrev pub outcome_of : CProgram → List ℤ → Outcome
 outcome_of p state = outcome_at p state (first_outside p state)
 
 -- C defines each statement of the run from a state in the box
-pub record IsRun (p : Program) (state : List ℤ) : Type 0 where
+pub record IsDefinedRun (p : CProgram) (state : List ℤ) : Type 0 where
   pub before : AreDone p.kind (begun state) p.before
-  pub body : (k : ℕ) → k < p.repetitions → AreDone p.kind (after_repetitions p state k) p.body
+  pub body : (k : ℕ) → k < p.repetitions → AreDone p.kind (after_rounds p state k) p.body
 
 -- ---- the second function
 abbrev pub handed : List ℤ → Environment
 handed sums Output j = at sums j
 handed sums family i = pos 0
 
-abbrev pub averages_of : Program → List ℤ → List ℤ
+abbrev pub averages_of : CProgram → List ℤ → List ℤ
 averages_of p sums = map (value (handed sums)) p.averages
 
 -- C defines each average of these sums
-abbrev pub AreAveraged : Program → List ℤ → Type 0
+abbrev pub AreAveraged : CProgram → List ℤ → Type 0
 AreAveraged p sums = All (IsDefined (handed sums)) p.averages

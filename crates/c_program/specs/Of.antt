@@ -7,7 +7,7 @@ use Rattle.mat_int.specs.Matrix.{row_of}
 use Rattle.qp_model.specs.machine.Controller.{Numbers}
 use Rattle.qp_model.specs.machine.Machine.{exponent_of, lowering_of, top_of}
 use Rattle.qp_model.specs.machine.AbsoluteSums.{state_magnitudes, plan_magnitudes, next_magnitude, sum_magnitude}
-use Rattle.c_program.specs.Syntax.{Family, Variable, variable, Kind, Expression, Statement, groups, Program}
+use Rattle.c_program.specs.Syntax.{Family, Variable, variable, Kind, Expression, Statement, groups, CProgram}
 use Rattle.c_program.specs.Syntax.Family.{State, Loaded, EntryBase, RowBase, Multiplier, Difference, Entry, Gradient, Moved, Sum, Output}
 use Rattle.c_program.specs.Syntax.Kind.{Narrow, Wide}
 use Rattle.c_program.specs.Syntax.Expression.{Constant, Value, Plus, Minus, Times, Quotient, Remainder, Shifted}
@@ -154,8 +154,8 @@ move_statements c i =
 abbrev pub row_statements : Numbers → ℕ → List Statement
 row_statements c i = gradient_statements c i ++ move_statements c i
 
-abbrev pub body_of : Numbers → List Statement
-body_of c =
+abbrev pub repetition_body : Numbers → List Statement
+repetition_body c =
     groups (difference_statements c) (length c.bounds) ++ groups (entry_statements c) (length c.offsets) ++ groups sum_statements (length c.offsets)
     ++ groups (row_statements c) (length c.bounds)
 
@@ -181,13 +181,13 @@ average_expression c j =
     if c.steps == 2 ^ k then shifted_average sum c.steps k else divided_average sum c.steps
 
 -- ---- the whole
-abbrev pub program_of : Numbers → Program
+abbrev pub program_of : Numbers → CProgram
 program_of c = record {
   low = c.low;
   high = c.high;
   kind = λ v. kind_of c v.family v.number;
   before = before_of c;
-  body = body_of c;
+  body = repetition_body c;
   repetitions = c.steps;
   outputs = map (variable Sum) (range_with_len 0 (length c.offsets));
   averages = map (average_expression c) (range_with_len 0 c.inputs);

@@ -71,7 +71,7 @@ groups f (suc n) = groups f n ++ f n
 -- ---- programs
 -- The first function refuses a state outside the box; else the statements before the loop are run, then those of its body so many times, and then the outputs are stored.
 -- The second stores the averages, which are made of the outputs.
-pub record Program : Type 0 where
+pub record CProgram : Type 0 where
   pub low : List ℤ
   pub high : List ℤ
   pub kind : Variable → Kind

@@ -5,7 +5,7 @@ use Rattle.integer_algebra.specs.Sums.{at}
 use Rattle.mat_int.specs.Matrix.{row_of}
 use Rattle.number_text.specs.Lines.{text_of}
 use Rattle.qp_model.specs.machine.Controller.{Numbers}
-use Rattle.c_program.specs.Syntax.{variable, Statement, Program}
+use Rattle.c_program.specs.Syntax.{variable, Statement, CProgram}
 use Rattle.c_program.specs.Syntax.Family.{Entry, Gradient}
 use Rattle.c_program.specs.Syntax.Expression.{Value}
 use Rattle.c_program.specs.Of.{partner, is_first, is_second, entry_top, program_of}
@@ -55,8 +55,8 @@ row_rest c i =
     products_text (at (row_of c.plan_rows i)) (entry_top c) (λ j. variable_text (variable Entry j)) (length c.offsets))
 
 -- ---- the lines of a program
-abbrev pub opening_lines : List ℕ → Program → List (List ℕ)
+abbrev pub opening_lines : List ℕ → CProgram → List (List ℕ)
 opening_lines name p = (codes "#include \"" ++ name ++ codes ".h\"") ∷ [] ∷ shift_line name ∷ [] ∷ head_text name p ∷ codes "{" ∷ []
 
-abbrev pub loop_line : Program → List ℕ
-loop_line p = codes "    for (int32_t step = 0; step < " ++ decimal p.repetitions ++ codes "; step++) {"
+abbrev pub repetition_line : CProgram → List ℕ
+repetition_line p = codes "    for (int32_t step = 0; step < " ++ decimal p.repetitions ++ codes "; step++) {"

@@ -3,7 +3,7 @@ use Rattle.std.specs.Prelude.{ℕ, zero, suc, ◌≤◌, ◌⊎◌, ◌≡◌, �
 use Rattle.integer_algebra.specs.Sums.{at}
 use Rattle.number_text.specs.Lines.{text_of}
 use Rattle.qp_model.specs.machine.Controller.{Numbers}
-use Rattle.c_program.specs.Syntax.{Family, Variable, letter_of, Kind, Expression, Statement, Program}
+use Rattle.c_program.specs.Syntax.{Family, Variable, letter_of, Kind, Expression, Statement, CProgram}
 use Rattle.c_program.specs.Syntax.Family.{State, Output}
 use Rattle.c_program.specs.Syntax.Kind.{Narrow, Wide}
 use Rattle.c_program.specs.Syntax.Expression.{Constant, Value, Plus, Minus, Times, Quotient, Remainder, Shifted}
@@ -73,20 +73,20 @@ refusal_text low high i =
     codes "    if (" ++ name_of State i ++ codes " < " ++ constant_text low ++ codes " || " ++ name_of State i ++ codes " > " ++ constant_text high
     ++ codes ") { return " ++ decimal (suc i) ++ codes "; }"
 
-abbrev pub refusal_line : Program → ℕ → List ℕ
+abbrev pub refusal_line : CProgram → ℕ → List ℕ
 refusal_line p i = refusal_text (at p.low i) (at p.high i) i
 
 abbrev pub output_line : ℕ → Variable → List ℕ
 output_line j v = codes "    sums[" ++ decimal j ++ codes "] = " ++ expression_text (Value v) ++ codes ";"
 
-abbrev pub head_text : List ℕ → Program → List ℕ
+abbrev pub head_text : List ℕ → CProgram → List ℕ
 head_text name p =
     codes "int " ++ name ++ codes "_solve(const int32_t state[" ++ decimal (length p.low) ++ codes "], int64_t sums[" ++ decimal (length p.outputs) ++ codes "])"
 
 abbrev pub average_line : ℕ → Expression → List ℕ
 average_line j a = codes "    inputs[" ++ decimal j ++ codes "] = " ++ expression_text a ++ codes ";"
 
-abbrev pub average_head_text : List ℕ → Program → List ℕ
+abbrev pub average_head_text : List ℕ → CProgram → List ℕ
 average_head_text name p =
     codes "void " ++ name ++ codes "_first_inputs(const int64_t sums[" ++ decimal (length p.outputs) ++ codes "], int64_t inputs[" ++ decimal (length p.averages) ++ codes "])"
 
@@ -95,13 +95,13 @@ abbrev pub shift_line : List ℕ → List ℕ
 shift_line name = codes "typedef char " ++ name ++ codes "_shifts_round_down[((-INT64_C(3)) >> 1) == (-INT64_C(2)) ? 1 : -1];"
 
 -- the second function
-abbrev pub second_lines : List ℕ → Program → List (List ℕ)
+abbrev pub second_lines : List ℕ → CProgram → List (List ℕ)
 second_lines name p =
     average_head_text name p ∷ codes "{" ∷ []
     ++ numbered_lines (λ j. average_line j (slice_index_or p.averages j (Constant (pos 0)))) (length p.averages)
     ++ codes "}" ∷ []
 
-abbrev pub program_lines : List ℕ → Program → List (List ℕ)
+abbrev pub program_lines : List ℕ → CProgram → List (List ℕ)
 program_lines name p =
     (codes "#include \"" ++ name ++ codes ".h\"") ∷ [] ∷ shift_line name ∷ [] ∷ head_text name p ∷ codes "{" ∷ []
     ++ numbered_lines (refusal_line p) (length p.low)
@@ -113,7 +113,7 @@ program_lines name p =
     ++ codes "    return 0;" ∷ codes "}" ∷ [] ∷ []
     ++ second_lines name p
 
-abbrev pub program_text : List ℕ → Program → List ℕ
+abbrev pub program_text : List ℕ → CProgram → List ℕ
 program_text name p = text_of (program_lines name p)
 
 -- ---- the header
@@ -131,7 +131,7 @@ size_lines name c =
     ∷ size_line name (codes "_STEPS") c.steps ∷ size_line name (codes "_BITS") c.fraction_bits ∷ size_line name (codes "_GRID") c.grid_bits ∷ []
 
 -- the functions, with the names that C gives them where a C++ source reads this, too
-abbrev pub function_lines : List ℕ → Program → List (List ℕ)
+abbrev pub function_lines : List ℕ → CProgram → List (List ℕ)
 function_lines name p =
     [] ∷ codes "#ifdef __cplusplus" ∷ codes "extern \"C\" {" ∷ codes "#endif"
     ∷ [] ∷ codes "/* From a state over 2^GRID: 0, and the sums of the plans of all steps; or the first number, from 1, outside the box, and nothing is written. */"
@@ -140,7 +140,7 @@ function_lines name p =
     ∷ (average_head_text name p ++ codes ";")
     ∷ [] ∷ codes "#ifdef __cplusplus" ∷ codes "}" ∷ codes "#endif" ∷ [] ∷ codes "#endif" ∷ []
 
-abbrev pub header_text : List ℕ → Numbers → Program → List ℕ
+abbrev pub header_text : List ℕ → Numbers → CProgram → List ℕ
 header_text name c p = text_of (guard_lines name ++ size_lines name c ++ function_lines name p)
 
 -- ---- names

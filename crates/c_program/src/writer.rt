@@ -3,9 +3,9 @@ ghost use Rattle.std.specs.Prelude.{◌≡◌, ◌<◌, ◌≤◌, ◌++◌, [],
 ghost use Rattle.number_text.specs.Lines.{text_of};
 ghost use Rattle.qp_model.specs.machine.Controller.{numbers};
 ghost use Rattle.qp_model.specs.machine.AbsoluteSums.{IsController, state_magnitudes, plan_magnitudes};
-ghost use Rattle.c_program.specs.Of.{before_of, body_of, program_of};
+ghost use Rattle.c_program.specs.Of.{before_of, repetition_body, program_of};
 ghost use Rattle.c_program.specs.Text.{shift_line, head_text, refusal_line, numbered_lines, program_text};
-ghost use Rattle.c_program.specs.Terms.{partners_of, block_text, opening_lines, loop_line};
+ghost use Rattle.c_program.specs.Terms.{partners_of, block_text, opening_lines, repetition_line};
 
 use crate::averages::push_second;
 use crate::ending::push_outputs;
@@ -81,7 +81,7 @@ fn push_body(
     requires sound { IsController (numbers c.now) }
     requires plan { plan.now ≡ plan_magnitudes (numbers c.now) }
     requires partners { partners.now ≡ partners_of (numbers c.now) }
-    ensures { OnOk result (string_bytes text.new ≡ string_bytes text.old ++ block_text (numbers c.now) (codes "        ") (body_of (numbers c.now))) }
+    ensures { OnOk result (string_bytes text.new ≡ string_bytes text.old ++ block_text (numbers c.now) (codes "        ") (repetition_body (numbers c.now))) }
 {
     push_differences(alloc, text, c, partners)?;
     push_entries(alloc, text, c, plan, partners)?;
@@ -156,7 +156,7 @@ fn push_opening(
 
 // The line that opens the loop.
 fn push_loop(alloc: Global, text: &mut String, c: &ControllerParts) -> Result<(), AllocError>
-    ensures { OnOk result (string_bytes text.new ≡ string_bytes text.old ++ text_of (loop_line (program_of (numbers c.now)) ∷ [])) }
+    ensures { OnOk result (string_bytes text.new ≡ string_bytes text.old ++ text_of (repetition_line (program_of (numbers c.now)) ∷ [])) }
 {
     let steps = c.steps.to_string(alloc)?;
     push_pieces(

@@ -15,7 +15,7 @@ use Rattle.qp_model.specs.machine.Controller.{Numbers}
 use Rattle.settle_check.specs.Still.{Box, greatest_over, greatest_less}
 use Rattle.settle_check.specs.StillSize.{reach}
 use Rattle.settle_check.specs.ClosedRows.{loop_matrix, loop_over, through_loop, row_after, left_of, turn_rest, turn_adds}
-use Rattle.settle_check.specs.TurnSize.{loop_size, through_size, input_size, inputs_size, left_size, row_size, turn_size, turns_size, course_size, HasRoom}
+use Rattle.settle_check.specs.TurnSize.{loop_size, through_size, input_size, inputs_size, left_size, row_size, turn_size, turns_size, course_size, HasCourseRoom}
 use Rattle.settle_check.specs.Tube.{turns_add, most_after}
 use Rattle.settle_check.specs.Course.{plant, machine, states_box, shifts_box, next_row, adds, adds_size, IsRowWide, end_at, end_of, end_size, end_row, tube_of}
 use Rattle.settle_check.specs.declared.closed.ClosedLoop.{ClosedLoop}
@@ -129,7 +129,7 @@ module _ (l : ClosedLoop) (first : ℕ → ℤ) where
 
   -- where a turn passes 2^126, so does the course
   pub passes : (from : Box) (k turns : ℕ) (row : List ℤ) (value : ℤ) (added : ℕ) → IsFollowed l first k row value added → k < turns →
-      2 ^ 126 < added + adds_size l (at row) (next_row l (at row)) → HasRoom (plant l) (machine l) (states_box l) (shifts_box l) from first turns → ⊥
+      2 ^ 126 < added + adds_size l (at row) (next_row l (at row)) → HasCourseRoom (plant l) (machine l) (states_box l) (shifts_box l) from first turns → ⊥
   passes from k turns row value added f o h room =
       let is : adds_size l (at row) (next_row l (at row)) ≡ turn_size (plant l) (machine l) (states_box l) (shifts_box l) (after k) (after (suc k)) =
       turn_size_same (plant l) (machine l) (states_box l) (shifts_box l) (at row) (after k) (next_row l (at row)) (after (suc k)) f.holds.is (λ j o. next_is k row f.holds j) in

@@ -9,8 +9,8 @@ use Rattle.settle_check.specs.Still.{Box, IsStill}
 use Rattle.settle_check.specs.Tube.{tube}
 use Rattle.settle_check.specs.Settling.{Certificate, Leads}
 use Rattle.settle_check.specs.Answers.{IsStillFault}
-use Rattle.settle_check.specs.Beyond.{goal_at, GoesBeyond, IsInside, IsFirstBeyond, IsFirstTurnBeyond}
-use Rattle.settle_check.specs.Settles.{RowsHaveRoom, IsFirstMove, Passes, IsFault}
+use Rattle.settle_check.specs.Beyond.{goal_at, GoesBeyond, IsEndWithin, IsFirstBeyond, IsFirstTurnBeyond}
+use Rattle.settle_check.specs.Settles.{RowsHaveRoom, IsFirstMove, PassesSettling, IsSettleFault}
 use Rattle.settle_check.specs.declared.certificate.StateBox.{StateBox}
 use Rattle.settle_check.specs.declared.fault.SettleFault.{SettleFault}
 use Rattle.settle_check.specs.declared.fault.SettleFault.TheVariants.{Memory, TooWide, Moves, Unsettled, NoReturn}
@@ -18,7 +18,7 @@ use Rattle.settle_check.proofs.CheckFacts.{held, same_fault}
 use Rattle.settle_check.proofs.SettleFacts.{all_inside}
 
 -- ---- the first end that lies beyond
-clash : (goal box : Box) (i : ℕ) (bound : ℤ) → GoesBeyond goal box i bound → IsInside goal box i → ⊥
+clash : (goal box : Box) (i : ℕ) (bound : ℤ) → GoesBeyond goal box i bound → IsEndWithin goal box i → ⊥
 clash goal box i bound (inl b) h = plain _ _ _ b.0 b.1 h.1
   where
     plain : (g b z : ℤ) → z ≡ b → g <ℤ z → b ≤ℤ g → ⊥
@@ -69,7 +69,7 @@ module _ (n turns : ℕ) (goals boxes : ℕ → Box) where
       (sym e, p.0, p.1)
 
   -- none where all lie inside
-  pub none_beyond : (t c : ℕ) (a : ℤ) → ((k : ℕ) → k ≤ turns → (i : ℕ) → i < n → IsInside (goals k) (boxes k) i) → IsFirstTurnBeyond n turns goals boxes t c a → ⊥
+  pub none_beyond : (t c : ℕ) (a : ℤ) → ((k : ℕ) → k ≤ turns → (i : ℕ) → i < n → IsEndWithin (goals k) (boxes k) i) → IsFirstTurnBeyond n turns goals boxes t c a → ⊥
   none_beyond t c a all h = clash (goals t) (boxes t) h.here.index a h.here.here (all t h.reached h.here.index h.here.inside)
 
 -- ---- what is told
@@ -85,7 +85,7 @@ module _ (d : Design) (c : Numbers) (shifts : Box) (s : Certificate) where
   no_end : (from : Box) (turns t i : ℕ) (a : ℤ) → Leads d c shifts s from turns → IsFirstTurnBeyond d.states turns (goal_at s turns) (tube d c s.still shifts from) t i a → ⊥
   no_end from turns t i a h b = none_beyond d.states turns (goal_at s turns) (tube d c s.still shifts from) t i a (all_inside d c shifts s from turns h) b
 
-  pub one_fault : (a b : SettleFault) → IsFault d c shifts s a → IsFault d c shifts s b → a ≡ b
+  pub one_fault : (a b : SettleFault) → IsSettleFault d c shifts s a → IsSettleFault d c shifts s b → a ≡ b
   one_fault Memory b f g = absurd f
   one_fault TooWide Memory f g = absurd g
   one_fault TooWide TooWide f g = refl
@@ -112,7 +112,7 @@ module _ (d : Design) (c : Numbers) (shifts : Box) (s : Certificate) where
       let e = same_beyond d.states s.back (goal_at s s.back) (tube d c s.still shifts s.rest) t u i j a b f.3 g.3 in
       rw (e.0, e.1, e.2) refl
 
-  pub no_fault : (a : SettleFault) → Passes d c shifts s → IsFault d c shifts s a → ⊥
+  pub no_fault : (a : SettleFault) → PassesSettling d c shifts s → IsSettleFault d c shifts s a → ⊥
   no_fault Memory p f = f
   no_fault TooWide p f = f p.room
   no_fault (Moves row left right) p f = no_move row left right p.room.rows p.still f.1
@@ -120,7 +120,7 @@ module _ (d : Design) (c : Numbers) (shifts : Box) (s : Certificate) where
   no_fault (NoReturn t i a) p f = no_end s.rest s.back t i a p.again f.3
 
   -- the other way round
-  pub first : (r : Result StateBox SettleFault) (told : SettleFault) → IfOk r (λ b. Passes d c shifts s) → IfErr r (λ e. (e ≡ Memory) ⊎ IsFault d c shifts s e) → IsFault d c shifts s told →
+  pub first : (r : Result StateBox SettleFault) (told : SettleFault) → IfOk r (λ b. PassesSettling d c shifts s) → IfErr r (λ e. (e ≡ Memory) ⊎ IsSettleFault d c shifts s e) → IsSettleFault d c shifts s told →
       MatchResult r (λ b. ⊥) (λ e. (e ≡ told) ⊎ (e ≡ Memory))
   first (Ok b) told p f t = no_fault told p t
   first (Err e) told p f t = elim f [
@@ -128,7 +128,7 @@ module _ (d : Design) (c : Numbers) (shifts : Box) (s : Certificate) where
     | inr g ↦ inl (one_fault e told g t)
   ]
 
-  pub right : (r : Result StateBox SettleFault) → IfErr r (λ e. (e ≡ Memory) ⊎ IsFault d c shifts s e) → Passes d c shifts s → IfErr r (λ e. e ≡ Memory)
+  pub right : (r : Result StateBox SettleFault) → IfErr r (λ e. (e ≡ Memory) ⊎ IsSettleFault d c shifts s e) → PassesSettling d c shifts s → IfErr r (λ e. e ≡ Memory)
   right (Ok b) f p = tt
   right (Err e) f p = elim f [
     | inl m ↦ m

@@ -21,7 +21,7 @@ use Rattle.qp_model.specs.machine.Controller.{Numbers}
 use Rattle.qp_model.specs.machine.Machine.{averaged_plan}
 use Rattle.qp_model.specs.machine.Successor.{grid_scale, next_sum, next_over, successor}
 use Rattle.settle_check.specs.Still.{Box, LiesInBox, unit, IsStill, still_entry}
-use Rattle.settle_check.specs.ClosedRows.{loop_over, through_loop, turn_rest, IsLoop, RowLaw}
+use Rattle.settle_check.specs.ClosedRows.{loop_over, through_loop, turn_rest, IsLoopFor, RowLaw}
 use Rattle.settle_check.proofs.FloorLaws.{le-floor}
 use Rattle.settle_check.proofs.StillLaws.{dot_le-greatest, first_inputs, plan_most, still_law}
 
@@ -117,13 +117,13 @@ one_turn a K s D F y x alpha beta v w g rho m sum e k l h f i j r =
         (add-le-add_z (mul-le-mul_left_z (pos 2 *ℤ K) (omega (arith, ints, k)) i) (mul-le-mul_left_z (pos 2 *ℤ (K *ℤ s)) (omega (arith, ints, p)) j)))
         (by_ring (a ∷ K ∷ s ∷ D ∷ y ∷ x ∷ alpha ∷ beta ∷ v ∷ w ∷ g ∷ m ∷ []) (search quotes depth 60 fits 20000) refl))
 
-unit_is : (d : Design) (c : Numbers) → IsLoop d c → unit c ≡ 2 ^ (c.fraction_bits - c.grid_bits) * 2 ^ d.grid
+unit_is : (d : Design) (c : Numbers) → IsLoopFor d c → unit c ≡ 2 ^ (c.fraction_bits - c.grid_bits) * 2 ^ d.grid
 unit_is d c loop =
     let split : c.fraction_bits ≡ c.fraction_bits - c.grid_bits + d.grid = omega (arith, loop.sized.fraction_bits, loop.sizes.grid) in
     ap (λ n. 2 ^ n) split ∙ pow-add 2 (c.fraction_bits - c.grid_bits) d.grid
 
 -- before the shift
-turn_most : (d : Design) (c : Numbers) (z : Box) → IsLoop d c → IsStill c z → (row next : ℕ → ℤ) (xi : List ℤ) → length xi ≡ d.states → LiesInBox d.states z (at xi) →
+turn_most : (d : Design) (c : Numbers) (z : Box) → IsLoopFor d c → IsStill c z → (row next : ℕ → ℤ) (xi : List ℤ) → length xi ≡ d.states → LiesInBox d.states z (at xi) →
     (dot d.states row (λ i. round_of (next_sum d c xi i) (next_over d c)) -ℤ dot d.states next (at xi)) ≤ℤ
     floor_of (pos 2 *ℤ turn_rest d c z row next +ℤ pos (loop_over d c) *ℤ pos (size d.states row)) (2 * loop_over d c)
 turn_most d c z loop still row next xi long inside =

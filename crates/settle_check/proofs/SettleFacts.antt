@@ -6,14 +6,14 @@ use Rattle.qp_model.specs.problem.Design.{Design}
 use Rattle.qp_model.specs.machine.Controller.{Numbers}
 use Rattle.std.specs.Prelude.{IfOk}
 use Rattle.settle_check.specs.Still.{Box, box_of, IsPartOf}
-use Rattle.settle_check.specs.ClosedRows.{IsLoop}
+use Rattle.settle_check.specs.ClosedRows.{IsLoopFor}
 use Rattle.settle_check.proofs.SettlingLaws.{settling_law}
 use Rattle.settle_check.specs.Tube.{tube}
-use Rattle.settle_check.specs.Settling.{Certificate, Leads, Settles, IsSettled, hull, settled_box}
+use Rattle.settle_check.specs.Settling.{Certificate, Leads, Settles, LoopsSettle, hull, settled_box}
 use Rattle.settle_check.specs.Answers.{IsStillFault}
 use Rattle.settle_check.specs.Beyond.{goal_at, IsFirstTurnBeyond}
 use Rattle.settle_check.specs.Tubes.{tube_at, HasTurns, HoldsBoxes}
-use Rattle.settle_check.specs.Settles.{RowsHaveRoom, EndsHaveRoom, HasAllRoom, TubeHasRoom, IsTubeFault, AllInside, PassesBy, IsFaultBy, Passes, IsFault}
+use Rattle.settle_check.specs.Settles.{RowsHaveRoom, EndsHaveRoom, HasAllRoom, TubeHasRoom, IsTubeFault, AllInside, PassesBy, IsSettleFaultBy, PassesSettling, IsSettleFault}
 use Rattle.settle_check.specs.Course.{plant, machine, states_box, shifts_box, tube_of}
 use Rattle.settle_check.specs.Certificates.{certificate_of, IsBoxOf}
 use Rattle.settle_check.specs.declared.closed.ClosedLoop.{ClosedLoop}
@@ -25,7 +25,7 @@ use Rattle.settle_check.specs.declared.fault.SettleFault.TheVariants.{Memory, To
 
 -- ---- the rows
 -- where all sizes are within 2^126, a row's fault is that it moves
-pub moved : (c : Numbers) (s : Certificate) (first second : ℕ → Box) (e : SettleFault) → RowsHaveRoom c s.still → IsStillFault c s.still e → IsFaultBy c s first second e
+pub moved : (c : Numbers) (s : Certificate) (first second : ℕ → Box) (e : SettleFault) → RowsHaveRoom c s.still → IsStillFault c s.still e → IsSettleFaultBy c s first second e
 moved c s first second Memory room w = w.here
 moved c s first second TooWide room w = λ all. omega (arith, room w.index w.inside, w.here)
 moved c s first second (Moves row left right) room w = (room, record { index = w.index; inside = w.inside; before = w.before; here = w.here })
@@ -116,13 +116,13 @@ module _ (l : ClosedLoop) (s : Certificate) (e : states_box l ≡ s.still) where
   room_back from turns = subst (λ (z : Box). EndsHaveRoom (plant l) (machine l) z (shifts_box l) from turns) (sym e)
 
   -- a way that isn't followed
-  pub start_room : (fault : SettleFault) → IsTubeFault l s.start s.turns fault → (fault ≡ Memory) ⊎ IsFault (plant l) (machine l) (shifts_box l) s fault
+  pub start_room : (fault : SettleFault) → IsTubeFault l s.start s.turns fault → (fault ≡ Memory) ⊎ IsSettleFault (plant l) (machine l) (shifts_box l) s fault
   start_room fault f = elim f [
     | inl m ↦ inl m
     | inr w ↦ inr (rw w.0 (λ all. w.1 (room_back s.start s.turns all.there)))
   ]
 
-  pub rest_room : (fault : SettleFault) → IsTubeFault l s.rest s.back fault → (fault ≡ Memory) ⊎ IsFault (plant l) (machine l) (shifts_box l) s fault
+  pub rest_room : (fault : SettleFault) → IsTubeFault l s.rest s.back fault → (fault ≡ Memory) ⊎ IsSettleFault (plant l) (machine l) (shifts_box l) s fault
   rest_room fault f = elim f [
     | inl m ↦ inl m
     | inr w ↦ inr (rw w.0 (λ all. w.1 (room_back s.rest s.back all.again)))
@@ -146,10 +146,10 @@ module _ (l : ClosedLoop) (s : Certificate) (e : states_box l ≡ s.still) where
     rest_leads all = leads (plant l) (machine l) (shifts_box l) s s.rest s.back
         (inside_is (plant l).states s.back (tube (plant l) (machine l) s.still (shifts_box l) s.rest) again (of_tube s.rest s.back again k) s (rw (← l.matched.states) at all))
 
-    pub passed : PassesBy (machine l) s (tube_at there) (tube_at again) → Passes (plant l) (machine l) (shifts_box l) s
+    pub passed : PassesBy (machine l) s (tube_at there) (tube_at again) → PassesSettling (plant l) (machine l) (shifts_box l) s
     passed p = record { room = all_room p.room; still = p.still; there = start_leads p.there; again = rest_leads p.again }
 
-    pub told : (fault : SettleFault) → IsFaultBy (machine l) s (tube_at there) (tube_at again) fault → IsFault (plant l) (machine l) (shifts_box l) s fault
+    pub told : (fault : SettleFault) → IsSettleFaultBy (machine l) s (tube_at there) (tube_at again) fault → IsSettleFault (plant l) (machine l) (shifts_box l) s fault
     told Memory f = f
     told TooWide f = λ all. f all.rows
     told (Moves row left right) f = (all_room f.0, f.1)
@@ -185,10 +185,10 @@ module _ (l : ClosedLoop) (s : Certificate) (e : states_box l ≡ s.still) where
       }
 
 -- ---- what it promises
-pub settles : (d : Design) (c : Numbers) (shifts : Box) (s : Certificate) → IsPartOf d.states (box_of c.low c.high) s.still → 1 ≤ s.back → Passes d c shifts s → Settles d c shifts s
+pub settles : (d : Design) (c : Numbers) (shifts : Box) (s : Certificate) → IsPartOf d.states (box_of c.low c.high) s.still → 1 ≤ s.back → PassesSettling d c shifts s → Settles d c shifts s
 settles d c shifts s inside some p = record { inside = inside; still = p.still; some = some; there = p.there; again = p.again }
 
-pub promised : (r : Result StateBox SettleFault) (d : Design) (c : Numbers) (shifts : Box) (s : Certificate) → IsLoop d c → IsPartOf d.states (box_of c.low c.high) s.still → 1 ≤ s.back →
-    IfOk r (λ b. Passes d c shifts s) → IfOk r (λ b. IsSettled d c shifts s)
+pub promised : (r : Result StateBox SettleFault) (d : Design) (c : Numbers) (shifts : Box) (s : Certificate) → IsLoopFor d c → IsPartOf d.states (box_of c.low c.high) s.still → 1 ≤ s.back →
+    IfOk r (λ b. PassesSettling d c shifts s) → IfOk r (λ b. LoopsSettle d c shifts s)
 promised (Ok b) d c shifts s loop inside some p = settling_law d c shifts s loop (settles d c shifts s inside some p)
 promised (Err e) d c shifts s loop inside some p = tt

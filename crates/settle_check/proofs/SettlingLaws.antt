@@ -8,7 +8,7 @@ use Rattle.qp_model.specs.problem.Design.{Design}
 use Rattle.qp_model.specs.machine.Controller.{Numbers}
 use Rattle.stay_check.specs.LoopStay.{shifted_successor, state_under, AreShiftsUpTo}
 use Rattle.settle_check.specs.Still.{Box, box_of, LiesInBox, IsPartOf}
-use Rattle.settle_check.specs.ClosedRows.{IsLoop}
+use Rattle.settle_check.specs.ClosedRows.{IsLoopFor}
 use Rattle.settle_check.specs.Tube.{IsIn, tube}
 use Rattle.settle_check.specs.Settling.{Certificate, Leads, Settles, hull, settled_box, IsSettledAt, SettlingLaw}
 use Rattle.settle_check.proofs.TubeLaws.{state_long, tube_law}
@@ -41,7 +41,7 @@ goes_on d c start w n (suc t) =
     let e : suc (t + n) ≡ suc t + n = omega arith in
     ap (λ x. shifted_successor d c x (w (t + n))) (goes_on d c start w n t) ∙ ap (state_under d c start w) e
 
-module _ (d : Design) (c : Numbers) (shifts : Box) (s : Certificate) (loop : IsLoop d c) (settles : Settles d c shifts s) where
+module _ (d : Design) (c : Numbers) (shifts : Box) (s : Certificate) (loop : IsLoopFor d c) (settles : Settles d c shifts s) where
   -- before each turn up to one that the certificate leads to, the loop lies where no multiplier moves
   before : (from : Box) (u : ℕ) → Leads d c shifts s from u → (start : List ℤ) → length start ≡ d.states → LiesInBox d.states from (at start) →
       (w : ℕ → ℕ → ℤ) (t : ℕ) → t ≤ u → AreShiftsUpTo d shifts.low shifts.high w t → IsIn d c s.still start w t

@@ -12,8 +12,8 @@ use Rattle.qp_model.specs.machine.Controller.{Numbers}
 use Rattle.qp_model.specs.machine.Successor.{successor}
 use Rattle.stay_check.specs.LoopStay.{state_under, AreShiftsUpTo}
 use Rattle.settle_check.specs.Still.{Box, LiesInBox, IsStill}
-use Rattle.settle_check.specs.ClosedRows.{IsLoop, row_after, turn_adds}
-use Rattle.settle_check.specs.Tube.{IsIn, coordinate_row, most_after, RowsLaw, TubeLaw}
+use Rattle.settle_check.specs.ClosedRows.{IsLoopFor, row_after, turn_adds}
+use Rattle.settle_check.specs.Tube.{IsIn, coordinate_row, most_after, TubeRowsLaw, TubeLaw}
 use Rattle.settle_check.proofs.FloorLaws.{le-floor}
 use Rattle.settle_check.proofs.StillLaws.{dot_le-greatest}
 use Rattle.settle_check.proofs.RowLaws.{row_law}
@@ -29,7 +29,7 @@ unfolding state_under
 state_long d c start w zero long = long
 state_long d c start w (suc k) long = length-map-range_with_len (λ i. at (successor d c (state_under d c start w k)) i +ℤ w k i) 0 d.states
 
-pub rows_law : RowsLaw
+pub rows_law : TubeRowsLaw
 unfolding state_under
 rows_law d c z shifts loop still rows start w zero long within inside = plain (dot d.states (rows 0) (at start))
   where
@@ -49,7 +49,7 @@ coordinate_dot : (n i : ℕ) (f : ℤ) (x : ℕ → ℤ) → i < n → dot n (co
 coordinate_dot n i f x l = total_same n _ _ (λ j o. choose_times (nat_eq j i) f (x j)) ∙ total_single n i (λ j. f *ℤ x j) l
 
 -- an end of a coordinate
-end_law : (d : Design) (c : Numbers) (z shifts from : Box) → IsLoop d c → IsStill c z → (start : List ℤ) (w : ℕ → ℕ → ℤ) (turns : ℕ) → length start ≡ d.states →
+end_law : (d : Design) (c : Numbers) (z shifts from : Box) → IsLoopFor d c → IsStill c z → (start : List ℤ) (w : ℕ → ℕ → ℤ) (turns : ℕ) → length start ≡ d.states →
     LiesInBox d.states from (at start) → AreShiftsUpTo d shifts.low shifts.high w turns → IsIn d c z start w turns → (i : ℕ) → i < d.states → (f : ℤ) →
     (f *ℤ at (state_under d c start w turns) i) ≤ℤ most_after d c z shifts from (coordinate_row i f) turns
 unfolding row_after

@@ -12,15 +12,15 @@ abbrev pub GoesBeyond : (goal box : Box) → (i : ℕ) → ℤ → Type 0
 GoesBeyond goal box i bound =
     ((bound ≡ box.high i) × (goal.high i <ℤ bound)) ⊎ ((box.high i ≤ℤ goal.high i) × (bound ≡ box.low i) × (bound <ℤ goal.low i))
 
-abbrev pub IsInside : (goal box : Box) → ℕ → Type 0
-IsInside goal box i = (goal.low i ≤ℤ box.low i) × (box.high i ≤ℤ goal.high i)
+abbrev pub IsEndWithin : (goal box : Box) → ℕ → Type 0
+IsEndWithin goal box i = (goal.low i ≤ℤ box.low i) × (box.high i ≤ℤ goal.high i)
 
 -- the first coordinate of which an end does, from 1
 pub record IsFirstBeyond (n : ℕ) (goal box : Box) (coordinate : ℕ) (bound : ℤ) : Type 0 where
   pub index : ℕ
   pub inside : index < n
   pub place : coordinate ≡ index + 1
-  pub before : (i : ℕ) → i < index → IsInside goal box i
+  pub before : (i : ℕ) → i < index → IsEndWithin goal box i
   pub here : GoesBeyond goal box index bound
 
 -- at the first turn at which there is one

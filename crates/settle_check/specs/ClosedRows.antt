@@ -44,13 +44,13 @@ turn_adds d c z shifts row next =
 
 -- ---- the law of a turn
 -- a controller in form for the plant
-pub record IsLoop (d : Design) (c : Numbers) : Type 0 where
+pub record IsLoopFor (d : Design) (c : Numbers) : Type 0 where
   pub plant : 1 ≤ d.plant_denominator
   pub sized : IsSized c
   pub sizes : IsFor c d
 
 -- for any two whole rows: what the next state has of the first is at most what the state has of the second, and what the turn adds
 abbrev pub RowLaw : Type 0
-RowLaw = (d : Design) (c : Numbers) (z shifts : Box) → IsLoop d c → IsStill c z → (row next : ℕ → ℤ) (xi : List ℤ) (shift : ℕ → ℤ) →
+RowLaw = (d : Design) (c : Numbers) (z shifts : Box) → IsLoopFor d c → IsStill c z → (row next : ℕ → ℤ) (xi : List ℤ) (shift : ℕ → ℤ) →
     length xi ≡ d.states → LiesInBox d.states z (at xi) → LiesInBox d.states shifts shift →
     dot d.states row (at (shifted_successor d c xi shift)) ≤ℤ (dot d.states next (at xi) +ℤ turn_adds d c z shifts row next)

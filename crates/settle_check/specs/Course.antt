@@ -6,7 +6,7 @@ use Rattle.qp_model.specs.problem.Parts.{design_of}
 use Rattle.qp_model.specs.machine.Controller.{Numbers, numbers}
 use Rattle.settle_check.specs.Still.{Box, box_of, greatest_over}
 use Rattle.settle_check.specs.ClosedRows.{through_loop, loop_over, turn_adds}
-use Rattle.settle_check.specs.TurnSize.{through_size, turn_size, row_size, HasRoom}
+use Rattle.settle_check.specs.TurnSize.{through_size, turn_size, row_size, HasCourseRoom}
 use Rattle.settle_check.specs.Tube.{coordinate_row, tube}
 use Rattle.settle_check.specs.declared.closed.ClosedLoop.{ClosedLoop}
 use Rattle.settle_check.specs.declared.fault.SettleFault.{SettleFault}
@@ -70,7 +70,7 @@ tube_of l from = tube (plant l) (machine l) (states_box l) (shifts_box l) from
 
 -- an end is computed within 2^126
 abbrev pub EndHasRoom : ClosedLoop → (from : Box) → ℕ → (upper : Bool) → ℕ → Type 0
-EndHasRoom l from turns upper i = HasRoom (plant l) (machine l) (states_box l) (shifts_box l) from (end_row upper i) turns
+EndHasRoom l from turns upper i = HasCourseRoom (plant l) (machine l) (states_box l) (shifts_box l) from (end_row upper i) turns
 
 -- why it wasn't followed to a last turn
 abbrev pub IsEndFault : ClosedLoop → (from : Box) → ℕ → (upper : Bool) → ℕ → SettleFault → Type 0

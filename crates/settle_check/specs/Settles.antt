@@ -4,7 +4,7 @@ use Rattle.qp_model.specs.problem.Design.{Design}
 use Rattle.qp_model.specs.machine.Controller.{Numbers}
 use Rattle.settle_check.specs.Still.{Box, IsPartOf, IsStill}
 use Rattle.settle_check.specs.StillSize.{still_size}
-use Rattle.settle_check.specs.TurnSize.{HasRoom}
+use Rattle.settle_check.specs.TurnSize.{HasCourseRoom}
 use Rattle.settle_check.specs.Tube.{tube}
 use Rattle.settle_check.specs.Settling.{Certificate, Leads}
 use Rattle.settle_check.specs.Course.{plant, machine, states_box, shifts_box, end_row}
@@ -22,7 +22,7 @@ RowsHaveRoom c z = (i : ℕ) → i < c.rows → still_size c z i ≤ 2 ^ 126
 -- both ends of each coordinate, turn by turn
 abbrev pub EndsHaveRoom : Design → Numbers → (z shifts from : Box) → ℕ → Type 0
 EndsHaveRoom d c z shifts from turns =
-    (i : ℕ) → i < d.states → HasRoom d c z shifts from (end_row false i) turns × HasRoom d c z shifts from (end_row true i) turns
+    (i : ℕ) → i < d.states → HasCourseRoom d c z shifts from (end_row false i) turns × HasCourseRoom d c z shifts from (end_row true i) turns
 
 -- all of a certificate
 pub record HasAllRoom (d : Design) (c : Numbers) (shifts : Box) (s : Certificate) : Type 0 where
@@ -38,7 +38,7 @@ abbrev pub IsTubeFault : ClosedLoop → (from : Box) → ℕ → SettleFault →
 IsTubeFault l from turns e = (e ≡ Memory) ⊎ ((e ≡ TooWide) × (TubeHasRoom l from turns → ⊥))
 
 -- ---- the tests, in their order
-pub record Passes (d : Design) (c : Numbers) (shifts : Box) (s : Certificate) : Type 0 where
+pub record PassesSettling (d : Design) (c : Numbers) (shifts : Box) (s : Certificate) : Type 0 where
   pub room : HasAllRoom d c shifts s
   pub still : IsStill c s.still
   pub there : Leads d c shifts s s.start s.turns
@@ -56,13 +56,13 @@ abbrev pub IsFirstEnd : Design → Numbers → (shifts : Box) → Certificate �
 IsFirstEnd d c shifts s from turns turn coordinate bound =
     IsFirstTurnBeyond d.states turns (goal_at s turns) (tube d c s.still shifts from) turn coordinate bound
 
-abbrev pub IsFault : Design → Numbers → (shifts : Box) → Certificate → SettleFault → Type 0
-IsFault d c shifts s Memory = ⊥
-IsFault d c shifts s TooWide = HasAllRoom d c shifts s → ⊥
-IsFault d c shifts s (Moves row left right) = HasAllRoom d c shifts s × IsFirstMove c s.still row left right
-IsFault d c shifts s (Unsettled turn coordinate bound) =
+abbrev pub IsSettleFault : Design → Numbers → (shifts : Box) → Certificate → SettleFault → Type 0
+IsSettleFault d c shifts s Memory = ⊥
+IsSettleFault d c shifts s TooWide = HasAllRoom d c shifts s → ⊥
+IsSettleFault d c shifts s (Moves row left right) = HasAllRoom d c shifts s × IsFirstMove c s.still row left right
+IsSettleFault d c shifts s (Unsettled turn coordinate bound) =
     HasAllRoom d c shifts s × IsStill c s.still × IsFirstEnd d c shifts s s.start s.turns turn coordinate bound
-IsFault d c shifts s (NoReturn turn coordinate bound) =
+IsSettleFault d c shifts s (NoReturn turn coordinate bound) =
     HasAllRoom d c shifts s × IsStill c s.still × Leads d c shifts s s.start s.turns × IsFirstEnd d c shifts s s.rest s.back turn coordinate bound
 
 -- ---- the same, by the boxes of both ways, and without what these are computed within
@@ -75,12 +75,12 @@ pub record PassesBy (c : Numbers) (s : Certificate) (first second : ℕ → Box)
   pub there : AllInside s c.states s.turns first
   pub again : AllInside s c.states s.back second
 
-abbrev pub IsFaultBy : Numbers → Certificate → (there again : ℕ → Box) → SettleFault → Type 0
-IsFaultBy c s there again Memory = ⊥
-IsFaultBy c s there again TooWide = RowsHaveRoom c s.still → ⊥
-IsFaultBy c s there again (Moves row left right) = RowsHaveRoom c s.still × IsFirstMove c s.still row left right
-IsFaultBy c s there again (Unsettled turn coordinate bound) =
+abbrev pub IsSettleFaultBy : Numbers → Certificate → (there again : ℕ → Box) → SettleFault → Type 0
+IsSettleFaultBy c s there again Memory = ⊥
+IsSettleFaultBy c s there again TooWide = RowsHaveRoom c s.still → ⊥
+IsSettleFaultBy c s there again (Moves row left right) = RowsHaveRoom c s.still × IsFirstMove c s.still row left right
+IsSettleFaultBy c s there again (Unsettled turn coordinate bound) =
     RowsHaveRoom c s.still × IsStill c s.still × IsFirstTurnBeyond c.states s.turns (goal_at s s.turns) there turn coordinate bound
-IsFaultBy c s there again (NoReturn turn coordinate bound) =
+IsSettleFaultBy c s there again (NoReturn turn coordinate bound) =
     RowsHaveRoom c s.still × IsStill c s.still × AllInside s c.states s.turns there
     × IsFirstTurnBeyond c.states s.back (goal_at s s.back) again turn coordinate bound

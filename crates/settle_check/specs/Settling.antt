@@ -7,7 +7,7 @@ use Rattle.qp_model.specs.machine.Controller.{Numbers}
 use Rattle.qp_model.specs.machine.Machine.{IsAdmissible}
 use Rattle.stay_check.specs.LoopStay.{state_under, AreShiftsUpTo}
 use Rattle.settle_check.specs.Still.{Box, box_of, LiesInBox, IsPartOf, IsStill}
-use Rattle.settle_check.specs.ClosedRows.{IsLoop}
+use Rattle.settle_check.specs.ClosedRows.{IsLoopFor}
 use Rattle.settle_check.specs.Tube.{tube}
 
 -- a certificate: where loops start, where no multiplier moves, where loops settle; after how many turns from the start, and after how many again
@@ -50,10 +50,10 @@ pub record IsSettledAt (d : Design) (c : Numbers) (shifts : Box) (s : Certificat
   pub settled : s.turns ≤ turn → LiesInBox d.states (settled_box d c shifts s) (at xi)
 
 -- at each turn of each loop from the start box, under each list of shifts between two lists
-abbrev pub IsSettled : Design → Numbers → (shifts : Box) → Certificate → Type 0
-IsSettled d c shifts s =
+abbrev pub LoopsSettle : Design → Numbers → (shifts : Box) → Certificate → Type 0
+LoopsSettle d c shifts s =
     (start : List ℤ) → length start ≡ d.states → LiesInBox d.states s.start (at start) → (disturbances : ℕ → ℕ → ℤ) (turns : ℕ) →
     AreShiftsUpTo d shifts.low shifts.high disturbances turns → IsSettledAt d c shifts s turns (state_under d c start disturbances turns)
 
 abbrev pub SettlingLaw : Type 0
-SettlingLaw = (d : Design) (c : Numbers) (shifts : Box) (s : Certificate) → IsLoop d c → Settles d c shifts s → IsSettled d c shifts s
+SettlingLaw = (d : Design) (c : Numbers) (shifts : Box) (s : Certificate) → IsLoopFor d c → Settles d c shifts s → LoopsSettle d c shifts s

@@ -6,7 +6,7 @@ use Rattle.qp_model.specs.problem.Design.{Design}
 use Rattle.qp_model.specs.machine.Controller.{Numbers}
 use Rattle.stay_check.specs.LoopStay.{state_under, AreShiftsUpTo}
 use Rattle.settle_check.specs.Still.{Box, LiesInBox, greatest_over, IsStill}
-use Rattle.settle_check.specs.ClosedRows.{row_after, turn_adds, IsLoop}
+use Rattle.settle_check.specs.ClosedRows.{row_after, turn_adds, IsLoopFor}
 
 -- ---- any rows
 -- what the turns add together
@@ -36,13 +36,13 @@ tube d c z shifts from (suc k) = record {
 
 -- ---- where the loop's states lie in the box before a turn
 -- for any whole rows
-abbrev pub RowsLaw : Type 0
-RowsLaw = (d : Design) (c : Numbers) (z shifts : Box) → IsLoop d c → IsStill c z → (rows : ℕ → ℕ → ℤ) (start : List ℤ) (disturbances : ℕ → ℕ → ℤ) (turns : ℕ) →
+abbrev pub TubeRowsLaw : Type 0
+TubeRowsLaw = (d : Design) (c : Numbers) (z shifts : Box) → IsLoopFor d c → IsStill c z → (rows : ℕ → ℕ → ℤ) (start : List ℤ) (disturbances : ℕ → ℕ → ℤ) (turns : ℕ) →
     length start ≡ d.states → AreShiftsUpTo d shifts.low shifts.high disturbances turns → IsIn d c z start disturbances turns →
     dot d.states (rows 0) (at (state_under d c start disturbances turns)) ≤ℤ (dot d.states (rows turns) (at start) +ℤ turns_add d c z shifts rows turns)
 
 -- the state lies in the tube
 abbrev pub TubeLaw : Type 0
-TubeLaw = (d : Design) (c : Numbers) (z shifts from : Box) → IsLoop d c → IsStill c z → (start : List ℤ) (disturbances : ℕ → ℕ → ℤ) (turns : ℕ) →
+TubeLaw = (d : Design) (c : Numbers) (z shifts from : Box) → IsLoopFor d c → IsStill c z → (start : List ℤ) (disturbances : ℕ → ℕ → ℤ) (turns : ℕ) →
     length start ≡ d.states → LiesInBox d.states from (at start) → AreShiftsUpTo d shifts.low shifts.high disturbances turns →
     IsIn d c z start disturbances turns → LiesInBox d.states (tube d c z shifts from turns) (at (state_under d c start disturbances turns))

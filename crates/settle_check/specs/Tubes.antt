@@ -23,5 +23,5 @@ pub record HoldsBoxes (n turns : ℕ) (boxes : ℕ → Box) (t : Tube) : Type 0 
   pub highs : HasEntries n (turns + 1) (λ i k. (boxes k).high i) t.highs
 
 -- the first end that lies beyond the goals
-abbrev pub IsBeyond : (n turns : ℕ) → (goals : ℕ → Box) → Tube → Beyond → Type 0
-IsBeyond n turns goals t b = IsFirstTurnBeyond n turns goals (tube_at t) b.turn b.coordinate b.bound
+abbrev pub IsFirstEndBeyond : (n turns : ℕ) → (goals : ℕ → Box) → Tube → Beyond → Type 0
+IsFirstEndBeyond n turns goals t b = IsFirstTurnBeyond n turns goals (tube_at t) b.turn b.coordinate b.bound

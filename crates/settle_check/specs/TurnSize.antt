@@ -57,5 +57,5 @@ course_size d c z shifts from first turns =
     row_size d from (row_after d c first turns) + turns_size d c z shifts (row_after d c first) turns
 
 -- it is computed within 2^126 after each of so many turns
-abbrev pub HasRoom : Design → Numbers → (z shifts from : Box) → (first : ℕ → ℤ) → ℕ → Type 0
-HasRoom d c z shifts from first turns = (t : ℕ) → t < turns → course_size d c z shifts from first (suc t) ≤ 2 ^ 126
+abbrev pub HasCourseRoom : Design → Numbers → (z shifts from : Box) → (first : ℕ → ℤ) → ℕ → Type 0
+HasCourseRoom d c z shifts from first turns = (t : ℕ) → t < turns → course_size d c z shifts from first (suc t) ≤ 2 ^ 126

@@ -1,7 +1,7 @@
 // What the definitions give, as the contract of a function with nothing to do.
 ghost use Rattle.settle_check.specs.Still.{StillLaw};
 ghost use Rattle.settle_check.specs.ClosedRows.{RowLaw};
-ghost use Rattle.settle_check.specs.Tube.{RowsLaw, TubeLaw};
+ghost use Rattle.settle_check.specs.Tube.{TubeRowsLaw, TubeLaw};
 ghost use Rattle.settle_check.specs.Settling.{SettlingLaw};
 ghost use Rattle.settle_check.specs.Worked.{WorkedSettling};
 
@@ -19,7 +19,7 @@ pub fn row_law()
 
 /// As long as a loop's states lie in such a box, this holds for any rows, turn after turn, and the next state lies in the tube.
 pub fn tube_law()
-    ensures rows { RowsLaw }
+    ensures rows { TubeRowsLaw }
     ensures tube { TubeLaw }
 {}
 

@@ -5,11 +5,11 @@ ghost use Rattle.qp_model.specs.problem.Runs.{Holds};
 ghost use Rattle.qp_model.specs.machine.Controller.{numbers, IsSized};
 ghost use Rattle.qp_model.specs.machine.Successor.{IsFor};
 ghost use Rattle.settle_check.specs.Still.{box_of, IsPartOf};
-ghost use Rattle.settle_check.specs.Settling.{hull, settled_box, IsSettled};
+ghost use Rattle.settle_check.specs.Settling.{hull, settled_box, LoopsSettle};
 ghost use Rattle.settle_check.specs.Course.{plant, machine, shifts_box, tube_of};
 ghost use Rattle.settle_check.specs.Certificates.{state_box, certificate_of, HasLength, IsCertificateFor, IsBoxOf};
 ghost use Rattle.settle_check.specs.Tubes.{tube_at, HasTurns, HoldsBoxes};
-ghost use Rattle.settle_check.specs.Settles.{RowsHaveRoom, TubeHasRoom, IsTubeFault, PassesBy, IsFaultBy, Passes, IsFault};
+ghost use Rattle.settle_check.specs.Settles.{RowsHaveRoom, TubeHasRoom, IsTubeFault, PassesBy, IsSettleFaultBy, PassesSettling, IsSettleFault};
 ghost use Rattle.settle_check.specs.declared.fault.SettleFault.{SettleFault};
 ghost use Rattle.settle_check.specs.declared.fault.SettleFault.TheVariants.{Memory, Unsettled, NoReturn};
 
@@ -129,7 +129,7 @@ fn test_tubes(
     requires there { HasTurns c.now.n certificate.now.turns there.now }
     requires again { HasTurns c.now.n certificate.now.back again.now }
     ensures passes { IfOk result (λ _. PassesBy (numbers c.now) (certificate_of certificate.now) (tube_at there.now) (tube_at again.now)) }
-    ensures fault { IfErr result (IsFaultBy (numbers c.now) (certificate_of certificate.now) (tube_at there.now) (tube_at again.now)) }
+    ensures fault { IfErr result (IsSettleFaultBy (numbers c.now) (certificate_of certificate.now) (tube_at there.now) (tube_at again.now)) }
 {
     if !rows_have_room(c, &certificate.still) {
         return Err(SettleFault::TooWide);
@@ -154,8 +154,8 @@ fn check_loop(
     requires low { closed.now.low.now ≡ certificate.now.still.low.items }
     requires high { closed.now.high.now ≡ certificate.now.still.high.items }
     ensures rest { IfOk result (IsBoxOf closed.now.parts.now.states (settled_box (plant closed.now) (machine closed.now) (shifts_box closed.now) (certificate_of certificate.now))) }
-    ensures passes { IfOk result (λ _. Passes (plant closed.now) (machine closed.now) (shifts_box closed.now) (certificate_of certificate.now)) }
-    ensures fault { IfErr result (λ e. (e ≡ Memory) ⊎ IsFault (plant closed.now) (machine closed.now) (shifts_box closed.now) (certificate_of certificate.now) e) }
+    ensures passes { IfOk result (λ _. PassesSettling (plant closed.now) (machine closed.now) (shifts_box closed.now) (certificate_of certificate.now)) }
+    ensures fault { IfErr result (λ e. (e ≡ Memory) ⊎ IsSettleFault (plant closed.now) (machine closed.now) (shifts_box closed.now) (certificate_of certificate.now) e) }
 {
     let there = tube_from(alloc, closed, &certificate.start, certificate.turns)?;
     let again = tube_from(alloc, closed, &certificate.rest, certificate.back)?;
@@ -184,17 +184,17 @@ pub fn check_settling(
     requires inside { IsPartOf parts.now.states (box_of c.now.lo.items c.now.hi.items) (state_box certificate.now.still) }
     requires shift_low { length shift_low.now ≡ parts.now.states }
     requires shift_high { length shift_high.now ≡ parts.now.states }
-    ensures settled { IfOk result (λ _. IsSettled (design_of parts.now) (numbers c.now) (box_of shift_low.now shift_high.now) (certificate_of certificate.now)) }
+    ensures settled { IfOk result (λ _. LoopsSettle (design_of parts.now) (numbers c.now) (box_of shift_low.now shift_high.now) (certificate_of certificate.now)) }
     ensures rest { IfOk result (IsBoxOf parts.now.states
         (settled_box (design_of parts.now) (numbers c.now) (box_of shift_low.now shift_high.now) (certificate_of certificate.now))) }
-    ensures found { IfOk result (λ _. Passes (design_of parts.now) (numbers c.now) (box_of shift_low.now shift_high.now) (certificate_of certificate.now)) }
+    ensures found { IfOk result (λ _. PassesSettling (design_of parts.now) (numbers c.now) (box_of shift_low.now shift_high.now) (certificate_of certificate.now)) }
     ensures fault { IfErr result (λ e. (e ≡ Memory)
-        ⊎ IsFault (design_of parts.now) (numbers c.now) (box_of shift_low.now shift_high.now) (certificate_of certificate.now) e) }
+        ⊎ IsSettleFault (design_of parts.now) (numbers c.now) (box_of shift_low.now shift_high.now) (certificate_of certificate.now) e) }
 
     // The other way round, with nothing but out of memory in between.
-    ensures right { Passes (design_of parts.now) (numbers c.now) (box_of shift_low.now shift_high.now) (certificate_of certificate.now) →
+    ensures right { PassesSettling (design_of parts.now) (numbers c.now) (box_of shift_low.now shift_high.now) (certificate_of certificate.now) →
         IfErr result (λ e. e ≡ Memory) }
-    ensures first { (told : SettleFault) → IsFault (design_of parts.now) (numbers c.now) (box_of shift_low.now shift_high.now) (certificate_of certificate.now) told →
+    ensures first { (told : SettleFault) → IsSettleFault (design_of parts.now) (numbers c.now) (box_of shift_low.now shift_high.now) (certificate_of certificate.now) told →
         MatchResult result (λ _. ⊥) (λ e. (e ≡ told) ⊎ (e ≡ Memory)) }
 {
     let closed = ClosedLoop {

@@ -2,8 +2,8 @@
 ghost use Rattle.std.specs.Prelude.{◌≡◌, ℕ, ◌<◌, ◌≤◌, ◌^◌, length, IfSome, IfNone, IfOk, IfErr};
 ghost use Rattle.settle_check.specs.Still.{IsPartOf};
 ghost use Rattle.settle_check.specs.Certificates.{state_box, certificate_of, goal_of, IsCertificateFor};
-ghost use Rattle.settle_check.specs.Beyond.{goal_at, GoesBeyond, IsInside, IsFirstBeyond};
-ghost use Rattle.settle_check.specs.Tubes.{tube_at, HasTurns, IsBeyond};
+ghost use Rattle.settle_check.specs.Beyond.{goal_at, GoesBeyond, IsEndWithin, IsFirstBeyond};
+ghost use Rattle.settle_check.specs.Tubes.{tube_at, HasTurns, IsFirstEndBeyond};
 
 use crate::certificate::{CertificateParts, StateBox};
 use mat_int::Mat;
@@ -30,7 +30,7 @@ fn end_beyond(tube: &Tube, goal: &StateBox, turns: u32, turn: usize, i: usize) -
     requires turn { turn ≤ turns }
     requires coordinate { i < length goal.now.low.items }
     ensures some { IfSome result (GoesBeyond (state_box goal.now) (tube_at tube.now turn) i) }
-    ensures none { IfNone result (IsInside (state_box goal.now) (tube_at tube.now turn) i) }
+    ensures none { IfNone result (IsEndWithin (state_box goal.now) (tube_at tube.now turn) i) }
 {
     let high = tube.highs.at(i, turn);
     let low = tube.lows.at(i, turn);
@@ -82,7 +82,7 @@ pub(crate) fn test_turns(
     requires tube { HasTurns (length certificate.now.still.low.items) turns tube.now }
     ensures inside { let n = length certificate.now.still.low.items in
         IfOk result (λ _. (t : ℕ) → t ≤ turns → IsPartOf n (goal_at (certificate_of certificate.now) turns t) (tube_at tube.now t)) }
-    ensures beyond { IfErr result (IsBeyond (length certificate.now.still.low.items) turns (goal_at (certificate_of certificate.now) turns) tube.now) }
+    ensures beyond { IfErr result (IsFirstEndBeyond (length certificate.now.still.low.items) turns (goal_at (certificate_of certificate.now) turns) tube.now) }
 {
     for turn in 0..tube.lows.cols() {
         let goal = goal_at(certificate, turns, turn);
