@@ -91,7 +91,7 @@ LEFT = {
     "output": "The lines before it were printed whole.",
 }
 
-# the commands that write, with how many files they have; and the files that hold plans
+# the commands that write two files, with how many files they have; and the files that hold plans
 COUNTS = {"generate": "four", "stay": "files", "lean": "five", "split": "five"}
 PLANS = ("policy", "reference", "policies")
 # what K is made of, and which policy makes it less

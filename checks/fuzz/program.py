@@ -17,13 +17,11 @@ import listing
 import model
 import held_boxes
 import split_boxes
+from command_table import COUNTS, OUTPUTS
 from model import LIMIT, Refused
 
 NAMES = {1: "memory", 2: "usage", 3: "read-fault", 4: "write-fault", 5: "text", 6: "no-margin", 7: "curvature", 8: "too-many-steps", 9: "too-fine", 10: "too-wide",
          11: "controller", 12: "outside-box", 13: "long", 14: "mismatch", 16: "unequal", 17: "no-stay", 18: "cell", 20: "listing", 21: "trap"}
-# how many words follow each command, and which of them are written
-COUNTS = {"generate": [4], "lean": [5, 6, 7], "stay": [5, 6], "solve": [2], "loop": [4, 5], "demo": [1], "list": [2], "play": [2], "split": [5], "serve": [2]}
-OUTPUTS = {"generate": [3, 4], "lean": [4, 5], "stay": [3, 4], "list": [2], "split": [4, 5]}
 OVER = 2**40
 
 

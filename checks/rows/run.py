@@ -15,11 +15,13 @@ import subprocess
 import sys
 import tempfile
 
+sys.path.insert(0, os.path.join(os.path.dirname(os.path.abspath(__file__)), "..", "fuzz"))
 import lean_rows
 import limit_rows
 import listing_rows
 import split_rows
 import stay_rows
+from command_table import OUTPUTS
 from texts import GENERATE, LIMITS, SOLVE, costs, in_second, limits, plant_over, put, refused, steep, sub, targets, violations, written
 from worked_texts import AXIS, AXIS_POLICY, CONTROLLER, DESIGN, JSON, LISTING, POLICY, REPORT
 
@@ -27,8 +29,6 @@ PROGRAM = os.path.abspath(sys.argv[1])
 VALGRIND = "--valgrind" in sys.argv[2:]
 AT_LIMITS = "--limits" in sys.argv[2:]
 ONLY = sys.argv[sys.argv.index("--only") + 1] if "--only" in sys.argv[2:-1] else None
-# where the words name the files that a command writes
-OUTPUTS = {"generate": (3, 4), "lean": (4, 5), "stay": (3, 4), "list": (2,), "split": (4, 5)}
 
 
 def rows():

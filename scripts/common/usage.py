@@ -1,37 +1,42 @@
-"""The commands, as docs/help.txt lists them: that page is what the launcher prints, and what words below a refusal count by."""
+"""The program's commands, as docs/commands.txt has them: what is not proved counts their arguments, and tells what they write, by that page."""
 import os
 import re
 
 TOP = os.path.dirname(os.path.dirname(os.path.dirname(os.path.realpath(__file__))))
-LISTED = re.compile(r"  mpc ([a-z]+)((?: [A-Z]+)*)((?: \[[A-Z]+\])*)(?:  |$)")
-# what isn't the name of a file
-NUMBERS = ("NUMBER", "TURNS")
-# the commands of the launcher, in Python
-OWN = ("explain", "design")
 
 
-def listed() -> list[re.Match]:
-    """The lines of the program's commands."""
-    with open(os.path.join(TOP, "docs", "help.txt"), encoding="utf-8") as file:
-        found = [LISTED.match(line.rstrip("\n")) for line in file]
-    return [line for line in found if line and line[1] not in OWN]
+def table() -> dict[str, list[str]]:
+    """The arguments of each command, with their marks."""
+    with open(os.path.join(TOP, "docs", "commands.txt"), encoding="utf-8") as file:
+        lines = [line.split() for line in file if not line.startswith("#")]
+    return {line[0]: line[1:] for line in lines}
+
+
+def named(arguments: list[str]) -> list[str]:
+    """Arguments without their marks."""
+    return [word.strip(">=[]") for word in arguments]
 
 
 def commands() -> dict[str, list[str]]:
-    """The program's commands, each with the arguments that it needs."""
-    return {line[1]: line[2].split() for line in listed()}
+    """The commands, each with the arguments that it needs."""
+    return {command: named([word for word in arguments if not word.startswith("[")]) for command, arguments in table().items()}
 
 
 def optional(command: str) -> list[str]:
     """The arguments that a command may have besides."""
-    return next((re.findall("[A-Z]+", line[3]) for line in listed() if line[1] == command), [])
+    return named([word for word in table().get(command, []) if word.startswith("[")])
+
+
+def written(command: str) -> list[int]:
+    """Where the words of a command name the files that it writes; the command itself is word 0."""
+    return [at for at, word in enumerate(table().get(command, []), 1) if word.startswith(">")]
 
 
 def places_of(command: str) -> list[str]:
     """What the arguments of a command are called, in their order: a file's fault names its place among them."""
-    return [word.lower() for word in commands().get(command, []) + optional(command)]
+    return [word.lower() for word in named(table().get(command, []))]
 
 
 def files_of(command: str) -> list[str]:
     """What the files of a command are called, in the order of its arguments."""
-    return [word for word in places_of(command) if word.upper() not in NUMBERS]
+    return [word.lower() for word in named([word for word in table().get(command, []) if not word.startswith("=")])]

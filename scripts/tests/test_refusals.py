@@ -1,6 +1,7 @@
 """Every refusal has words: one case a line that the program can print."""
 import os
 import pty
+import re
 import shlex
 import shutil
 import subprocess
@@ -370,7 +371,8 @@ class Launcher(unittest.TestCase):
             os.makedirs(os.path.join(folder, part))
         shutil.copy(os.path.join(TOP, "mpc"), folder)
         shutil.copy(os.path.join(TOP, "CHANGELOG.md"), folder)
-        shutil.copy(os.path.join(TOP, "docs", "help.txt"), os.path.join(folder, "docs"))
+        for page in ("help.txt", "commands.txt"):
+            shutil.copy(os.path.join(TOP, "docs", page), os.path.join(folder, "docs"))
         shutil.copytree(os.path.join(TOP, "scripts"), os.path.join(folder, "scripts"), ignore=shutil.ignore_patterns("__pycache__", "tests"))
         with open(os.path.join(folder, "crates.txt"), "w"):
             pass
@@ -671,14 +673,27 @@ mkdir -p crates/mpc_generate/out; printf '#!/bin/bash\necho built\n' >crates/mpc
         self.assertEqual(ran.returncode, 0)
         self.assertRegex(told, rb"mpc: [23] of 1000000 lines")
 
+    def test_table_is_the_program_s(self):
+        """The table of commands has the words, the counts and the outputs that the program's definitions have, and help lists the same."""
+        with open(os.path.join(TOP, "crates/command_line/specs/Words.antt"), encoding="utf-8") as file:
+            records = re.findall(r"pub record Is\w+ .*\n((?:  pub .*\n)+)", file.read())
+        counts: dict[str, set[int]] = {}
+        written: dict[str, set[int]] = {}
+        for record in records:
+            command = re.search(r'command : word_of words 0 ≡ codes "(\w+)"', record)
+            if not command:
+                continue
+            counts.setdefault(command[1], set()).update(int(n) - 1 for n in re.findall(r"\d+", re.search("count : .*", record)[0]))
+            written.setdefault(command[1], set()).update(int(at) for at in re.findall(r"IsOwnName words (\d+)|: word_of words (\d+) ≢", record) for at in at if at)
+        needed = usage.commands()
+        self.assertEqual(counts, {name: set(range(len(words), len(words) + len(usage.optional(name)) + 1)) for name, words in needed.items()})
+        self.assertEqual(written, {name: set(usage.written(name)) for name in needed})
+        with open(os.path.join(TOP, "docs", "help.txt"), encoding="utf-8") as file:
+            listed = re.findall(r"^  mpc ([a-z]+)((?: [A-Z]+)*(?: \[[A-Z]+\])*)(?:  |$)", file.read(), re.MULTILINE)
+        marks = str.maketrans("", "", ">=")
+        self.assertEqual({name: words.split() for name, words in listed if name not in ("explain", "design", "try")}, {name: [word.translate(marks) for word in words] for name, words in usage.table().items()})
+
     def test_usage_stands_once(self):
-        """What the words below a refusal count by is what help lists, and the README's commands are among it."""
-        self.assertEqual(
-            usage.commands(),
-            {"demo": ["NUMBER"], "generate": ["DESIGN", "POLICY", "CONTROLLER", "REPORT"], "stay": ["DESIGN", "POLICY", "CONTROLLER", "REPORT", "FACES"],
-             "lean": ["DESIGN", "POLICY", "REFERENCE", "CONTROLLER", "REPORT"], "solve": ["CONTROLLER", "STATES"], "loop": ["DESIGN", "CONTROLLER", "STATES", "TURNS"],
-             "list": ["CONTROLLER", "LISTING"], "play": ["LISTING", "STATES"], "split": ["DESIGN", "CUTS", "POLICIES", "CELLS", "REPORT"], "serve": ["CELLS", "STATES"]},
-        )
         self.assertEqual(usage.files_of("loop"), ["design", "controller", "states", "disturbances"])
         self.assertEqual(usage.places_of("loop"), ["design", "controller", "states", "turns", "disturbances"])
         self.assertEqual(usage.files_of("lean"), ["design", "policy", "reference", "controller", "report", "faces", "disturbances"])

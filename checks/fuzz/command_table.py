@@ -1,0 +1,9 @@
+"""The commands of docs/commands.txt: how many words may follow each, and which of its words name files that it writes."""
+import os
+
+TABLE = os.path.join(os.path.dirname(os.path.abspath(__file__)), "..", "..", "docs", "commands.txt")
+
+with open(TABLE, encoding="utf-8") as lines:
+    ARGUMENTS = {line.split()[0]: line.split()[1:] for line in lines if not line.startswith("#")}
+COUNTS = {command: range(sum(not word.startswith("[") for word in words), len(words) + 1) for command, words in ARGUMENTS.items()}
+OUTPUTS = {command: [at for at, word in enumerate(words, 1) if word.startswith(">")] for command, words in ARGUMENTS.items() if any(word.startswith(">") for word in words)}
