@@ -2,7 +2,7 @@
  * manual gives them, without wait states. Built with cc -shared -fPIC; the few lines of QEMU's plugin interface (version 1) that it needs are declared here.
  *
  * Cycles: 1 an instruction; a load or store 2, but 1 where one stands right before it; ldrd and strd 3; ldm, stm, push, pop 1 and 1 more for each register;
- * a branch that is taken 2 more. Arguments: entry and leave, the addresses of the function and of what comes after its call. Prints `run INSTRUCTIONS CYCLES`. */
+ * a branch that is taken 2 more. Of single-precision numbers: a load or store 2, one that adds to a product 3, a quotient or a root 14. Arguments: entry and leave, the addresses of the function and of what comes after its call. Prints `run INSTRUCTIONS CYCLES`. */
 #include <inttypes.h>
 #include <stdio.h>
 #include <stdlib.h>
@@ -72,6 +72,10 @@ static unsigned cycles_of(const char *text, int *is_access)
         *is_access = 1;
         return was_access ? 1 : 2;
     }
+    if (begins(text, "vldr") || begins(text, "vstr")) return 2;
+    if (begins(text, "vldm") || begins(text, "vstm") || begins(text, "vpush") || begins(text, "vpop")) return 1 + registers(text);
+    if (begins(text, "vmla") || begins(text, "vmls") || begins(text, "vnmla") || begins(text, "vnmls") || begins(text, "vfm") || begins(text, "vfnm")) return 3;
+    if (begins(text, "vdiv") || begins(text, "vsqrt")) return 14;
     if (begins(text, "ldm") || begins(text, "stm") || begins(text, "push") || begins(text, "pop")) return 1 + registers(text);
     return 1;
 }

@@ -37,6 +37,11 @@ void put_number(int64_t value)
 
 void reset(void)
 {
+#ifdef __ARM_FP
+    /* The floating-point unit is switched on. */
+    *(volatile uint32_t *)0xE000ED88 |= 0xFu << 20;
+    __asm__ volatile("dsb\n\tisb");
+#endif
     uint32_t *to = data_start;
     const uint32_t *from = data_load;
     while (to < data_end) {
