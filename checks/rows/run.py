@@ -5,7 +5,7 @@
 
 With --only these are the rows of one command alone, as for a program that has no other: a row whose words are of another is asked, too, and must be refused as no
 command's. With --valgrind each runs under valgrind's memory checker, which must have nothing to report: no invalid read or write, no branch on what was never written, no
-block that is lost. With --limits also those at the limits, which the gate leaves out. The rows of fine designs, whose exact numbers pass 2^126, of fine corners, of other faces than the worked ones and of
+block that is lost. With --limits also those at the limits. The rows of fine designs, whose exact numbers pass 2^126, of fine corners, of other faces than the worked ones and of
 the examples' listings have the numbers of the model in ../fuzz.
 """
 import contextlib
