@@ -2,8 +2,8 @@ ghost use Rattle.std.specs.Prelude.{pos, ◌≤ℤ◌};
 ghost use Rattle.qp_model.specs.problem.Parts.{design_of};
 ghost use Rattle.qp_model.specs.problem.Policy.{plans_of, IsPolicyFor};
 
-use design_engine::margins;
 use corner_margin::MarginFault;
+use design_engine::margins;
 use frac_scaled::Frac;
 use policy_file::read_policy;
 use qp_model::{Design, Margin, Policy, Quantity};
