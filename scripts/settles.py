@@ -1,0 +1,202 @@
+#!/usr/bin/env python3
+"""Proposes a certificate that closed loops settle: from which part of the box they all lie in a small box from a turn on, under every disturbance of a range.
+
+    scripts/settles.py DESIGN CONTROLLER [CERTIFICATE] [--within PART] [--disturbances FILE] [--turns N]
+
+In a box in which no multiplier of the controller moves, the still box, the closed loop is a matrix, but for floors and rounding; so whole numbers show where its loops lie turn by turn. All boxes
+are parts of the controller's box about the state at which its loop rests, one factor each: the largest still box, then the largest start box from which loops keep in that and come to
+the box of rest, PART of the box; then the fewest turns from the start box, and back to the box of rest from it. Without --within the box of rest is the first of 5, 10, 15, 25 and 50 % that
+loops settle in.
+
+The certificate goes to CERTIFICATE, or is printed, and what it says to standard error. Nothing rests on it: it is tested in the program's whole numbers, by `settle`.
+
+    --within PART         the box of rest, as a part of the controller's box, from 0.001 to 1
+    --disturbances FILE   two records, a number for each coordinate over `2^grid`: the least and the greatest that is added to a next state
+    --turns N             at most so many turns (1000)
+
+Where there is none, it says what is in the way, and ends with status 12.
+"""
+from __future__ import annotations
+
+import argparse
+import sys
+from dataclasses import dataclass
+from fractions import Fraction
+
+from common import files, matching
+from common.arguments import Parser, whole
+from common.design_text import Design, plain, read_design
+from common.disturbances import box_in
+from common.libraries import Refusal, run, say
+from common.texts import Controller, controller_of, kind_of, read_text
+from common.tubes import Box, Certificate, Loop, Stillness, Tubes, first_fault, settled_box
+
+# parts of the box that are tried for the box of rest, and how finely other parts are found
+RESTS = (Fraction(1, 20), Fraction(1, 10), Fraction(3, 20), Fraction(1, 4), Fraction(1, 2))
+FINE = 2**12
+NONE = 12
+
+
+@dataclass
+class Found:
+    """A certificate, what part of the controller's box its boxes are, and where loops lie from its turn on."""
+
+    certificate: Certificate
+    start: Fraction
+    still: Fraction
+    rest: Fraction
+    settled: Box
+
+
+def largest(holds) -> Fraction | None:
+    """The greatest part for which something holds that holds of all that are smaller; None where it holds of none."""
+    low, high = 0, FINE + 1
+    while high - low > 1:
+        middle = (low + high) // 2
+        low, high = (middle, high) if holds(Fraction(middle, FINE)) else (low, middle)
+    return Fraction(low, FINE) if low else None
+
+
+def turns_to(tubes: Tubes, start: Box, goal: Box, least: int, most: int) -> int | None:
+    """After how many turns loops from a box lie in another, no fewer than these, kept in the still box before."""
+    for turn, box in enumerate(tubes.boxes(start)):
+        if turn >= least and goal.holds(box):
+            return turn
+        if turn >= most or not tubes.still.holds(box):
+            return None
+    return None
+
+
+class Proposal:
+    """The boxes of a controller's loop."""
+
+    def __init__(self, design: Design, controller: Controller, low: list[int], high: list[int], most: int) -> None:
+        self.design, self.most, self.box = design, most, Box(tuple(controller.lo), tuple(controller.hi))
+        self.loop, self.rows = Loop(design, controller, low, high), Stillness(controller)
+        centre = self.loop.rest()
+        if centre is None:
+            raise Refusal("the loop has no one state at which it rests: one of its states stands still wherever it is, and boxes of coordinates show no settling there", NONE)
+        if not self.box.holds(Box(tuple(centre), tuple(centre))):
+            raise Refusal(f"the loop rests at {self.words(centre)}, outside the box", NONE)
+        self.centre = centre
+        still = largest(lambda part: self.rows.moves(self.of(part)) is None)
+        if still is None:
+            raise Refusal(f"a multiplier may move beside {self.words(centre)}, at which the loop rests", NONE)
+        self.still = still
+        self.tubes = Tubes(self.loop, self.of(still))
+
+    def of(self, part: Fraction) -> Box:
+        return self.box.about(self.centre, part)
+
+    def words(self, state: list[int]) -> str:
+        names = [self.design.name("state", i + 1) for i in range(self.design.states)]
+        return ", ".join(f"{name.word} {name.shown(v / 2**self.design.grid)}" for name, v in zip(names, state))
+
+    def settle(self, part: Fraction) -> Found | None:
+        """The certificate of the largest start box whose box of rest is this part of the box."""
+        rest = self.of(part)
+        back = turns_to(self.tubes, rest, rest, 1, self.most)
+        start = back and largest(lambda other: self.turns_from(other, rest) is not None)
+        turns = start and self.turns_from(start, rest)
+        if not back or not start or turns is None:
+            return None
+        certificate = Certificate(turns, back, self.of(start), self.tubes.still, rest)
+        fault = first_fault(self.loop, self.rows, certificate)
+        if fault:
+            raise Refusal(f"the certificate that was found isn't one: {' '.join(map(str, fault))}", NONE)
+        return Found(certificate, start, self.still, part, settled_box(self.tubes, certificate))
+
+    def turns_from(self, part: Fraction, rest: Box) -> int | None:
+        return turns_to(self.tubes, self.of(part), rest, 0, self.most)
+
+    def best(self, parts: tuple[Fraction, ...]) -> Found:
+        """The certificate of the first of these parts that has one."""
+        for part in parts:
+            found = self.settle(part)
+            if found:
+                return found
+        raise Refusal(self.why(parts[-1]), NONE)
+
+    def why(self, part: Fraction) -> str:
+        """What is in the way of the last part that was tried."""
+        rest, where = self.of(part), f"within {percent(part)} of the box"
+        if not self.tubes.still.holds(rest):
+            return f"a multiplier may move {where}: none moves in {percent(self.still)} of it, where loops could be followed"
+        far = self.tubes.box(rest, self.most)
+        beyond = rest.beyond(far)
+        if beyond is None:
+            return f"loops from {where} leave {percent(self.still)} of the box, in which no multiplier moves, before they are back"
+        name = self.design.name("state", beyond[0] + 1)
+        return f"loops from {where} aren't shown to be back there: after {self.most} turns {name.word} may be {name.shown(beyond[1] / 2**self.design.grid)}"
+
+
+def percent(part: Fraction) -> str:
+    return f"{plain(100 * part)} %"
+
+
+def time_of(design: Design, turns: int) -> str:
+    """Turns in words, with the time that they take."""
+    return f"{turns} turn{'s' * (turns != 1)}" + (f" ({plain(turns * design.period)} s)" if design.period else "")
+
+
+def ends_of(design: Design, box: Box) -> str:
+    """A box in the units of its design."""
+    out = []
+    for i, (low, high) in enumerate(zip(box.low, box.high)):
+        name, scale = design.name("state", i + 1), 2**design.grid
+        out.append(f"{name.word} within {name.shown(high / scale)}" if low == -high else f"{name.word} from {name.shown(low / scale)} to {name.shown(high / scale)}")
+    return ", ".join(out)
+
+
+def said(design: Design, found: Found, disturbed: bool) -> list[str]:
+    """What a certificate says, in words."""
+    s = found.certificate
+    under = " under every disturbance of the range" if disturbed else ""
+    first = f"every loop from {percent(found.start)} of the box lies within {percent(found.rest)} of it after {time_of(design, s.turns)}{under}, and is back there each {time_of(design, s.back)}"
+    return [first, f"from then on, for ever: {ends_of(design, found.settled)}", f"no multiplier moves in {percent(found.still)} of the box, which no such loop leaves"]
+
+
+def certificate_text(s: Certificate) -> str:
+    return "".join(",".join(map(str, record)) + "\n" for record in s.records())
+
+
+def part_of_box(text: str) -> Fraction:
+    try:
+        part = Fraction(text)
+    except (ValueError, ZeroDivisionError):
+        part = Fraction(0)
+    if not Fraction(1, 1000) <= part <= 1:
+        raise argparse.ArgumentTypeError(f"a part from 0.001 to 1 is expected, and it is {text}")
+    return part
+
+
+def main() -> int:
+    parser = Parser(__doc__)
+    for word in ("design", "controller"):
+        parser.add_argument(word, metavar=word.upper())
+    parser.add_argument("certificate", metavar="CERTIFICATE", nargs="?")
+    parser.add_argument("--within", type=part_of_box, metavar="PART")
+    parser.add_argument("--disturbances", metavar="FILE")
+    parser.add_argument("--turns", type=whole(1, 4096), default=1000, metavar="N")
+    given = parser.parse_args()
+    inputs = {"DESIGN": given.design, "CONTROLLER": given.controller} | ({"FILE": given.disturbances} if given.disturbances else {})
+    files.keep_apart(inputs, {"CERTIFICATE": given.certificate or files.STANDARD_OUTPUT})
+    design, text = read_design(given.design), read_text(given.controller)
+    if kind_of(text) != "controller":
+        raise Refusal(f"{given.controller} is no controller text: `./mpc lean` and `./mpc generate` write one")
+    controller = controller_of(text)
+    matching.refuse(f"the controller {given.controller}", "design", matching.controller_difference(controller, design))
+    still = [0] * design.states
+    low, high = box_in(given.disturbances, design) if given.disturbances else (still, still)
+    found = Proposal(design, controller, low, high, given.turns).best((given.within,) if given.within else RESTS)
+    for line in said(design, found, bool(given.disturbances)):
+        say(line)
+    if given.certificate:
+        files.write(given.certificate, certificate_text(found.certificate))
+    else:
+        sys.stdout.write(certificate_text(found.certificate))
+    return 0
+
+
+if __name__ == "__main__":
+    run(main)
