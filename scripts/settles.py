@@ -1,18 +1,19 @@
 #!/usr/bin/env python3
 """Proposes a certificate that closed loops settle: from which part of the box they all lie in a small box from a turn on, under every disturbance of a range.
 
-    scripts/settles.py DESIGN CONTROLLER [CERTIFICATE] [--within PART] [--disturbances FILE] [--turns N]
+    scripts/settles.py DESIGN CONTROLLER [CERTIFICATE] [--within PART] [--disturbances FILE] [--turns N] [--promise FILE]
 
 In a box in which no multiplier of the controller moves, the still box, the closed loop is a matrix, but for floors and rounding; so whole numbers show where its loops lie turn by turn. All boxes
 are parts of the controller's box about the state at which its loop rests, one factor each: the largest still box, then the largest start box from which loops keep in that and come to
-the box of rest, PART of the box; then the fewest turns from the start box, and back to the box of rest from it. Without --within the box of rest is the first of 5, 10, 15, 25 and 50 % that
-loops settle in.
+the box of rest, PART of the box; then the fewest turns from the start box, and back to the box of rest from it. Without --within the box of rest is the first of 5, 10, 15, 20, 30, 40 and
+50 % that loops settle in.
 
 The certificate goes to CERTIFICATE, or is printed, and what it says to standard error. Nothing rests on it: it is tested in the program's whole numbers, by `settle`.
 
     --within PART         the box of rest, as a part of the controller's box, from 0.001 to 1
     --disturbances FILE   two records, a number for each coordinate over `2^grid`: the least and the greatest that is added to a next state
     --turns N             at most so many turns (1000)
+    --promise FILE        writes what `settle` prints of the certificate: from which turn on, and where every loop lies from then on
 
 Where there is none, it says what is in the way, and ends with status 12.
 """
@@ -25,14 +26,15 @@ from fractions import Fraction
 
 from common import files, matching
 from common.arguments import Parser, whole
-from common.design_text import Design, plain, read_design
+from common.design_text import Design, read_design
 from common.disturbances import box_in
 from common.libraries import Refusal, run, say
+from common.promises import Promise, certificate_text, ends_of, percent, promise_text, time_of
 from common.texts import Controller, controller_of, kind_of, read_text
 from common.tubes import Box, Certificate, Loop, Stillness, Tubes, first_fault, settled_box
 
 # parts of the box that are tried for the box of rest, and how finely other parts are found
-RESTS = (Fraction(1, 20), Fraction(1, 10), Fraction(3, 20), Fraction(1, 4), Fraction(1, 2))
+RESTS = tuple(Fraction(part, 100) for part in (5, 10, 15, 20, 30, 40, 50))
 FINE = 2**12
 NONE = 12
 
@@ -130,34 +132,16 @@ class Proposal:
         return f"loops from {where} aren't shown to be back there: after {self.most} turns {name.word} may be {name.shown(beyond[1] / 2**self.design.grid)}"
 
 
-def percent(part: Fraction) -> str:
-    return f"{plain(100 * part)} %"
-
-
-def time_of(design: Design, turns: int) -> str:
-    """Turns in words, with the time that they take."""
-    return f"{turns} turn{'s' * (turns != 1)}" + (f" ({plain(turns * design.period)} s)" if design.period else "")
-
-
-def ends_of(design: Design, box: Box) -> str:
-    """A box in the units of its design."""
-    out = []
-    for i, (low, high) in enumerate(zip(box.low, box.high)):
-        name, scale = design.name("state", i + 1), 2**design.grid
-        out.append(f"{name.word} within {name.shown(high / scale)}" if low == -high else f"{name.word} from {name.shown(low / scale)} to {name.shown(high / scale)}")
-    return ", ".join(out)
-
-
 def said(design: Design, found: Found, disturbed: bool) -> list[str]:
     """What a certificate says, in words."""
     s = found.certificate
-    under = " under every disturbance of the range" if disturbed else ""
-    first = f"every loop from {percent(found.start)} of the box lies within {percent(found.rest)} of it after {time_of(design, s.turns)}{under}, and is back there each {time_of(design, s.back)}"
-    return [first, f"from then on, for ever: {ends_of(design, found.settled)}", f"no multiplier moves in {percent(found.still)} of the box, which no such loop leaves"]
-
-
-def certificate_text(s: Certificate) -> str:
-    return "".join(",".join(map(str, record)) + "\n" for record in s.records())
+    after = f"after {time_of(design, s.turns)}{' under every disturbance of the range' if disturbed else ''}"
+    again = ", for ever" if s.back == 1 else f", and again every {time_of(design, s.back)}"
+    return [
+        f"every loop from {percent(found.start)} of the box lies within {percent(found.rest)} of it {after}{again}",
+        f"from then on, for ever: {ends_of(design, found.settled)}",
+        f"no multiplier moves in {percent(found.still)} of the box, which no such loop leaves",
+    ]
 
 
 def part_of_box(text: str) -> Fraction:
@@ -178,9 +162,10 @@ def main() -> int:
     parser.add_argument("--within", type=part_of_box, metavar="PART")
     parser.add_argument("--disturbances", metavar="FILE")
     parser.add_argument("--turns", type=whole(1, 4096), default=1000, metavar="N")
+    parser.add_argument("--promise", metavar="FILE")
     given = parser.parse_args()
-    inputs = {"DESIGN": given.design, "CONTROLLER": given.controller} | ({"FILE": given.disturbances} if given.disturbances else {})
-    files.keep_apart(inputs, {"CERTIFICATE": given.certificate or files.STANDARD_OUTPUT})
+    inputs = {"DESIGN": given.design, "CONTROLLER": given.controller} | ({"--disturbances": given.disturbances} if given.disturbances else {})
+    files.keep_apart(inputs, {"CERTIFICATE": given.certificate or files.STANDARD_OUTPUT} | ({"--promise": given.promise} if given.promise else {}))
     design, text = read_design(given.design), read_text(given.controller)
     if kind_of(text) != "controller":
         raise Refusal(f"{given.controller} is no controller text: `./mpc lean` and `./mpc generate` write one")
@@ -191,6 +176,8 @@ def main() -> int:
     found = Proposal(design, controller, low, high, given.turns).best((given.within,) if given.within else RESTS)
     for line in said(design, found, bool(given.disturbances)):
         say(line)
+    if given.promise:
+        files.write(given.promise, promise_text(Promise(found.certificate.turns, found.settled)))
     if given.certificate:
         files.write(given.certificate, certificate_text(found.certificate))
     else:

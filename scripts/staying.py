@@ -32,7 +32,7 @@ from common.design_text import Design, plain
 from common.kept_boxes import Plant, covered, largest, short_of
 from common.lean_plans import LeanPlans
 from common.model_text import model_text
-from common.models import Model, neat, read_model
+from common.models import Model, grid_disturbances, neat, read_model
 from common.programs import Programs
 from common.turns import candidates
 from coordinates import COUPLED, TIMES, Choice, changed, told
@@ -87,13 +87,6 @@ def with_limits(model: Model, choice: Staying) -> dict:
     lo = box.get("lo", [-v for v in box["hi"]])
     box["stay"] = [neat(part * (high - low) / 2) for part, low, high in zip(choice.stay, lo, box["hi"])]
     return text | {"box": box} | ({"stages": choice.stages} if choice.stages else {})
-
-
-def grid_disturbances(model: Model, design: Design) -> tuple[list[int], list[int]]:
-    """The least and the greatest that is added to a next state, over `2^grid`."""
-    own = [math.ceil(v / u * 2**design.grid - 1e-9) for v, u in zip(model.disturbed, model.state_units)]
-    most = own + [0] * (design.states - len(own))
-    return [-v for v in most], most
 
 
 def plant_of(model: Model) -> Plant:

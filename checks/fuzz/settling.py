@@ -74,8 +74,8 @@ def read_certificate(data, outer):
 def lines_of(s, box):
     """What is promised: from which turn on, and the box, a line a coordinate."""
     yield f"turn {s.turns}\n".encode()
-    for low, high in zip(box.low, box.high):
-        yield f"{low} {high}\n".encode()
+    for i, (low, high) in enumerate(zip(box.low, box.high), 1):
+        yield f"state {i} {low} {high}\n".encode()
 
 
 # ---- where no multiplier moves

@@ -69,7 +69,7 @@ import numpy
 import scipy.io
 import scipy.linalg
 
-from common.design_text import Name, plain
+from common.design_text import Design, Name, plain
 from common.files import read_bytes
 from common.model_schema import changed, faults_of, version_of
 
@@ -391,3 +391,10 @@ def read_model(path: str, plant_alone: bool = False) -> Model:
         return Model(with_plant(model, os.path.dirname(path)), plant_alone)
     except Refusal as fault:
         raise Refusal("\n".join(f"{path}: {line}" for line in str(fault).splitlines())) from None
+
+
+def grid_disturbances(model: Model, design: Design) -> tuple[list[int], list[int]]:
+    """The least and the greatest that is added to a next state, over `2^grid`."""
+    own = [math.ceil(v / u * 2**design.grid - 1e-9) for v, u in zip(model.disturbed, model.state_units)]
+    most = own + [0] * (design.states - len(own))
+    return [-v for v in most], most

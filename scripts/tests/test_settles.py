@@ -16,7 +16,9 @@ import settle_cases
 import settling
 
 import settles
+from common import promises
 from common.design_text import design_of
+from common.libraries import missing
 from common.texts import controller_of
 from common.tubes import Box, Certificate, Loop, Stillness, Tubes, first_fault, settled_box
 
@@ -27,7 +29,7 @@ STILL = [0] * 6
 def lean_texts(name):
     """The design of an example, and its lean controller with the model's gains."""
     read = {}
-    for word, place in (("d", "design.toml"), ("p", "policy.csv"), ("q", "reference.csv")):
+    for word, place in (("d", "design.toml"), ("p", "lean.csv"), ("q", "reference.csv")):
         with open(os.path.join(EXAMPLES, name, place), "rb") as file:
             read[word] = file.read()
     said = program.answer("lean d p q c r".split(), read.get, lambda name: True, model.gains)
@@ -118,6 +120,7 @@ class Command(unittest.TestCase):
         design, controller = lean_texts(name)
         folder, paths = folder_with(self, d=design, c=controller, **texts)
         paths["s"] = os.path.join(folder, "s")
+        self.paths = paths
         got = subprocess.run([sys.executable, os.path.join(TOP, "scripts", "settles.py"), *(paths.get(word, word) for word in ("d", "c", *words))], capture_output=True, text=True)
         written = ""
         if os.path.exists(paths["s"]):
@@ -129,7 +132,7 @@ class Command(unittest.TestCase):
         got, written = self.settle("motor", "s")
         self.assertEqual((got.returncode, got.stdout), (0, ""))
         self.assertEqual(written, "9,-448,-1009,448,1009\n0,-448,-1009,448,1009\n1,-25,-57,25,57\n")
-        self.assertIn("every loop from 87.67 % of the box lies within 5 % of it after 9 turns (0.045 s), and is back there each 1 turn (0.005 s)", got.stderr)
+        self.assertIn("every loop from 87.67 % of the box lies within 5 % of it after 9 turns (0.045 s), for ever", got.stderr)
         self.assertIn("for ever: angle in 8 ms within 0.02441 rad, speed within 4.453 rad/s", got.stderr)
         self.assertEqual(settling.read_certificate(written.encode(), settling.Box([-512, -1152], [512, 1152])).turns, 9)
 
@@ -140,8 +143,38 @@ class Command(unittest.TestCase):
     def test_disturbed(self):
         got, written = self.settle("motor/stay", "s", "--disturbances", "w", w="-9,-9\n9,9\n")
         self.assertEqual(got.returncode, 0)
-        self.assertIn("within 10 % of it after 13 turns (0.065 s) under every disturbance of the range", got.stderr)
+        self.assertIn("within 10 % of it after 13 turns (0.065 s) under every disturbance of the range, for ever", got.stderr)
         self.assertTrue(written.startswith("13,"))
+
+    def test_promise(self):
+        """What `settle` prints of it, in words and in a picture."""
+        got, _ = self.settle("motor", "s", "--promise", "p", p="")
+        self.assertEqual(got.returncode, 0)
+        design, promise = self.paths["d"], self.paths["p"]
+        with open(promise, encoding="ascii") as file:
+            self.assertEqual(file.read(), "turn 9\nstate 1 -25 25\nstate 2 -57 57\n")
+        explain = lambda *paths: subprocess.run([sys.executable, os.path.join(TOP, "scripts", "explain.py"), *paths], capture_output=True, text=True)
+        words = "every loop from its certificate's start box lies after 9 turns (0.045 s), for ever, with angle in 8 ms within 0.02441 rad, speed within 4.453 rad/s\n"
+        self.assertEqual(explain(promise, design).stdout, words)
+        self.assertIn("is explained with its design", explain(promise).stderr)
+
+    @unittest.skipIf(missing("matplotlib"), "no matplotlib")
+    def test_picture(self):
+        import plot
+
+        design = design_of(lean_texts("motor")[0])
+        certificate = promises.certificate_of("9,-448,-1009,448,1009\n0,-448,-1009,448,1009\n1,-25,-57,25,57\n", 2)
+        settled = plot.Settles(promises.promise_of("turn 9\nstate 1 -25 25\nstate 2 -57 57\n", 2), certificate)
+        turns = [([0, 0], [0])] * 12
+        for drawn, areas in ((settled, 2), (plot.Settles(settled.promise), 1), (None, 0)):
+            axes = plot.draw(design, [{1: turns}], ["loop"], settles=drawn).axes
+            self.assertEqual([len(axis.collections) for axis in axes], [areas, areas, 0])
+        ends = plot.draw(design, [{1: turns}], ["loop"], settles=plot.Settles(settled.promise)).axes[0].collections[0].get_paths()[0].get_extents()
+        # 25 of 512 steps of 0.5 rad, from 0.045 s to the last turn
+        for found, wanted in zip((ends.x0, ends.x1, ends.y1), (0.045, 0.055, 25 / 512 * 0.5)):
+            self.assertAlmostEqual(found, wanted)
+        with self.assertRaisesRegex(settles.Refusal, "--certificate is drawn with --settled"):
+            plot.read_settles(None, "c", design)
 
     def test_refused(self):
         for name, words, line in (

@@ -55,14 +55,14 @@ class Worked(unittest.TestCase):
 
     def test_accepted(self):
         for certificate, shifts, told_of in (
-            (CERTIFICATE, None, "turn 4\n-2 2\n"),
-            (b"5,-31,32\n0,-31,32\n1,-1,1\n", None, "turn 5\n-1 1\n"),
-            (b"0,-1,1\n0,-31,32\n1,-1,1\n", None, "turn 0\n-1 1\n"),
+            (CERTIFICATE, None, "turn 4\nstate 1 -2 2\n"),
+            (b"5,-31,32\n0,-31,32\n1,-1,1\n", None, "turn 5\nstate 1 -1 1\n"),
+            (b"0,-1,1\n0,-31,32\n1,-1,1\n", None, "turn 0\nstate 1 -1 1\n"),
             # 2 of the start, and 15/8 of what each turn adds, 1/2 by rounding, 1 by a disturbance and 1/128 by a floor; from 3 back to 3 + 1/128
-            (b"4,-31,32\n0,-31,32\n1,-4,4\n", b"-1\n1\n", "turn 4\n-4 4\n"),
-            (b"5,-31,32\n0,-31,32\n1,-3,3\n", b"-1\n1\n", "turn 5\n-3 3\n"),
+            (b"4,-31,32\n0,-31,32\n1,-4,4\n", b"-1\n1\n", "turn 4\nstate 1 -4 4\n"),
+            (b"5,-31,32\n0,-31,32\n1,-3,3\n", b"-1\n1\n", "turn 5\nstate 1 -3 3\n"),
             # from 1 it may have gone to 2 on its way back, and is there again
-            (b"1,0,0\n0,-31,32\n2,-2,2\n", b"-1\n1\n", "turn 1\n-2 2\n"),
+            (b"1,0,0\n0,-31,32\n2,-2,2\n", b"-1\n1\n", "turn 1\nstate 1 -2 2\n"),
         ):
             self.assertEqual(self.answer(certificate, shifts), told_of)
 
