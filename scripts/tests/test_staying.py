@@ -2,6 +2,7 @@
 import contextlib
 import functools
 import io
+import math
 import os
 import random
 import signal
@@ -139,6 +140,24 @@ class Search(unittest.TestCase):
         model = Model(self.mass()[0])
         design = staying.in_floats(model)
         self.assertGreater(staying.steps_of(design, True), 4 * staying.steps_of(design, False))
+
+    def test_worth(self):
+        """What a run takes of a stage counts, and most where it is nearly all."""
+        made = lambda steps, share, covers=0.5: staying.Staying(covers=covers, steps=steps, share=share).worth
+        self.assertEqual(made(40, 0.02), made(3, 0.001))
+        self.assertGreater(made(40, 0.02), made(40, 0.2))
+        self.assertGreater(made(40, 0.02), made(400, 0.02))
+        # half the box rather than a run that is longer than a stage, and rather a larger box than less of a stage that is long
+        self.assertGreater(made(20, 0.1, 0.4), made(400, 2.0, 0.8))
+        self.assertGreater(made(400, 0.01, 0.8), made(20, 0.0005, 0.5))
+        self.assertEqual(made(math.inf, 0.0), -math.inf)
+
+    def test_share_of_a_stage(self):
+        design = read_design(os.path.join(EXAMPLES, "motor", "design.toml"))
+        # 4 rows and their opposites, over 4 entries: 4 * (4 * 3.9 + 16), 4 factors of 10, 4 * 24 and 4 * 34
+        share = staying.share_of(design, 9, 0.005, 100.0)
+        self.assertAlmostEqual(share, 9 * (4 * (4 * 3.9 + 16) + 10 * 4 + 4 * 24 + 4 * 34) / 5e5)
+        self.assertAlmostEqual(staying.share_of(design, 9, 0.005, 50.0), 2 * share)
 
     def test_two_inputs(self):
         # the rows at the ends are rounded, and limits of the hexagon make up for it in both voltages
