@@ -37,7 +37,7 @@ from common.model_text import model_text
 from common.models import Model, grid_disturbances, neat, read_model
 from common.programs import Programs
 from common.turns import candidates
-from coordinates import COUPLED, TIMES, Choice, changed, told
+from coordinates import COUPLED, TIMES, Choice, changed, four, told
 from draft import corner_plans, drafted, in_floats, too_wide
 from policy import find as find_policy
 from policy import find_lean, plans_with
@@ -97,7 +97,25 @@ def with_limits(model: Model, choice: Staying) -> dict:
     box = dict(text["box"])
     lo = box.get("lo", [-v for v in box["hi"]])
     box["stay"] = [neat(part * (high - low) / 2) for part, low, high in zip(choice.stay, lo, box["hi"])]
-    return text | {"box": box} | ({"stages": choice.stages} if choice.stages else {})
+    text |= {"box": box} | ({"stages": choice.stages} if choice.stages else {})
+    kept = dict(zip(model.last, choice.kept[model.n - len(model.last) :]))
+    if min(kept.values(), default=1.0) < 1 and "last" not in model.text["box"]:
+        # the box of a last input is that of its limits with their tolerances
+        del box["last"]
+        text["limit"] = [narrowed(model, limit, kept) for limit in text["limit"]]
+    return text
+
+
+def narrowed(model: Model, limit: dict, kept: dict[int, float]) -> dict:
+    """A limit, which is narrower where it is one on an input alone of whose last values a part is kept."""
+    l = model.input_alone(limit)
+    if l is None or kept.get(l, 1.0) == 1.0:
+        return limit
+    factor, tolerance, (least, most) = limit["input"][l], limit["tolerance"], model.reach_of_input(l)
+    middle = factor * (least + most) / 2
+    within = lambda end: middle + kept[l] * (end - middle)
+    ends = {"bound": lambda v: within(v + tolerance) - tolerance, "least": lambda v: within(v - tolerance) + tolerance}
+    return limit | {key: four(end(limit[key])) for key, end in ends.items() if key in limit and math.isfinite(limit[key])}
 
 
 def plant_of(model: Model) -> Plant:
@@ -109,7 +127,21 @@ def plant_of(model: Model) -> Plant:
     # half a step of the grid is what rounding takes
     shift = (numpy.array(high) + 0.5) / 2**design.grid
     own, kept = model.own, model.own + len(model.held)
-    return Plant(numpy.array(design.a), numpy.array(design.b), rows[:, :-1], rows[:, -1], (lo + hi) / 2, (hi - lo) / 2, shift, list(range(own, kept)), list(range(kept, model.n)))
+    a, b, middle, last = numpy.array(design.a), numpy.array(design.b), (lo + hi) / 2, list(range(kept, model.n))
+    ends = {} if "last" in model.text["box"] else ends_of_last(numpy.hstack([a, b]), rows, last, middle)
+    return Plant(a, b, rows[:, :-1], rows[:, -1], middle, (hi - lo) / 2, shift, list(range(own, kept)), last, ends)
+
+
+def ends_of_last(plant: numpy.ndarray, rows: numpy.ndarray, last: list[int], middle: numpy.ndarray) -> dict[int, tuple[int, float]]:
+    """The rows that are limits on the next last value of one input alone, each with that state and what the row comes to in the middle of its box."""
+    out = {}
+    for i in last:
+        of = plant[i]
+        for r, row in enumerate(rows[:, :-1]):
+            times = float(row @ of / (of @ of))
+            if times and numpy.allclose(row, times * of, rtol=1e-6, atol=1e-9 * abs(times)):
+                out[r] = (i, times * float(middle[i]))
+    return out
 
 
 # ---- what a choice costs, in floating point
@@ -195,7 +227,7 @@ class Search:
         if found is None or found.least <= 0:
             return None
         # a little less, so that two digits of `stay` do
-        choice.kept = [1.0 if half == 0 or i in self.plant.last or part == 1.0 else 0.998 * part for i, (part, half) in enumerate(zip(found.parts, self.plant.half))]
+        choice.kept = [1.0 if half == 0 or part == 1.0 else 0.998 * part for part, half in zip(found.parts, self.plant.half)]
         choice.covers = covered(self.plant, turn, numpy.array(choice.kept) * 1.003)
         return choice
 

@@ -144,14 +144,18 @@ class Model:
             return -most, most
         least, most = -math.inf, math.inf
         for limit in self.text.get("limit", []):
-            factors = limit.get("input", [])
-            alone = [i for i, f in enumerate(factors) if f] == [l] and not any(any(limit.get(key, [])) for key in ("state", "held", "change"))
-            if alone:
+            if self.input_alone(limit) == l:
+                factors = limit["input"]
                 ends = [(limit.get("least", -math.inf) - limit["tolerance"]) / factors[l], (limit.get("bound", math.inf) + limit["tolerance"]) / factors[l]]
                 least, most = max(least, min(ends)), min(most, max(ends))
         if not -math.inf < least <= most < math.inf:
             refuse([f"box.last: is missing; the greatest last value of input {l + 1} is expected, since it is a state and no limits keep the input on both sides"])
         return least, most
+
+    def input_alone(self, limit: dict) -> int | None:
+        """The input on which alone a limit is, where it is on one."""
+        factors = [l for l, factor in enumerate(limit.get("input", [])) if factor]
+        return factors[0] if len(factors) == 1 and not any(any(limit.get(key, [])) for key in ("state", "held", "change")) else None
 
     def sample(self, a: numpy.ndarray, b: numpy.ndarray) -> None:
         """A and B of all states, in the design's coordinates."""
