@@ -1,4 +1,6 @@
 """Designs, controllers, certificates and disturbances for run.py: most of them are accepted, or would be but for a number; and such whose numbers are large."""
+from itertools import product
+
 import cases
 import control
 import model
@@ -110,3 +112,25 @@ def settle_case(pick):
 
 def certificate_text(s):
     return records_text([[turns, *box.low, *box.high] for turns, box in ((s.turns, s.start), (0, s.still), (s.back, s.rest))])
+
+
+def settle_texts(pick):
+    """A design, a controller, a certificate, and disturbances or None, as texts; now and then one of them changed."""
+    made = None
+    while made is None:
+        made = settle_case(pick)
+    design, text, s, shifts = made
+    texts = [design, text, certificate_text(s), records_text([shifts.low, shifts.high]) if any(shifts.low + shifts.high) or pick.random() < 0.2 else None]
+    if pick.random() < 0.2:
+        at = pick.choice([0, 1, 2, 2, 2, 3])
+        texts[at] = texts[at] and cases.changed(pick, texts[at])
+    return texts
+
+
+def starts(pick, box):
+    """Corners of a start box, and states in it."""
+    if not all(low <= high for low, high in zip(box.low, box.high)):
+        return []
+    corners = list(product(*zip(box.low, box.high)))
+    inside = [tuple(pick.randrange(low, high + 1) for low, high in zip(box.low, box.high)) for _ in range(2)]
+    return pick.sample(corners, min(4, len(corners))) + inside
