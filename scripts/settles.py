@@ -3,10 +3,10 @@
 
     scripts/settles.py DESIGN CONTROLLER [CERTIFICATE] [--within PART] [--disturbances FILE] [--turns N] [--promise FILE]
 
-In a box in which no multiplier of the controller moves, the still box, the closed loop is a matrix, but for floors and rounding; so whole numbers show where its loops lie turn by turn. All boxes
-are parts of the controller's box about the state at which its loop rests, one factor each: the largest still box, then the largest start box from which loops keep in that and come to
-the box of rest, PART of the box; then the fewest turns from the start box, and back to the box of rest from it. Without --within the box of rest is the first of 5, 10, 15, 20, 30, 40 and
-50 % that loops settle in.
+In a box in which no multiplier of the controller moves, the still box, the closed loop is a matrix, but for floors and rounding; so whole numbers show where its loops lie turn by turn. The box
+of rest is PART of the controller's box, and the start box another part of it, both about the state at which the loop rests: the largest from which loops come to the box of rest, and on their
+way lie in a still box; then the fewest turns from it, and back to the box of rest from there. The still box is a part of the controller's box, too, where one will do, and else the least that
+loops need. Without --within the box of rest is the first of 5, 10, 15, 20, 30, 40 and 50 % that loops settle in.
 
 The certificate goes to CERTIFICATE, or is printed, and what it says to standard error. Nothing rests on it: it is tested in the program's whole numbers, by `settle`.
 
@@ -31,7 +31,7 @@ from common.disturbances import box_in
 from common.libraries import Refusal, run, say
 from common.promises import Promise, certificate_text, ends_of, percent, promise_text, time_of
 from common.texts import Controller, controller_of, kind_of, read_text
-from common.tubes import Box, Certificate, Loop, Stillness, Tubes, first_fault, settled_box
+from common.tubes import Box, Certificate, Loop, Stillness, Tubes, first_fault, hull, settled_box
 
 # parts of the box that are tried for the box of rest, and how finely other parts are found
 RESTS = tuple(Fraction(part, 100) for part in (5, 10, 15, 20, 30, 40, 50))
@@ -41,12 +41,12 @@ NONE = 12
 
 @dataclass
 class Found:
-    """A certificate, what part of the controller's box its boxes are, and where loops lie from its turn on."""
+    """A certificate, what parts of the controller's box its start box and its box of rest are, that of the still box where it is one, and where loops lie from its turn on."""
 
     certificate: Certificate
     start: Fraction
-    still: Fraction
     rest: Fraction
+    still: Fraction | None
     settled: Box
 
 
@@ -59,12 +59,14 @@ def largest(holds) -> Fraction | None:
     return Fraction(low, FINE) if low else None
 
 
-def turns_to(tubes: Tubes, start: Box, goal: Box, least: int, most: int) -> int | None:
-    """After how many turns loops from a box lie in another, no fewer than these, kept in the still box before."""
-    for turn, box in enumerate(tubes.boxes(start)):
-        if turn >= least and goal.holds(box):
-            return turn
-        if turn >= most or not tubes.still.holds(box):
+def way_to(tubes: Tubes, start: Box, goal: Box, least: int, most: int) -> list[Box] | None:
+    """Where loops from a box lie turn by turn, until they lie in another, after no fewer turns than these; None where they may leave the tubes' box before."""
+    way: list[Box] = []
+    for box in tubes.boxes(start):
+        way.append(box)
+        if len(way) > least and goal.holds(box):
+            return way
+        if len(way) > most or not tubes.still.holds(box):
             return None
     return None
 
@@ -85,7 +87,8 @@ class Proposal:
         if still is None:
             raise Refusal(f"a multiplier may move beside {self.words(centre)}, at which the loop rests", NONE)
         self.still = still
-        self.tubes = Tubes(self.loop, self.of(still))
+        # what rounding leaves of rows is paid over the whole box: a still box is a part of it
+        self.tubes = Tubes(self.loop, self.box)
 
     def of(self, part: Fraction) -> Box:
         return self.box.about(self.centre, part)
@@ -97,19 +100,27 @@ class Proposal:
     def settle(self, part: Fraction) -> Found | None:
         """The certificate of the largest start box whose box of rest is this part of the box."""
         rest = self.of(part)
-        back = turns_to(self.tubes, rest, rest, 1, self.most)
-        start = back and largest(lambda other: self.turns_from(other, rest) is not None)
-        turns = start and self.turns_from(start, rest)
-        if not back or not start or turns is None:
+        back = way_to(self.tubes, rest, rest, 1, self.most)
+        start = back and largest(lambda other: self.still_for(other, rest, back) is not None)
+        if not back or not start:
             return None
-        certificate = Certificate(turns, back, self.of(start), self.tubes.still, rest)
+        there, still = self.still_for(start, rest, back) or ([], None)
+        if still is None:
+            return None
+        wide = self.of(self.still)
+        certificate = Certificate(len(there) - 1, len(back) - 1, self.of(start), wide if wide.holds(still) else still, rest)
         fault = first_fault(self.loop, self.rows, certificate)
         if fault:
             raise Refusal(f"the certificate that was found isn't one: {' '.join(map(str, fault))}", NONE)
-        return Found(certificate, start, self.still, part, settled_box(self.tubes, certificate))
+        return Found(certificate, start, part, self.still if wide.holds(still) else None, settled_box(Tubes(self.loop, certificate.still), certificate))
 
-    def turns_from(self, part: Fraction, rest: Box) -> int | None:
-        return turns_to(self.tubes, self.of(part), rest, 0, self.most)
+    def still_for(self, part: Fraction, rest: Box, back: list[Box]) -> tuple[list[Box], Box] | None:
+        """The way from this part of the box to the box of rest, and the least box that holds it before, and the way back; None where a multiplier may move in that."""
+        there = way_to(self.tubes, self.of(part), rest, 0, self.most)
+        if there is None:
+            return None
+        still = hull(there[:-1] + back[:-1])
+        return None if self.rows.moves(still) is not None else (there, still)
 
     def best(self, parts: tuple[Fraction, ...]) -> Found:
         """The certificate of the first of these parts that has one."""
@@ -122,12 +133,11 @@ class Proposal:
     def why(self, part: Fraction) -> str:
         """What is in the way of the last part that was tried."""
         rest, where = self.of(part), f"within {percent(part)} of the box"
-        if not self.tubes.still.holds(rest):
+        if self.rows.moves(rest) is not None:
             return f"a multiplier may move {where}: none moves in {percent(self.still)} of it, where loops could be followed"
-        far = self.tubes.box(rest, self.most)
-        beyond = rest.beyond(far)
+        beyond = rest.beyond(self.tubes.box(rest, self.most))
         if beyond is None:
-            return f"loops from {where} leave {percent(self.still)} of the box, in which no multiplier moves, before they are back"
+            return f"on the way of loops from {where} back there a multiplier may move"
         name = self.design.name("state", beyond[0] + 1)
         return f"loops from {where} aren't shown to be back there: after {self.most} turns {name.word} may be {name.shown(beyond[1] / 2**self.design.grid)}"
 
@@ -140,7 +150,7 @@ def said(design: Design, found: Found, disturbed: bool) -> list[str]:
     return [
         f"every loop from {percent(found.start)} of the box lies within {percent(found.rest)} of it {after}{again}",
         f"from then on, for ever: {ends_of(design, found.settled)}",
-        f"no multiplier moves in {percent(found.still)} of the box, which no such loop leaves",
+        f"no multiplier moves in {f'{percent(found.still)} of the box' if found.still else f'the box of {ends_of(design, s.still)}'}, which no such loop leaves",
     ]
 
 

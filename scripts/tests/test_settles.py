@@ -55,7 +55,9 @@ class Examples(unittest.TestCase):
         self.assertIsNone(first_fault(loop, rows, s))
         self.assertEqual(first_fault(loop, rows, Certificate(s.turns - 1, s.back, s.start, s.still, s.rest))[0], "unsettled")
         wider = Box(tuple(v - 2 for v in s.still.low), tuple(v + 2 for v in s.still.high))
-        self.assertEqual(first_fault(loop, rows, Certificate(s.turns, s.back, s.start, wider, s.rest))[0], "moves")
+        if found.still:
+            self.assertEqual(first_fault(loop, rows, Certificate(s.turns, s.back, s.start, wider, s.rest))[0], "moves")
+        return found
 
     def test_motor(self):
         self.settles("motor", 87, "0.05", 9)
@@ -78,7 +80,14 @@ class Examples(unittest.TestCase):
         self.settles("motor/stay", 90, "0.05", 12)
 
     def test_rendezvous(self):
-        self.settles("rendezvous", 79, "0.05", 17, back=3)
+        # from 79 % where the still box is a part of the controller's
+        self.assertIsNone(self.settles("rendezvous", 80, "0.05", 17, back=3).still)
+
+    def test_antenna(self):
+        # from 39 % after 12 turns where it is
+        found = self.settles("antenna", 49, "0.05", 13, back=6)
+        self.assertIsNone(found.still)
+        self.assertTrue(found.certificate.still.holds(found.certificate.start))
 
     def test_disturbed(self):
         self.settles("satellite/stay", 98, "0.25", 12, shift=(4, 1))
