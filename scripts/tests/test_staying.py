@@ -265,7 +265,7 @@ grid = 8
 
     def test_limits_on_changes(self):
         with contextlib.redirect_stderr(io.StringIO()) as said:
-            found, holds = staying.search(Model(self.FILLED), seconds=60)
+            found, holds = staying.search(Model(self.FILLED), seconds=240)
         self.assertTrue(holds, said.getvalue())
         self.assertIn("of the box of last flow", said.getvalue())
         model = Model(found)
