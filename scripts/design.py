@@ -11,7 +11,8 @@ In FOLDER, which is made where it isn't there, stand then
     controller.txt    the controller, and report.txt its bounds (./mpc lean; with --generate ./mpc generate, which needs no reference plans)
     states.csv        corners and random states (scripts/states.py)
     loop.txt          the controller's loops from there (./mpc loop), and exact.txt those of exact model predictive control (scripts/exact_loop.py)
-    loop.svg          both in one picture (scripts/plot.py)
+    settle.csv        a certificate that loops settle, where one is found, and settled.txt where they lie from its turn on (scripts/settles.py, and ./mpc settle, which tests it)
+    loop.svg          loops, and where they settle, in one picture (scripts/plot.py)
     judged.txt        what the controller's plans do beside exact ones (scripts/judge.py)
     explained.txt     what the report holds, in the model's units (./mpc explain)
     report.html       all of it on one page, for a review, warnings first (scripts/report_page.py)
@@ -20,6 +21,8 @@ and where no loop is to leave the box, by --stay or by `stay` in the model's `[b
 
     faces.csv         the sums of limits that show that none does, and disturbances.csv the greatest disturbances of a turn that they bear (scripts/faces.py); ./mpc lean
                       tests them, with --generate ./mpc stay
+
+and where the model's `[box]` has `disturbed`, range.csv is the range of it under which loops settle.
 
     --generate    makes the controller that keeps far from its limits, by `generate` or `stay`: of more steps, mostly far more, and with real violations far below the printed ones
     --as-it-is    takes the model's own coordinates and box, whatever its loops do
@@ -30,7 +33,7 @@ and where no loop is to leave the box, by --stay or by `stay` in the model's `[b
     --corners N   at most so many corners to begin loops from (8); --random N so many random states (4); --seed N which of them (1)
     --states N    so many random states to judge, beside all corners (96)
 
-First it says what can be said at once (scripts/outlook.py): units, poles, corners without a plan, sizes. It ends with the status of the first step that is refused. Nothing rests on it: what `generate` checks is what counts.
+First it says what can be said at once (scripts/outlook.py): units, poles, corners without a plan, sizes; and last from which part of the box loops settle, and where. It ends with the status of the first step that is refused. Nothing rests on it: what `generate` checks is what counts.
 """
 import os
 import shlex
@@ -45,13 +48,16 @@ from typing import IO
 from common.libraries import PACKAGES, Refusal, need, run
 
 need(*PACKAGES)
-from common import files
+from common import files, usage
 from common.arguments import Parser, count, positive, turns
-from common.models import read_model
+from common.design_text import read_design
+from common.models import grid_disturbances, read_model
 
 TOP = os.path.dirname(os.path.dirname(os.path.realpath(__file__)))
 MADE = ["fitted.toml", "design.toml", "policy.csv", "reference.csv", "controller.txt", "report.txt", "states.csv", "loop.txt", "exact.txt", "loop.svg", "judged.txt", "explained.txt", "report.html"]
 STAYS = ["faces.csv", "disturbances.csv"]
+SETTLES = ["settle.csv", "settled.txt"]
+RANGE = "range.csv"
 LEFT_THE_BOX = 12
 
 
@@ -141,8 +147,39 @@ def make(steps: Steps, model: str, given: Namespace, stays: bool) -> None:
     steps.must("mpc", command, *texts, *made, *faces)
 
 
-def show(steps: Steps, given: Namespace) -> None:
-    """Loops and their picture, and what was measured beside what is printed."""
+def has_settle() -> bool:
+    """Whether the program has the command that tests a certificate."""
+    return "settle" in usage.commands()
+
+
+def settle(steps: Steps, model: str) -> list[str]:
+    """Where loops settle, in words: a certificate, under what the model is disturbed by where there is one of that, and what the program says of it. Nothing where none is found."""
+    design, controller, certificate, promise = map(steps.path, ("design.toml", "controller.txt", *SETTLES))
+    for path in (certificate, promise):
+        if os.path.exists(path):
+            os.remove(path)
+    for shifts in [*disturbed(steps, model, design), []]:
+        step = steps.run("scripts/settles.py", design, controller, certificate, "--promise", promise, *(["--disturbances", *shifts] if shifts else []))
+        if step.status not in (0, LEFT_THE_BOX):
+            raise Refusal(f"scripts/settles.py ended with status {step.status}: what stands above says why", step.status)
+        if step.status == 0:
+            if has_settle():
+                steps.must("mpc", "settle", design, controller, certificate, *shifts, to=promise)
+            return step.said.splitlines()
+    return []
+
+
+def disturbed(steps: Steps, model: str, design: str) -> list[list[str]]:
+    """The file of the range of disturbances that the model asks for, where it asks for any."""
+    made = read_model(model)
+    if not any(made.disturbed):
+        return []
+    files.write(steps.path(RANGE), "".join(",".join(map(str, end)) + "\n" for end in grid_disturbances(made, read_design(design))))
+    return [[steps.path(RANGE)]]
+
+
+def show(steps: Steps, model: str, given: Namespace) -> list[str]:
+    """Loops and their picture, and what was measured beside what is printed; and in words where loops settle."""
     design, controller, states, loop, exact = map(steps.path, ("design.toml", "controller.txt", "states.csv", "loop.txt", "exact.txt"))
     steps.must("scripts/states.py", design, states, "--corners", str(given.corners), "--random", str(given.random), "--seed", str(given.seed))
     left = steps.run("mpc", "loop", design, controller, states, str(given.turns), to=loop)
@@ -152,8 +189,10 @@ def show(steps: Steps, given: Namespace) -> None:
     elif left.status:
         raise Refusal(f"mpc loop ended with status {left.status}: what stands above says why", left.status)
     steps.must("scripts/exact_loop.py", design, states, str(given.turns), to=exact)
+    settled = settle(steps, model)
+    boxes = ["--settled", steps.path("settled.txt"), "--certificate", steps.path("settle.csv")] if settled else []
     if left.said:
-        steps.must("scripts/plot.py", design, loop, exact, "--labels", "controller,exact", "--report", steps.path("report.txt"), "--out", steps.path("loop.svg"))
+        steps.must("scripts/plot.py", design, loop, exact, "--labels", "controller,exact", "--report", steps.path("report.txt"), *boxes, "--out", steps.path("loop.svg"))
     judged = steps.must("scripts/judge.py", design, controller, steps.path("report.txt"), "--states", str(given.states), "--seed", str(given.seed), to=steps.path("judged.txt"))
     print("    " + judged.said.rstrip("\n").replace("\n", "\n    "))
     names = [steps.path("report.txt"), design, steps.path("policy.csv"), *([] if given.generate else [steps.path("reference.csv")]), controller]
@@ -163,6 +202,7 @@ def show(steps: Steps, given: Namespace) -> None:
             print(f"    {line}")
     if left.said:
         steps.must("scripts/report_page.py", steps.folder, steps.path("report.html"))
+    return settled
 
 
 def add_other_starts(steps: Steps, design: str, controller: str, states: str, loop: str, count: int) -> None:
@@ -216,13 +256,15 @@ def main() -> int:
     parser.add_argument("--seed", type=int, default=1, metavar="N")
     given = parser.parse_args()
     steps = Steps(given.folder)
-    files.keep_apart({"MODEL": given.model}, {name: steps.path(name) for name in MADE + STAYS})
+    files.keep_apart({"MODEL": given.model}, {name: steps.path(name) for name in [*MADE, *STAYS, *SETTLES, RANGE]})
     files.read_bytes(given.model)
     os.makedirs(given.folder, exist_ok=True)
     began, stays = time.monotonic(), given.stay or asks_to_stay(given.model)
     steps.must("scripts/outlook.py", given.model)
-    make(steps, fitted(steps, given.model, given, stays), given, stays)
-    show(steps, given)
+    model = fitted(steps, given.model, given, stays)
+    make(steps, model, given, stays)
+    settled = show(steps, model, given)
+    print("\n".join(settled) or "no certificate was found that loops settle: what scripts/settles.py says above is in the way")
     print(f"in {time.monotonic() - began:.0f} s: {steps.path('report.html')} has it all on one page, and {steps.path('controller.txt')} the controller")
     return 0
 

@@ -1,5 +1,5 @@
 #!/usr/bin/env python3
-"""Says what a report, a controller, a design with its policy, or the lines of `solve` and `loop` hold, in decimals and in the design's units.
+"""Says what a report, a controller, a design with its policy, or the lines of `solve`, `loop` and `settle` hold, in decimals and in the design's units.
 
     ./mpc explain FILE [DESIGN] [POLICY [REFERENCE]] [CONTROLLER] [REPORT] [--clock MHZ] [--cycles N]
 
@@ -13,6 +13,7 @@ follows from it:
                       its reference plans, the corner of the greatest excess
     cells             what `split` wrote, the controllers or the reports or both: the box of each cell, and what its report says
     lines             each number as a decimal; with a design, by name and unit
+    what settle says  with its design, the box in which every loop lies from its turn on
 
 It computes anew, in Python, what it says of a design and a policy, and changes nothing; the program's report is what counts.
 """
@@ -28,11 +29,12 @@ from common.corners import Corner, corners_of, cost_limit, lean_multiplier_of, m
 from common.design_text import Design, design_of, plain
 from common.excess import excesses_of
 from common.libraries import Refusal, run
+from common.promises import promise_of, promise_words
 from common.texts import Controller, cells_of, controller_of, kind_of, read_text, records_of, report_of, reports_of
 from common.trajectories import dot
 
 WORD = 32
-KINDS = {"design": "a design", "controller": "a controller", "cells": "cells", "report": "a report", "policy": "a policy", "reference": "a policy or reference plans", "lines": "lines of solve or loop, or nothing that is known"}
+KINDS = {"design": "a design", "controller": "a controller", "cells": "cells", "report": "a report", "policy": "a policy", "reference": "a policy or reference plans", "lines": "lines of solve or loop, or nothing that is known", "settled": "what settle says"}
 
 
 def bits_of(numbers: Iterable[int]) -> int:
@@ -333,6 +335,10 @@ def explain(texts: dict, clock: float = 100.0, cycles: float | None = None) -> I
     if design and policy:
         yield from bound_words(design, policy, report, reference)
         yield from size_words(design, policy, report, reference)
+    if "settled" in texts:
+        if design is None:
+            raise Refusal("what settle says is explained with its design: name that, too")
+        yield promise_words(design, promise_of(texts["settled"], design.states))
     lines = texts.get("lines", [])
     for line in lines.splitlines() if isinstance(lines, str) else lines:
         yield from line_words(line, design)

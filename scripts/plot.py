@@ -2,6 +2,7 @@
 """Draws the lines of `./mpc loop` over time: states and inputs with their limits, one curve for each start.
 
     scripts/plot.py DESIGN LINES [LINES ..] --out FILE.svg [--labels NAME,NAME] [--starts N,N] [--turns N] [--report REPORT] [--disturbances FILE [--bears BOX]]
+                    [--settled FILE [--certificate FILE]]
 
 The name of FILE says its format: .svg, .pdf or .png.
 
@@ -15,6 +16,8 @@ more in three, as positions, velocities and accelerations along three axes do.
     --report   a report of the design, whose violations are drawn too, dotted: how far a limit may be exceeded at most, which a lean controller does
     --disturbances   what was added to the next states of these loops, turn by turn (scripts/disturbed_loop.py); it is drawn below them, with the greatest that the box bears
                      (--bears, by scripts/faces.py) in grey
+    --settled        what `settle` printed: the box in which every loop lies from a turn on, in green; with --certificate also the box that these loops start in, as a bar, and
+                     lighter that in which no multiplier moves, up to that turn
 """
 import os
 from collections.abc import Iterator
@@ -31,7 +34,9 @@ from common import files, matching
 from common.arguments import Parser, numbers, several
 from common.design_text import Design, read_design
 from common.disturbances import box_in, numbers_in
+from common.promises import Promise, certificate_of, promise_of
 from common.texts import loop_lines_of, read_text, report_of
+from common.tubes import Certificate
 
 STYLES = ["-", "--", ":", "-."]
 ONE_COLUMN = 5
@@ -105,8 +110,28 @@ def draw_shifts(axes: list, design: Design, shifts: Shifts, turns: int | None, s
         axis.tick_params(labelsize=7)
 
 
+@dataclass
+class Settles:
+    """What `settle` promises, and the certificate of it."""
+
+    promise: Promise
+    certificate: Certificate | None = None
+
+
+def draw_settled(axes: list, design: Design, settles: Settles, turns: int, step: float) -> None:
+    """The boxes of loops that settle, each as long as loops lie in it."""
+    then, s = min(settles.promise.turn, turns), settles.certificate
+    for i, axis in enumerate(axes[: design.states]):
+        size = design.name("state", i + 1).size / 2**design.grid
+        ends = lambda box: (box.low[i] * size, box.high[i] * size)
+        axis.fill_between([then * step, turns * step], *ends(settles.promise.box), color="tab:green", alpha=0.3, linewidth=1.0)
+        if s:
+            axis.fill_between([0, then * step], *ends(s.still), color="tab:green", alpha=0.08, linewidth=0)
+            axis.plot([0, 0], ends(s.start), color="tab:green", alpha=0.5, linewidth=3.0)
+
+
 def draw(design: Design, files: list[dict], labels: list[str], starts: list[int] | None = None, turns: int | None = None, shifts: Shifts | None = None,
-         report: dict | None = None) -> Figure:
+         report: dict | None = None, settles: Settles | None = None) -> Figure:
     """The figure of these loops, a dictionary of record -> loop for each file."""
     own = design.states + design.inputs
     count = own + (len(shifts.drawn) if shifts else 0)
@@ -120,6 +145,9 @@ def draw(design: Design, files: list[dict], labels: list[str], starts: list[int]
     draw_limits(axes, design, report)
     if shifts:
         draw_shifts(axes[own:], design, shifts, turns, step)
+    if settles:
+        longest = max((len(loop) for loops in files for record, loop in loops.items() if not starts or record in starts), default=1)
+        draw_settled(axes, design, settles, min(longest, turns or longest) - 1, step)
     for number, (loops, label) in enumerate(zip(files, labels)):
         chosen = [record for record in sorted(loops) if not starts or record in starts]
         for place, record in enumerate(chosen):
@@ -169,6 +197,15 @@ def read_shifts(path: str | None, bears: str | None, design: Design) -> Shifts |
     return Shifts(numbers_in(path, design.states), box_in(bears, design) if bears else None)
 
 
+def read_settles(promise: str | None, certificate: str | None, design: Design) -> Settles | None:
+    """Where loops settle, where it is asked for."""
+    if promise is None:
+        if certificate is not None:
+            raise Refusal("--certificate is drawn with --settled", 2)
+        return None
+    return Settles(promise_of(read_text(promise), design.states), certificate_of(read_text(certificate), design.states) if certificate else None)
+
+
 def shown(path: str) -> str:
     """A file's name as a label, whatever its bytes are."""
     return os.fsencode(os.path.basename(path)).decode("utf-8", "replace")
@@ -185,9 +222,12 @@ def main() -> int:
     parser.add_argument("--report", metavar="REPORT")
     parser.add_argument("--disturbances", metavar="FILE")
     parser.add_argument("--bears", metavar="BOX")
+    parser.add_argument("--settled", metavar="FILE")
+    parser.add_argument("--certificate", metavar="FILE")
     given = parser.parse_args()
     inputs = {"DESIGN": given.design} | {f"LINES {place}": path for place, path in enumerate(given.lines, 1)}
-    inputs |= {word: path for word, path in (("REPORT", given.report), ("--disturbances", given.disturbances), ("--bears", given.bears)) if path}
+    others = ("REPORT", given.report), ("--disturbances", given.disturbances), ("--bears", given.bears), ("--settled", given.settled), ("--certificate", given.certificate)
+    inputs |= {word: path for word, path in others if path}
     files.keep_apart(inputs, {"--out": given.out})
     format_of(given.out)
     design = read_design(given.design)
@@ -195,12 +235,13 @@ def main() -> int:
     if report:
         matching.refuse("the report", "design", matching.report_difference(report, design))
     shifts = read_shifts(given.disturbances, given.bears, design)
+    settles = read_settles(given.settled, given.certificate, design)
     loops = [read_loops(path, design, given.starts, given.turns, shifts) for path in given.lines]
     labels = given.labels.split(",") if given.labels else [shown(path) for path in given.lines]
     if len(labels) != len(loops):
         raise Refusal(f"--labels has {len(labels)} names, and there are {len(loops)} files of lines", 2)
     prepare()
-    write(draw(design, loops, labels, given.starts, given.turns, shifts, report), given.out)
+    write(draw(design, loops, labels, given.starts, given.turns, shifts, report, settles), given.out)
     return 0
 
 

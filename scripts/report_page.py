@@ -4,8 +4,8 @@
     scripts/report_page.py FOLDER [PAGE]
 
 Warnings come first: what makes the controller of no use, or its promises of less. Then K and what a run takes, each limit with what is promised of it, what was measured, the box and
-what it bears, the loops beside exact model predictive control, and where K comes from. It reads design.toml, controller.txt, report.txt, judged.txt, explained.txt, loop.txt
-and loop.svg of FOLDER, and faces.csv and disturbances.csv where these are there. The page goes to PAGE, or is printed. It needs no library.
+what it bears, the loops beside exact model predictive control, where they settle, and where K comes from. It reads design.toml, controller.txt, report.txt, judged.txt, explained.txt,
+loop.txt and loop.svg of FOLDER, and faces.csv and disturbances.csv, and settle.csv and settled.txt, where these are there. The page goes to PAGE, or is printed. It needs no library.
 """
 import html
 import os
@@ -20,9 +20,11 @@ from common import files
 from common.arguments import Parser
 from common.design_text import Design, plain, read_design
 from common.libraries import Refusal, run
+from common.promises import certificate_of, promise_of, promise_words
 from common.texts import loop_lines_of, read_text, records_of, report_of
 
 TEMPLATE = os.path.join(os.path.dirname(os.path.realpath(__file__)), "common", "page.html")
+SETTLES = "settle.csv", "settled.txt"
 READ = ["design.toml", "controller.txt", "report.txt", "judged.txt", "explained.txt", "loop.txt", "loop.svg"]
 # what of a stage a run may take before it is told
 ENOUGH = 80.0
@@ -40,6 +42,7 @@ class Found:
     picture: str
     bears: list[list[int]] | None
     title: str
+    settles: str | None = None
 
 
 def read_folder(folder: str) -> Found:
@@ -52,7 +55,16 @@ def read_folder(folder: str) -> Found:
     if borne is not None and [len(record) for record in borne] != [design.states] * 2:
         raise Refusal(f"{bears}: two records of {design.states} numbers are expected, the least and the greatest disturbances")
     title = f"Controller of {os.path.basename(os.path.abspath(folder))}"
-    return Found(design, report_of(texts["report.txt"]), texts["judged.txt"].splitlines(), texts["explained.txt"].splitlines(), loops, texts["loop.svg"], borne, title)
+    return Found(design, report_of(texts["report.txt"]), texts["judged.txt"].splitlines(), texts["explained.txt"].splitlines(), loops, texts["loop.svg"], borne, title, settles_in(folder, design))
+
+
+def settles_in(folder: str, design: Design) -> str | None:
+    """Where loops settle, in words, where there is a certificate of it."""
+    certificate, promise = (os.path.join(folder, name) for name in SETTLES)
+    if not os.path.exists(certificate) or not os.path.exists(promise):
+        return None
+    start = certificate_of(read_text(certificate), design.states).start
+    return promise_words(design, promise_of(read_text(promise), design.states), start)
 
 
 # ---- what is said
@@ -148,12 +160,12 @@ def page(found: Found) -> str:
         title=html.escape(found.title),
         warnings=f'<div class="warnings"><strong>Warnings</strong>{listed(told)}</div>' if told else '<p class="well">Nothing is to be warned of.</p>',
         controller=listed(lines_with(found.explained, "every run", "no product", "the plan costs", "on a Cortex", "as C")),
-        promise="Promised for each state of the box; what was asked is the violation target." + (" No loop leaves the box: its faces stand beside, and lean or stay tested them where it made this controller of them." if found.bears else ""),
+        promise="Promised for each state of the box; what was asked is the violation target." + (" No loop leaves the box: its faces stand beside, and lean or stay tested them where it made this controller of them." if found.bears else "") + (f" Loops settle: {html.escape(found.settles)}." if found.settles else ""),
         limits=table(["limit", "asked", "promised", "of what was asked"], limit_rows(found)),
         measured=listed(found.judged),
         box=table(head, box_rows(found)),
         picture=drawing(found.picture),
-        caption="Full: the controller's loops. Dashed: exact model predictive control. Grey: the box. Red: limits, dotted as far as they may be exceeded.",
+        caption="Full: the controller's loops. Dashed: exact model predictive control. Grey: the box. Red: limits, dotted as far as they may be exceeded." + (" Green: the box in which loops that start in the bar settle." if found.settles else ""),
         origin=listed(lines_with(found.explained, "R = ", "K = ", "the least slack", "the greatest", "step 2^-", "curvature")),
         explained=html.escape("\n".join(found.explained)),
     )
@@ -164,7 +176,7 @@ def main() -> int:
     parser.add_argument("folder", metavar="FOLDER")
     parser.add_argument("page", metavar="PAGE", nargs="?")
     given = parser.parse_args()
-    inputs = {name: os.path.join(given.folder, name) for name in [*READ, "faces.csv", "disturbances.csv"]}
+    inputs = {name: os.path.join(given.folder, name) for name in [*READ, "faces.csv", "disturbances.csv", *SETTLES]}
     files.keep_apart(inputs, {"PAGE": given.page or files.STANDARD_OUTPUT})
     text = page(read_folder(given.folder))
     if given.page:

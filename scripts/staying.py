@@ -1,12 +1,13 @@
 #!/usr/bin/env python3
 """Proposes coordinates, limits on the next state and a box for which faces show that no loop ever leaves the box.
 
-    scripts/staying.py MODEL [NEW_MODEL] [--generate] [--steps N] [--seconds S]
+    scripts/staying.py MODEL [NEW_MODEL] [--generate] [--steps N] [--clock MHZ] [--seconds S]
 
 Each state whose faces don't hold by the model's own limits gets limits on the next state, by `stay` in the model's `[box]`: the next state is kept so much inside the box, and may exceed
 that by as much. From each corner some inputs must then lead back inside. Which box has such inputs at all its corners, and is the largest, a linear program says, of each choice of
 coordinates: the model's own, `position + T rate`, and those in which loops of linear gains shrink each by itself, with held states and last inputs in them, as `speed - reference`.
-Each box is judged by how much of the model's own it holds, and by the steps K of its controller: one of `lean`, or with --generate of `stay`, of at most N steps (20000).
+Each box is judged by how much of the model's own it holds, and by what its controller takes: which part of a stage a run is on a Cortex-M4 of so many MHz (100), and the steps K.
+A controller is one of `lean`, or with --generate of `stay`, of at most N steps (20000).
 
 What was tried goes to standard error, and every few seconds how far the search is: it ends after S seconds (60), or by an interrupt. The model with what was found goes to NEW_MODEL, or
 is printed. Where `disturbed` stands in `[box]`, faces hold under it. Where nothing was found, NEW_MODEL gets the best that was seen, the status is 12, and it is said which corner,
@@ -28,14 +29,15 @@ import faces
 from common import files
 from common.arguments import Parser, positive, several
 from common.budget import Budget
+from common.c_costs import about_step
 from common.design_text import Design, plain
 from common.kept_boxes import Plant, covered, largest, short_of
 from common.lean_plans import LeanPlans
 from common.model_text import model_text
-from common.models import Model, neat, read_model
+from common.models import Model, grid_disturbances, neat, read_model
 from common.programs import Programs
 from common.turns import candidates
-from coordinates import COUPLED, TIMES, Choice, changed, told
+from coordinates import COUPLED, TIMES, Choice, changed, four, told
 from draft import corner_plans, drafted, in_floats, too_wide
 from policy import find as find_policy
 from policy import find_lean, plans_with
@@ -51,8 +53,10 @@ FACTORS, PARTS = (0.5, 0.8, 1.25, 2.0), (1.4, 0.7)
 TRIED, BETTER, PRICED, FINE = 0.25, 0.5, 0.7, 0.85
 # how many choices are made better, and how many priced
 FEW, SOME = 2, 3
-# e times the steps are worth so much of the box, as a logarithm; fewer than so many steps are worth nothing
-WORTH, CHEAP = 0.25, 40
+# e times the part of a stage, and e times the steps, are worth so much of the box, as a logarithm; less than so much of a stage, and fewer than so many steps, are worth nothing
+SHARE_WORTH, SMALL, STEPS_WORTH, FEW_STEPS = 0.25, 0.02, 0.1, 40
+# where a run takes more of a stage than this, e times as much is worth so much more
+ENOUGH, LONG_WORTH = 0.8, 2.0
 # less of the model's box than this is nothing
 NOTHING = 0.005
 # parts of the greatest slack at which plans are tried
@@ -64,12 +68,13 @@ EXCEEDED = {True: 4, False: 3}
 
 @dataclass
 class Staying(Choice):
-    """A choice with the parts of half the box by which the next state is kept inside, 0 for no limit; how much of the model's box it holds, about how many steps a run takes, and the parts
-    where each coordinate has limits; and fewer stages than the model's, where its own are refused."""
+    """A choice with the parts of half the box by which the next state is kept inside, 0 for no limit; how much of the model's box it holds, about how many steps a run takes, and which part of
+    a stage; the parts where each coordinate has limits; and fewer stages than the model's, where its own are refused."""
 
     stay: list = field(default_factory=list)
     covers: float = 0.0
     steps: float = math.inf
+    share: float = 0.0
     wide: list = field(default_factory=list)
     stages: int | None = None
 
@@ -77,7 +82,13 @@ class Staying(Choice):
     def worth(self) -> float:
         if self.covers < NOTHING or math.isinf(self.steps):
             return -math.inf
-        return math.log(self.covers) - WORTH * math.log(max(self.steps, CHEAP) / CHEAP)
+        beyond = lambda value, free: math.log(max(value, free) / free)
+        run = SHARE_WORTH * beyond(self.share, SMALL) + LONG_WORTH * beyond(self.share, ENOUGH) + STEPS_WORTH * beyond(self.steps, FEW_STEPS)
+        return math.log(self.covers) - run
+
+    @property
+    def run_words(self) -> str:
+        return f"K about {self.steps:.0f}, {plain(float(f'{100 * self.share:.2g}'))} % of a stage"
 
 
 def with_limits(model: Model, choice: Staying) -> dict:
@@ -86,14 +97,25 @@ def with_limits(model: Model, choice: Staying) -> dict:
     box = dict(text["box"])
     lo = box.get("lo", [-v for v in box["hi"]])
     box["stay"] = [neat(part * (high - low) / 2) for part, low, high in zip(choice.stay, lo, box["hi"])]
-    return text | {"box": box} | ({"stages": choice.stages} if choice.stages else {})
+    text |= {"box": box} | ({"stages": choice.stages} if choice.stages else {})
+    kept = dict(zip(model.last, choice.kept[model.n - len(model.last) :]))
+    if min(kept.values(), default=1.0) < 1 and "last" not in model.text["box"]:
+        # the box of a last input is that of its limits with their tolerances
+        del box["last"]
+        text["limit"] = [narrowed(model, limit, kept) for limit in text["limit"]]
+    return text
 
 
-def grid_disturbances(model: Model, design: Design) -> tuple[list[int], list[int]]:
-    """The least and the greatest that is added to a next state, over `2^grid`."""
-    own = [math.ceil(v / u * 2**design.grid - 1e-9) for v, u in zip(model.disturbed, model.state_units)]
-    most = own + [0] * (design.states - len(own))
-    return [-v for v in most], most
+def narrowed(model: Model, limit: dict, kept: dict[int, float]) -> dict:
+    """A limit, which is narrower where it is one on an input alone of whose last values a part is kept."""
+    l = model.input_alone(limit)
+    if l is None or kept.get(l, 1.0) == 1.0:
+        return limit
+    factor, tolerance, (least, most) = limit["input"][l], limit["tolerance"], model.reach_of_input(l)
+    middle = factor * (least + most) / 2
+    within = lambda end: middle + kept[l] * (end - middle)
+    ends = {"bound": lambda v: within(v + tolerance) - tolerance, "least": lambda v: within(v - tolerance) + tolerance}
+    return limit | {key: four(end(limit[key])) for key, end in ends.items() if key in limit and math.isfinite(limit[key])}
 
 
 def plant_of(model: Model) -> Plant:
@@ -105,7 +127,21 @@ def plant_of(model: Model) -> Plant:
     # half a step of the grid is what rounding takes
     shift = (numpy.array(high) + 0.5) / 2**design.grid
     own, kept = model.own, model.own + len(model.held)
-    return Plant(numpy.array(design.a), numpy.array(design.b), rows[:, :-1], rows[:, -1], (lo + hi) / 2, (hi - lo) / 2, shift, list(range(own, kept)), list(range(kept, model.n)))
+    a, b, middle, last = numpy.array(design.a), numpy.array(design.b), (lo + hi) / 2, list(range(kept, model.n))
+    ends = {} if "last" in model.text["box"] else ends_of_last(numpy.hstack([a, b]), rows, last, middle)
+    return Plant(a, b, rows[:, :-1], rows[:, -1], middle, (hi - lo) / 2, shift, list(range(own, kept)), last, ends)
+
+
+def ends_of_last(plant: numpy.ndarray, rows: numpy.ndarray, last: list[int], middle: numpy.ndarray) -> dict[int, tuple[int, float]]:
+    """The rows that are limits on the next last value of one input alone, each with that state and what the row comes to in the middle of its box."""
+    out = {}
+    for i in last:
+        of = plant[i]
+        for r, row in enumerate(rows[:, :-1]):
+            times = float(row @ of / (of @ of))
+            if times and numpy.allclose(row, times * of, rtol=1e-6, atol=1e-9 * abs(times)):
+                out[r] = (i, times * float(middle[i]))
+    return out
 
 
 # ---- what a choice costs, in floating point
@@ -130,6 +166,12 @@ def steps_of(design: Design, generate: bool) -> float:
     return 32 / 15 * max(1.0, bound * steep)
 
 
+def share_of(design: Design, steps: float, period: float, clock: float) -> float:
+    """About which part of a stage a run of so many steps takes on a Cortex-M4 of so many MHz."""
+    rows = Programs(design).rows
+    return steps * about_step(rows.round(12).tolist(), design.entries) / (period * clock * 1e6)
+
+
 def lost_coordinate(model: Model, design: Design, generate: bool) -> int | None:
     """The first coordinate without a limit on the next state that no sum of limits keeps in the box, each exceeded by a part of its tolerance."""
     excess = [EXCEEDED[not generate] * faces.SCALE // 4] * len(faces.first_rows(design))
@@ -147,8 +189,8 @@ def lost_coordinate(model: Model, design: Design, generate: bool) -> int | None:
     return None
 
 
-def priced(model: Model, choice: Staying, generate: bool) -> Staying:
-    """The choice with limits where faces need them and nowhere else, and about how many steps it takes; infinitely many where it has no faces or no plans."""
+def priced(model: Model, choice: Staying, generate: bool, clock: float) -> Staying:
+    """The choice with limits where faces need them and nowhere else, and about what a run takes; infinitely many steps where it has no faces or no plans."""
     stay = [0.0] * model.own
     while True:
         trial = replace(choice, stay=stay)
@@ -159,7 +201,8 @@ def priced(model: Model, choice: Staying, generate: bool) -> Staying:
         except Refusal:
             return replace(choice, steps=math.inf)
         if lost is None:
-            return replace(trial, steps=steps_of(design, generate), wide=choice.stay)
+            steps = steps_of(design, generate)
+            return replace(trial, steps=steps, share=share_of(design, steps, model.period, clock), wide=choice.stay)
         if lost >= model.own or stay[lost] or not choice.stay[lost]:
             return replace(choice, steps=math.inf)
         stay = [choice.stay[i] if i == lost else part for i, part in enumerate(stay)]
@@ -171,8 +214,8 @@ def priced(model: Model, choice: Staying, generate: bool) -> Staying:
 class Search:
     """Choices for a model, and the best of them."""
 
-    def __init__(self, model: Model, budget: Budget, generate: bool) -> None:
-        self.model, self.budget, self.generate, self.plant = model, budget, generate, plant_of(model)
+    def __init__(self, model: Model, budget: Budget, generate: bool, clock: float) -> None:
+        self.model, self.budget, self.generate, self.clock, self.plant = model, budget, generate, clock, plant_of(model)
         self.best: Staying | None = None
         self.pool: list[dict] = []
 
@@ -184,7 +227,7 @@ class Search:
         if found is None or found.least <= 0:
             return None
         # a little less, so that two digits of `stay` do
-        choice.kept = [1.0 if half == 0 or i in self.plant.last or part == 1.0 else 0.998 * part for i, (part, half) in enumerate(zip(found.parts, self.plant.half))]
+        choice.kept = [1.0 if half == 0 or part == 1.0 else 0.998 * part for part, half in zip(found.parts, self.plant.half)]
         choice.covers = covered(self.plant, turn, numpy.array(choice.kept) * 1.003)
         return choice
 
@@ -221,7 +264,7 @@ class Search:
         return list(rows.values())
 
     def tell(self, choice: Staying) -> None:
-        self.budget.best = f"best so far: {plain(100 * choice.covers)} % of the model's box {told(self.model, choice)}" + (f", K about {choice.steps:.0f}" if math.isfinite(choice.steps) else "")
+        self.budget.best = f"best so far: {plain(100 * choice.covers)} % of the model's box {told(self.model, choice)}" + (f", {choice.run_words}" if math.isfinite(choice.steps) else "")
 
     def better(self, choice: Staying, part: float) -> Staying:
         """The choice with single coordinates of others, and then with other T, one at a time, as long as its box holds more, within this part of the time."""
@@ -270,7 +313,7 @@ class Search:
         """Adds a choice with its price."""
         if sized is None:
             return
-        out.append(priced(self.model, sized, self.generate))
+        out.append(priced(self.model, sized, self.generate, self.clock))
         best = max(out, key=lambda one: one.worth)
         if math.isfinite(best.worth):
             self.best = best
@@ -285,7 +328,7 @@ class Search:
         for choice in self.prices(found):
             if not math.isfinite(choice.worth) or choice.steps > most or not self.budget.goes_on():
                 continue
-            say(f"{words_of(self.model, choice)}: {plain(100 * choice.covers)} % of the model's box, K about {choice.steps:.0f}")
+            say(f"{words_of(self.model, choice)}: {plain(100 * choice.covers)} % of the model's box, {choice.run_words}")
             wide = [replace(choice, stay=choice.wide)] * (choice.stay != choice.wide)
             fewer = [replace(choice, stages=-(-self.model.stages // part)) for part in (2, 4) if self.model.stages >= part]
             for trial in [choice, *wide, *fewer]:
@@ -374,7 +417,7 @@ def limit_words(model: Model, row: int) -> str:
     return f"the limit {in_floats(model).name('stage row', row + 1).word}"
 
 
-def search(model: Model, most: float = 20000.0, seconds: float = 60.0, generate: bool = False) -> tuple[dict, bool]:
+def search(model: Model, most: float = 20000.0, seconds: float = 60.0, generate: bool = False, clock: float = 100.0) -> tuple[dict, bool]:
     """The keys of a model whose design has faces, and whether they hold; else of the best that was seen."""
     if any(model.stay) and found_faces(model, generate):
         say("as it is: the faces hold")
@@ -383,7 +426,7 @@ def search(model: Model, most: float = 20000.0, seconds: float = 60.0, generate:
         say("the model's own limits keep it in the box")
         return model.text, True
     with Budget(seconds) as budget:
-        found = Search(model, budget, generate)
+        found = Search(model, budget, generate, clock)
         keys = found.run(most)
     if keys is not None:
         return keys, True
@@ -398,11 +441,12 @@ def main() -> int:
     parser.add_argument("new", metavar="NEW_MODEL", nargs="?")
     parser.add_argument("--generate", action="store_true")
     parser.add_argument("--steps", type=several, default=20000, metavar="N")
+    parser.add_argument("--clock", type=positive, default=100.0, metavar="MHZ")
     parser.add_argument("--seconds", type=positive, default=60.0, metavar="S")
     given = parser.parse_args()
     files.keep_apart({"MODEL": given.model}, {"NEW_MODEL": given.new or files.STANDARD_OUTPUT})
     model = read_model(given.model)
-    found, holds = search(model, given.steps, given.seconds, given.generate)
+    found, holds = search(model, given.steps, given.seconds, given.generate, given.clock)
     if not holds:
         say("no coordinates, no limits and no box were found for which faces hold, and the best that was seen is kept: stronger inputs, a smaller box or a smaller `disturbed` (docs/DESIGNING.md)")
     text = files.read_bytes(given.model).decode() if found is model.text else model_text(found, "a model whose loops never leave the box, by scripts/staying.py")

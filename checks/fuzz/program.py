@@ -16,12 +16,14 @@ import control
 import listing
 import model
 import held_boxes
+import settling
 import split_boxes
 from command_table import COUNTS, OUTPUTS
 from model import LIMIT, Refused
 
 NAMES = {1: "memory", 2: "usage", 3: "read-fault", 4: "write-fault", 5: "text", 6: "no-margin", 7: "curvature", 8: "too-many-steps", 9: "too-fine", 10: "too-wide",
-         11: "controller", 12: "outside-box", 13: "long", 14: "mismatch", 16: "unequal", 17: "no-stay", 18: "cell", 20: "listing", 21: "trap"}
+         11: "controller", 12: "outside-box", 13: "long", 14: "mismatch", 16: "unequal", 17: "no-stay", 18: "cell", 20: "listing", 21: "trap", 22: "too-wide-c",
+         23: "moves", 24: "unsettled", 25: "no-return"}
 OVER = 2**40
 
 
@@ -293,12 +295,24 @@ class Program:
             except listing.Trapped as trapped:
                 raise Refused(21, entry, *trapped.args)
 
-    def loop(self):
+    def plant_and_controller(self):
+        """The design and the controller, which must be of the same sizes."""
         d = self.text(1, model.read_design)
         c = self.text(2, control.read_controller)
         for name, design, controller in (("states", d.states, c.n), ("inputs", d.inputs, c.p), ("grid", d.grid, c.g)):
             if design != controller:
                 raise Refused(14, name, design, controller)
+        return d, c
+
+    def settle(self):
+        d, c = self.plant_and_controller()
+        s = self.text(3, lambda data: settling.read_certificate(data, settling.Box(c.lo, c.hi)))
+        shifts = self.text(4, lambda data: held_boxes.read_shift_box(data, d.states)) if len(self.words) > 4 else [[0] * d.states] * 2
+        for line in settling.lines_of(s, settling.check(d, c, s, settling.Box(*shifts))):
+            self.put(line)
+
+    def loop(self):
+        d, c = self.plant_and_controller()
         rows = self.text(3, lambda data: model.read_records(data, c.n))
         turns = int(self.words[4])
         shifts = [[0] * c.n] * turns if len(self.words) == 5 else self.text(5, lambda data: held_boxes.read_shifts(data, c.n, turns))

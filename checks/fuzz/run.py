@@ -9,7 +9,7 @@ determined: they are taken from the controller that the program wrote, once they
 product and partial sum traced, and all must fit its width; but a run of many steps of a controller that isn't of the kind `controller` only has its sums compared.
 
 A case is made of the seed and its number alone. --case runs one again and shows it; --kind makes all cases of that kind: generate, lean, border, stay, lean_stay, solve,
-controller, loop, list, play, split, serve, demo, usage. Of the kinds `stay` and `lean_stay` the first are the worked rows of `stay` that are accepted. Half of the designs are of
+controller, loop, settle, list, play, split, serve, demo, usage. Of the kinds `stay` and `lean_stay` the first are the worked rows of `stay` that are accepted. Half of the designs are of
 version 2; how many of these were accepted, and how many of them have a row with a smaller exponent, the last line says. With --table, faces, disturbances, cuts, policies (those of
 cells), cells or listings, the cases are worked texts of that kind, each cut after every one of its bytes, and with every byte replaced by a space, `-`, `0` and `9`. A border
 design's exact numbers, its enclosures, the corners of its policy in either class, or what its rows come to where they count 16 times, pass the limit by little or stay
@@ -18,6 +18,7 @@ its enclosures show, and both classes are counted beside the status, and whether
 Where `stay` is accepted, `generate` must write the same files, and no loop of 200 turns from corners of the box and random states, under disturbances in theirs, may leave
 it; so it is of `lean` with faces, a case of the kind `lean_stay`, and `lean` without. The sums of such loops are compared as long as the model makes no more products than
 --loop-products (5000000); after that the program's lines are counted, all the same.
+Where `settle` accepts, no loop of 200 turns from its start box, under disturbances in theirs, may leave the box where no multiplier moves, nor that which is printed from its turn on.
 A controller's own listing must put what `solve` puts.
 Where `split` is accepted, `generate` must write the same of a cell's design, and `serve` must serve states of the box by the controllers of their cells.
 Two sorts of case are counted apart. A design that TOML 1.1 reads and Python's reader (1.0) doesn't must still end with a status of generate. Where a run would be
@@ -42,6 +43,8 @@ import listing
 import listing_cases
 import model
 import program
+import settle_cases
+import settling
 import stay_cases
 import tables
 import held_boxes
@@ -50,6 +53,7 @@ import split_cases
 
 KINDS = ["generate"] * 22 + ["lean"] * 12 + ["border"] * 4 + ["stay"] * 14 + ["lean_stay"] * 6 + ["solve"] * 26 + ["controller"] * 18 + ["loop"] * 22 + ["list"] * 6 + ["play"] * 16
 KINDS += ["split"] * 12 + ["serve"] * 16 + ["usage"] * 4
+KINDS += ["settle"] * 14
 DEMO_EVERY = 2500
 # the most products that the model makes in a case, and the most in a run whose every value it traces
 MOST_PRODUCTS, MOST_TRACED = 3_000_000, 60_000
@@ -178,6 +182,11 @@ class Maker:
                 files["v"] = cases.changed(pick, files["v"])
         return Case("loop", ["loop", "d", "c", "s", turns, *(["v"] if "v" in files else [])], files)
 
+    def settle(self, pick):
+        design, text, certificate, shifts = settle_cases.settle_texts(pick)
+        files = {"d": design, "c": text, "s": certificate, **({"w": shifts} if shifts else {})}
+        return Case("settle", ["settle", *files], files)
+
     def list(self, pick):
         text = listing_cases.controller(pick, self.texts)[1]
         files = {"c": cases.changed(pick, text) if pick.random() < 0.4 else text}
@@ -282,6 +291,9 @@ class Runner:
         if case.kind == "split" and status == 0 and ran.returncode == 0 and not wrong and case.words[1:5] == ["d", "l", "p", "c"] and case.words[5] in ("r", "r.json"):
             wrong, more = self.check_split(case, left)
             notes = [*notes, *more]
+        if case.kind == "settle" and status == 0 and ran.returncode == 0 and not wrong and case.words[1:] == list(case.files):
+            wrong, more = self.check_settled(case)
+            notes = [*notes, *more]
         if case.kind == "border":
             d = model.read_design(case.files["d"])
             plans = model.read_policy(case.files["p"], d)
@@ -352,6 +364,27 @@ class Runner:
         kinds = [told, *(["a box in cells, of version 2"] if d.version == 2 else []), *(["a box in cells, with other multipliers"] if len({cell.clamp for cell in cells}) > 1 else [])]
         return wrong and f"serve: {wrong}", kinds + [f"its states: {note}" for note in notes if note == "too long for the model"]
 
+    def check_settled(self, case):
+        """Of a certificate that is accepted: loops from its start box lie where it says, at each turn."""
+        pick, d, c = random.Random(repr(case.files)), model.read_design(case.files["d"]), control.read_controller(case.files["c"])
+        s = settling.read_certificate(case.files["s"], settling.Box(c.lo, c.hi))
+        shifts = held_boxes.read_shift_box(case.files["w"], d.states) if "w" in case.files else [[0] * d.states] * 2
+        box, starts = settling.check(d, c, s, settling.Box(*shifts)), settle_cases.starts(pick, s.start)
+        files = {"d": case.files["d"], "c": case.files["c"], "t": stay_cases.records_text(starts), "v": stay_cases.records_text(stay_cases.shifts_within(pick, *shifts, TURNS))}
+        words = ["loop", "d", "c", "t", str(TURNS), "v"]
+        self.lay(files)
+        ran = self.started(words)
+        wrong, _, notes = self.compare(Case("stayed", words, files), ran, self.left(), files.get, None, None)
+        found = [[int(word) for word in line.split()] for line in ran.stdout.splitlines()]
+        if (ran.returncode, len(found)) != (0, TURNS * len(starts)):
+            return f"loop: {wrong or ''} of {TURNS * len(starts)} lines there are {len(found)}, and the status is {ran.returncode} {ran.stderr[:200]!r}", []
+        for start, turn, *rest in found:
+            here = settling.Box(rest[: d.states], rest[: d.states])
+            if not s.still.holds(here) or turn > s.turns and not box.holds(here):
+                return f"loop: at turn {turn} of start {start} the state {here.low} is outside", []
+        told = f"loops that settle{', under disturbances' if 'w' in case.files else ''}"
+        return wrong and f"loop: {wrong}", [told] + [f"its loops: {note}" for note in notes if note == "too long for the model"]
+
     def compare(self, case, ran, left, read, write, gains):
         budget, notes = [self.loop_products if case.kind in ("stayed", "served") else MOST_PRODUCTS], []
         instructions = [MOST_PLAYED]
@@ -391,7 +424,7 @@ class Runner:
         if case.kind == "serve" and said.status in (0, 12):
             notes.append("cells of both versions" if len({cell.version for cell in told.cells}) > 1 else "cells of one version")
         if said.line.endswith(b"not-toml\n") and not ran.stderr.endswith(b"not-toml\n"):
-            well = ran.returncode in (0, 3, 5, 6, 7, 8, 9, 10, 11, 12, 13, 14, 16, 17, 18)
+            well = ran.returncode in (0, 3, 5, 6, 7, 8, 9, 10, 11, 12, 13, 14, 16, 17, 18, 23, 24, 25)
             return None if well else f"status {ran.returncode}", ran.returncode, ["read by TOML 1.1 alone"]
         wrong = []
         if ran.returncode != said.status:

@@ -71,6 +71,17 @@ class Costs:
         return -(-at // widest) * widest + self.form.controller.entries * (16 if self.form.is_wide else 8)
 
 
+def about_step(rows, entries):
+    """About how many cycles a step takes, before there is a controller: by the factors of the limit rows and the count of a plan's entries, where opposite rows share their products. Of the
+    examples whose sums have one word it is 0.98 to 1.16 times what `Costs` says; of those with two and four words 0.6 and 0.4 times."""
+    counted = [tuple(row) for row in rows]
+    apart = {max(row, tuple(-v for v in row)) for row in counted}
+    a_product, an_entry = ENTRIES[NARROW]
+    _, looped, a_row, a_looped_row, a_pair = ROWS[NARROW]
+    of_rows = looped * sum(v != 0 for row in apart for v in row) + (a_row + a_looped_row) * len(apart) + a_pair * (len(counted) - len(apart))
+    return entries * (len(apart) * a_product + an_entry) + of_rows
+
+
 def rounded(value):
     """A number of two digits, with commas."""
     unit = 10 ** max(0, len(str(int(value))) - 2)

@@ -4,7 +4,7 @@ Inputs that do so at the corners do so, mixed as the corners are, at each state 
 """
 import functools
 import itertools
-from dataclasses import dataclass
+from dataclasses import dataclass, field
 
 from common.libraries import need
 
@@ -23,7 +23,8 @@ MOST_TURNED = 1e6
 @dataclass
 class Plant:
     """A plant with its limits `rows (x, u) <= bounds`, over their tolerances, and the box that is wanted of it: all before any turn of coordinates. `held` and `last` say which states are
-    such; `shift` is by how much each next state is moved from outside."""
+    such; `shift` is by how much each next state is moved from outside. `ends` has the limits on one input alone whose last value is a state: with its number, and what the limit comes to in
+    the middle of that state's box; where the box of last inputs is smaller, so is what such a limit leaves, by as much."""
 
     a: numpy.ndarray
     b: numpy.ndarray
@@ -34,6 +35,7 @@ class Plant:
     shift: numpy.ndarray
     held: list[int]
     last: list[int]
+    ends: dict[int, tuple[int, float]] = field(default_factory=dict)
 
     @property
     def n(self) -> int:
@@ -43,7 +45,7 @@ class Plant:
         """The plant in other coordinates; the box has the size that each had before."""
         back = numpy.linalg.inv(turn)
         rows = numpy.hstack([self.rows[:, : self.n] @ back, self.rows[:, self.n :]])
-        return Plant(turn @ self.a @ back, turn @ self.b, rows, self.bounds, turn @ self.middle, self.half, abs(turn) @ self.shift, self.held, self.last)
+        return Plant(turn @ self.a @ back, turn @ self.b, rows, self.bounds, turn @ self.middle, self.half, abs(turn) @ self.shift, self.held, self.last, self.ends)
 
     @functools.cached_property
     def even(self) -> bool:
@@ -137,12 +139,19 @@ class Program:
                     room = -least - sign * (plant.a[i] @ plant.middle - plant.middle[i])
                     self.add(sign * plant.a[i] * spread - own, number, sign * of_inputs, room, ("end", i, sign))
             for r, (row, bound) in enumerate(zip(plant.rows, plant.bounds)):
-                self.add(row[:n] * spread, number, row[n:], bound - self.slack - row[:n] @ plant.middle, ("limit", r, 0))
+                of_parts, least = row[:n] * spread, 0.0
+                if r in plant.ends:
+                    # the end of the last input's box is a tolerance beyond the limit
+                    i, middle = plant.ends[r]
+                    of_parts[i] -= bound + 1 - middle
+                    least = bound + 1 - middle
+                self.add(of_parts, number, row[n:], bound - least - self.slack - row[:n] @ plant.middle, ("limit", r, 0))
         return self.found(fixed)
 
     def found(self, fixed: bool) -> Kept | None:
         plant, n = self.plant, self.plant.n
-        free = [i for i in range(n) if plant.half[i] and i not in plant.last]
+        shrinks = {i for i, _ in plant.ends.values()}
+        free = [i for i in range(n) if plant.half[i] and (i not in plant.last or i in shrinks)]
         left, right, price = numpy.array(self.left), numpy.array(self.right), numpy.zeros(self.width)
         low, high = numpy.full(self.width, -numpy.inf), numpy.full(self.width, numpy.inf)
         low[:n], high[:n] = 0.0, self.caps

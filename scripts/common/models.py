@@ -69,7 +69,7 @@ import numpy
 import scipy.io
 import scipy.linalg
 
-from common.design_text import Name, plain
+from common.design_text import Design, Name, plain
 from common.files import read_bytes
 from common.model_schema import changed, faults_of, version_of
 
@@ -144,14 +144,18 @@ class Model:
             return -most, most
         least, most = -math.inf, math.inf
         for limit in self.text.get("limit", []):
-            factors = limit.get("input", [])
-            alone = [i for i, f in enumerate(factors) if f] == [l] and not any(any(limit.get(key, [])) for key in ("state", "held", "change"))
-            if alone:
+            if self.input_alone(limit) == l:
+                factors = limit["input"]
                 ends = [(limit.get("least", -math.inf) - limit["tolerance"]) / factors[l], (limit.get("bound", math.inf) + limit["tolerance"]) / factors[l]]
                 least, most = max(least, min(ends)), min(most, max(ends))
         if not -math.inf < least <= most < math.inf:
             refuse([f"box.last: is missing; the greatest last value of input {l + 1} is expected, since it is a state and no limits keep the input on both sides"])
         return least, most
+
+    def input_alone(self, limit: dict) -> int | None:
+        """The input on which alone a limit is, where it is on one."""
+        factors = [l for l, factor in enumerate(limit.get("input", [])) if factor]
+        return factors[0] if len(factors) == 1 and not any(any(limit.get(key, [])) for key in ("state", "held", "change")) else None
 
     def sample(self, a: numpy.ndarray, b: numpy.ndarray) -> None:
         """A and B of all states, in the design's coordinates."""
@@ -391,3 +395,10 @@ def read_model(path: str, plant_alone: bool = False) -> Model:
         return Model(with_plant(model, os.path.dirname(path)), plant_alone)
     except Refusal as fault:
         raise Refusal("\n".join(f"{path}: {line}" for line in str(fault).splitlines())) from None
+
+
+def grid_disturbances(model: Model, design: Design) -> tuple[list[int], list[int]]:
+    """The least and the greatest that is added to a next state, over `2^grid`."""
+    own = [math.ceil(v / u * 2**design.grid - 1e-9) for v, u in zip(model.disturbed, model.state_units)]
+    most = own + [0] * (design.states - len(own))
+    return [-v for v in most], most

@@ -128,8 +128,10 @@ def loop_lines_of(text, states, inputs, grid):
 
 
 def kind_of(text):
-    """'design', 'controller', 'cells', 'report', 'policy' or 'lines', by what the text begins with."""
+    """'design', 'controller', 'cells', 'report', 'settled', 'policy' or 'lines', by what the text begins with."""
     first = text.lstrip().split("\n", 1)[0]
+    if first.startswith("turn "):
+        return "settled"
     if first.startswith("mpc-controller"):
         return "controller"
     if first.startswith("mpc-cells"):

@@ -139,9 +139,10 @@ class WholeWay(unittest.TestCase):
         words = ["--turns", "20", "--states", "4", "--random", "1"]
         got = subprocess.run([os.path.join(TOP, "mpc"), "design", paths["model"], made, *words], capture_output=True, text=True)
         self.assertEqual((got.returncode, got.stderr), (0, ""), got.stdout)
-        self.assertEqual(sorted(os.listdir(made)), sorted(design.MADE))
+        self.assertEqual(sorted(os.listdir(made)), sorted([*design.MADE, *design.SETTLES]))
+        self.assertIn("every loop from 100 % of the box lies within 5 % of it after", got.stdout.splitlines()[-4])
         commands = [line for line in got.stdout.splitlines() if line.startswith("$ ")]
-        for step in ("outlook.py", "coordinates.py", "draft.py", "policy.py", "mpc lean", "states.py", "mpc loop", "exact_loop.py", "plot.py", "judge.py", "mpc explain"):
+        for step in ("outlook.py", "coordinates.py", "draft.py", "policy.py", "mpc lean", "states.py", "mpc loop", "exact_loop.py", "settles.py", "plot.py", "judge.py", "mpc explain"):
             self.assertTrue(any(step in command for command in commands), step)
         # each is a command that can be run by hand
         again = subprocess.run(commands[-1][2:], shell=True, capture_output=True, text=True)
@@ -151,8 +152,46 @@ class WholeWay(unittest.TestCase):
         by_cost = os.path.join(folder, "by_cost")
         got = subprocess.run([os.path.join(TOP, "mpc"), "design", paths["model"], by_cost, "--generate", *words], capture_output=True, text=True)
         self.assertEqual((got.returncode, got.stderr), (0, ""), got.stdout)
-        self.assertEqual(sorted(os.listdir(by_cost)), sorted(set(design.MADE) - {"reference.csv"}))
+        self.assertEqual(sorted(os.listdir(by_cost)), sorted({*design.MADE, *design.SETTLES} - {"reference.csv"}))
         self.assertIn("mpc generate", got.stdout)
+
+    def settled(self, *steps, model=MASS, program=True):
+        """What is said of loops that settle, and the commands that are run, each with its status and its words."""
+        folder, paths = folder_with(self, model=model, **{"design.toml": FIRST, "settle.csv": "old\n"})
+        ran, answers = [], iter(steps)
+
+        def run(_, *words, to=None):
+            ran.append(" ".join(os.path.basename(word) for word in words) + (f" > {os.path.basename(to)}" if to else ""))
+            return design.Step(*next(answers))
+
+        with unittest.mock.patch.object(design.Steps, "run", run), unittest.mock.patch.object(design, "has_settle", lambda: program):
+            said = design.settle(design.Steps(folder), paths["model"])
+        # one of before is not taken for one of now
+        self.assertFalse(os.path.exists(os.path.join(folder, "settle.csv")))
+        return said, ran, folder
+
+    def test_where_loops_settle(self):
+        script, test = "settles.py design.toml controller.txt settle.csv --promise settled.txt", "mpc settle design.toml controller.txt settle.csv"
+        said, ran, _ = self.settled((0, "every loop\nfrom then on\n"), (0, "turn 1\n"))
+        self.assertEqual((said, ran), (["every loop", "from then on"], [script, test + " > settled.txt"]))
+        # a program that hasn't the command tests no certificate, and where none is found there is nothing to test
+        self.assertEqual(self.settled((0, "every loop\n"), program=False)[:2], (["every loop"], [script]))
+        self.assertEqual(self.settled((12, "a multiplier may move\n"))[:2], ([], [script]))
+        for steps in (((1, ""),), ((0, ""), (25, ""))):
+            with self.assertRaisesRegex(design.Refusal, "ended with status"):
+                self.settled(*steps)
+
+    def test_where_disturbed_loops_settle(self):
+        script, under = "settles.py design.toml controller.txt settle.csv --promise settled.txt", " --disturbances range.csv"
+        model = MASS.replace("a = [[0.0, 1.0], [0.0, 0.0]]\nb = [[0.0], [1.0]]", "a = [[0.0]]\nb = [[1.0]]").replace('states = ["position m", "speed m/s"]', 'states = ["place m"]')
+        model = model.replace("hi = [1.0, 0.5]", "hi = [1.0]\ndisturbed = [0.1]").replace("{ state = [1.0, 0.0], weight = 2.0 }, { state = [0.0, 1.0], weight = 1.0 }", "{ state = [1.0], weight = 2.0 }")
+        said, ran, folder = self.settled((0, "every loop\n"), (0, ""), model=model)
+        self.assertEqual((said, ran), (["every loop"], [script + under, "mpc settle design.toml controller.txt settle.csv range.csv > settled.txt"]))
+        with open(os.path.join(folder, "range.csv"), encoding="ascii") as file:
+            low, high = map(int, file.read().split())
+        self.assertTrue(low == -high < 0)
+        # where it is too much, loops without it
+        self.assertEqual(self.settled((12, ""), (0, "every loop\n"), model=model, program=False)[1], [script + under, script])
 
     def test_starts_after_one_that_leaves(self):
         # of four starts the first leaves after a turn, and the third at once; the launcher ends at each
@@ -186,7 +225,7 @@ class WholeWay(unittest.TestCase):
         made, model = os.path.join(folder, "made"), os.path.join(EXAMPLES, "motor", "stay", "model.toml")
         got = subprocess.run([os.path.join(TOP, "mpc"), "design", model, made, "--turns", "5", "--states", "0", "--random", "0"], capture_output=True, text=True)
         self.assertEqual((got.returncode, got.stderr), (0, ""), got.stdout)
-        self.assertEqual(sorted(os.listdir(made)), sorted({*design.MADE, *design.STAYS}))
+        self.assertEqual(sorted(os.listdir(made)), sorted({*design.MADE, *design.STAYS, *design.SETTLES, design.RANGE}))
         self.assertIn("mpc lean", got.stdout)
         self.assertIn("as it is: the faces hold", got.stdout)
         beside = os.path.dirname(model)

@@ -5,9 +5,10 @@ import os
 import re
 import sys
 import unittest
+import unittest.mock
 
 import pages
-from tests.worked import TOP
+from tests.worked import TOP, folder_with
 
 sys.path.insert(0, os.path.join(TOP, "bench", "gate"))
 import page
@@ -45,6 +46,13 @@ class Pages(unittest.TestCase):
 
     def test_left_out_without_libraries(self):
         self.assertEqual(self.wrong({"./one a && ./two b": ["first", "  second"]}, ["numpy"]), [])
+
+
+    def test_left_out_without_a_compiler(self):
+        _, paths = folder_with(self, plain="    ./one\n", compiles="    ./one && cc -O2 a.c\n\n    a\n")
+        with contextlib.redirect_stdout(io.StringIO()) as said, unittest.mock.patch.object(pages.shutil, "which", lambda name: None), unittest.mock.patch.object(pages, "run_at_top", lambda command: []):
+            self.assertEqual(pages.main([paths["plain"], paths["compiles"]]), 0)
+        self.assertEqual(said.getvalue(), f"pages: left out, for want of cc: {paths['compiles']}\n")
 
 
 class Costs(unittest.TestCase):

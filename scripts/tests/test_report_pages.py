@@ -56,6 +56,16 @@ class Pages(unittest.TestCase):
         with self.assertRaisesRegex(Refusal, "two records of 1 numbers are expected"):
             self.page(faces_csv="4\n", disturbances_csv="0,0\n")
 
+    def test_settles(self):
+        text = self.page(settle_csv="3,0,1\n0,0,1\n1,0,0\n", settled_txt="turn 3\nstate 1 0 1\n")
+        xml.dom.minidom.parseString(text.removeprefix("<!DOCTYPE html>\n"))
+        self.assertIn("Loops settle: every loop from place &lt;i&gt; from 0 m to 0.5 m lies after 3 turns, for ever, with place &lt;i&gt; from 0 m to 0.5 m.", text)
+        self.assertNotIn("settle", self.page())
+        with self.assertRaisesRegex(Refusal, "three records of 3 numbers"):
+            self.page(settle_csv="3,0,1\n", settled_txt="turn 3\nstate 1 0 1\n")
+        with self.assertRaisesRegex(Refusal, "for each of 1 states"):
+            self.page(settle_csv="3,0,1\n0,0,1\n1,0,0\n", settled_txt="turn 3\n")
+
     def test_command(self):
         folder = self.folder()
         self.assertEqual(self.run_page(folder, os.path.join(folder, "page.html")).returncode, 0)

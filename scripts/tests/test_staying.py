@@ -2,11 +2,13 @@
 import contextlib
 import functools
 import io
+import math
 import os
 import random
 import signal
 import tomllib
 import unittest
+from dataclasses import replace
 from fractions import Fraction
 
 from common.libraries import PACKAGES, Refusal, missing
@@ -140,6 +142,24 @@ class Search(unittest.TestCase):
         design = staying.in_floats(model)
         self.assertGreater(staying.steps_of(design, True), 4 * staying.steps_of(design, False))
 
+    def test_worth(self):
+        """What a run takes of a stage counts, and most where it is nearly all."""
+        made = lambda steps, share, covers=0.5: staying.Staying(covers=covers, steps=steps, share=share).worth
+        self.assertEqual(made(40, 0.02), made(3, 0.001))
+        self.assertGreater(made(40, 0.02), made(40, 0.2))
+        self.assertGreater(made(40, 0.02), made(400, 0.02))
+        # half the box rather than a run that is longer than a stage, and rather a larger box than less of a stage that is long
+        self.assertGreater(made(20, 0.1, 0.4), made(400, 2.0, 0.8))
+        self.assertGreater(made(400, 0.01, 0.8), made(20, 0.0005, 0.5))
+        self.assertEqual(made(math.inf, 0.0), -math.inf)
+
+    def test_share_of_a_stage(self):
+        design = read_design(os.path.join(EXAMPLES, "motor", "design.toml"))
+        # 4 rows and their opposites, over 4 entries: 4 * (4 * 3.9 + 16), 4 factors of 10, 4 * 24 and 4 * 34
+        share = staying.share_of(design, 9, 0.005, 100.0)
+        self.assertAlmostEqual(share, 9 * (4 * (4 * 3.9 + 16) + 10 * 4 + 4 * 24 + 4 * 34) / 5e5)
+        self.assertAlmostEqual(staying.share_of(design, 9, 0.005, 50.0), 2 * share)
+
     def test_two_inputs(self):
         # the rows at the ends are rounded, and limits of the hexagon make up for it in both voltages
         model = read_model(os.path.join(EXAMPLES, "pmsm", "model.toml"))
@@ -190,6 +210,68 @@ class Coordinates(unittest.TestCase):
         self.assertTrue(any(model.b[1]))
         with self.assertRaisesRegex(Refusal, r"coordinates.last\[2\]: zeros are expected"):
             Model(SLOW + "[coordinates]\nrows = [[1.0, 0.0], [0.0, 1.0]]\nlast = [[0.0], [0.2]]\n")
+
+    # a level that is filled and emptied by a flow, whose change is limited
+    FILLED = """period = 0.1
+stages = 6
+sampled = true
+a = [[1.0]]
+b = [[0.25]]
+states = ["level m"]
+inputs = ["flow m/s"]
+plan = "changes"
+[[limit]]
+name = "flow"
+input = [1.0]
+bound = 1.0
+least = -1.0
+tolerance = 0.1
+[[limit]]
+name = "change"
+change = [1.0]
+bound = 0.25
+least = -0.25
+tolerance = 0.05
+[cost]
+input = [1.0]
+rows = [{ state = [1.0], weight = 1.0 }]
+[box]
+hi = [1.0]
+grid = 8
+"""
+
+    def test_last_inputs_shrink(self):
+        """Where no box has all of a last input, one has a part of it, with narrower limits."""
+        plant, stay = staying.plant_of(Model(self.FILLED)), numpy.array([0.2, 0.0])
+        turn = numpy.array([[1.0, 1.2 * 0.25], [0.0, 1.0]])
+        self.assertEqual({row: (i, float(middle)) for row, (i, middle) in plant.ends.items()}, {0: (1, 0.0), 1: (1, 0.0)})
+        self.assertIsNone(largest(replace(plant, ends={}), turn, stay, 0.125))
+        found = largest(plant, turn, stay, 0.125)
+        self.assertTrue(0 < found.least <= found.parts[1] < 1)
+        # where the model says how far the last input goes, its limits say nothing of that box
+        self.assertEqual(staying.plant_of(Model(self.FILLED + "last = [1.1]\n")).ends, {})
+
+    def test_narrower_limits(self):
+        model = Model(self.FILLED)
+        made = Model(staying.with_limits(model, staying.Staying({}, [0.5, 0.8], [0.0])))
+        limit, change = made.text["limit"]
+        # the ends of 1.1 to 0.88, a tolerance beyond the limits
+        self.assertEqual((limit["bound"], limit["least"], made.text["box"].get("last")), (0.78, -0.78, None))
+        self.assertEqual((change, made.lo, made.hi), (model.text["limit"][1], [-0.5, -0.88], [0.5, 0.88]))
+        # limits that are to one side, and one of them on less than the input: from -0.1 .. 1.1 to 0.02 .. 0.98
+        aside = Model(self.FILLED.replace("input = [1.0]\nbound = 1.0\nleast = -1.0", "input = [-0.5]\nbound = 0.0\nleast = -0.5", 1).replace("tolerance = 0.1", "tolerance = 0.05", 1))
+        limit = staying.with_limits(aside, staying.Staying({}, [1.0, 0.8], [0.0]))["limit"][0]
+        self.assertEqual((aside.lo[1], aside.hi[1], limit["bound"], limit["least"]), (-0.1, 1.1, -0.06, -0.44))
+
+    def test_limits_on_changes(self):
+        with contextlib.redirect_stderr(io.StringIO()) as said:
+            found, holds = staying.search(Model(self.FILLED), seconds=240)
+        self.assertTrue(holds, said.getvalue())
+        self.assertIn("of the box of last flow", said.getvalue())
+        model = Model(found)
+        design, records = staying.found_faces(model)
+        self.assertLess(found["limit"][0]["bound"], 1.0)
+        self.assertIsNone(faces.first_fault(design, records, lean_excess_of(design)))
 
     def test_texts_of_choices(self):
         model = Model(self.TRACKED)
