@@ -1,4 +1,4 @@
-"""The documents name what the repository has: the modules of the theorem with their lines, and the crates with what they stand on."""
+"""The documents name what the repository has: the modules of the theorem with their lines, and the crates with what they stand on. Their links lead somewhere, and they are short."""
 import pathlib
 import re
 import unittest
@@ -7,6 +7,9 @@ TOP = pathlib.Path(__file__).resolve().parents[2]
 # The most ways down from one crate, and from all together (`ways_down`).
 MOST_WAYS = 18_000
 ALL_WAYS = 132_000
+# The most words of the first page, and of all pages that are read before something is designed or changed.
+README_WORDS = 700
+ALL_WORDS = 60_500
 WORDS = {"fifteen": 15, "sixteen": 16, "seventeen": 17, "eighteen": 18, "nineteen": 19}
 
 
@@ -100,6 +103,38 @@ class Theorem(unittest.TestCase):
                 if f"`{crate}`" in " ".join(row) and f"`{name}`" in " ".join(row):
                     named.add(module)
         self.assertEqual(built - named, set())
+
+
+# ---- words and links
+def slug(heading: str) -> str:
+    """The anchor of a heading, as a page's reader makes it."""
+    return re.sub(r"[^\w\- ]", "", heading.strip().lower()).replace(" ", "-")
+
+
+def anchors_of(text: str) -> set[str]:
+    return {slug(heading) for heading in re.findall(r"^#+ (.*)$", re.sub(r"^```.*?^```", "", text, flags=re.MULTILINE | re.DOTALL), re.MULTILINE)}
+
+
+class Pages(unittest.TestCase):
+    read = ["README.md", "CONTRIBUTING.md", *(str(path.relative_to(TOP)) for path in sorted((TOP / "docs").iterdir()))]
+    linked = [*(name for name in read if name.endswith(".md")), "CHANGELOG.md"]
+    linked += [str(path.relative_to(TOP)) for folder in ("examples", "bench", "checks") for path in sorted((TOP / folder).rglob("*.md"))]
+
+    def test_words(self):
+        words = {name: len(text_of(name).split()) for name in self.read}
+        self.assertLessEqual(words["README.md"], README_WORDS)
+        self.assertLessEqual(sum(words.values()), ALL_WORDS, words)
+
+    def test_links(self):
+        """Each link names a file of the repository and, where it has one, a heading of it."""
+        for name in self.linked:
+            for link in re.findall(r"\]\((?!https?:)([^)\s]*)\)", text_of(name)):
+                path, _, anchor = link.partition("#")
+                target = (TOP / name).parent / path if path else TOP / name
+                with self.subTest(page=name, link=link):
+                    self.assertTrue(target.exists(), "no such file")
+                    if anchor:
+                        self.assertIn(anchor, anchors_of(target.read_text(encoding="utf-8")))
 
 
 # ---- the crates
