@@ -47,14 +47,14 @@ TEXTS = {
     "count-disturbances": "{file} has {entries} records, and two are needed: the least disturbances, then the greatest.",
     "count-turns": "{file} has {entries} records, and {wanted} are needed: one for each turn.",
     "no-margin": "At {corner} the policy's plan leaves too little room in {row}: slack {slack}, at least 0.0000153 (2^-16) is needed. "
-    '{hint} scripts/policy.py finds a policy with room, or says which row and corner are to blame (docs/DESIGNING.md, "Margins").',
+    '{hint} scripts/policy.py finds a policy with room, or says which row and corner are to blame (docs/TARGETS.md, "Slack of the vertex plans").',
     "curvature": "The limits are too steep for the cost: no step 2^-s with s up to 40 is small enough. Divide the rows by their tolerances, or take larger weights "
-    '(docs/DESIGNING.md, "Weights").',
+    '(docs/TARGETS.md, "Weights").',
     "too-many-steps": "A run would take K = {steps} steps, and at most 4194304 are accepted. {formula}: take a larger violation target{hint}, or a policy with "
-    '{better} (docs/DESIGNING.md, "What K is made of").',
+    '{better} (docs/TARGETS.md, "What K is made of").',
     "too-fine": "The gap target asks for more than 48 fraction bits: rounding at 48 bits may cost {epsilon}, {hint}. A larger gap target, or a policy with a smaller R "
-    '(docs/DESIGNING.md, "What K is made of").',
-    "too-wide": '`{name}`, {what}, passes 2^126{size}: {help} (docs/DESIGNING.md, "Sizes").',
+    '(docs/TARGETS.md, "What K is made of").',
+    "too-wide": '`{name}`, {what}, passes 2^126{size}: {help} (docs/SIZES.md).',
     "controller-line": "{file} is no controller text: line {line}{fault} should be {wanted}. `generate` writes such files; docs/FORMATS.md has the form.",
     "cells-line": "{file} is no text of cells: line {line}{fault} should be {wanted}. `split` writes such files; docs/FORMATS.md has the form.",
     "cells-unsafe": "{file} has the form of a text of cells, but a sum of a controller's numbers could leave the width that it says itself, so none is run: a number was changed.",
@@ -62,7 +62,7 @@ TEXTS = {
     "outside-box": "State {entry} of {file} is outside the {kind}'s box in coordinate {name}{fault}. The promises hold inside the box alone: a larger box in the design, or "
     "a state in steps of {step}.",
     "left-box": "The loop from state {entry} left the box before turn {turn}, in coordinate {name}. Nothing promises that a loop of `generate` stays, and `stay` makes those that do: limits at the next state, or coordinates in which "
-    'the box is nearly invariant (docs/DESIGNING.md, "Boxes that loops stay in").',
+    'the box is nearly invariant (docs/BOXES.md, "Boxes that loops stay in").',
     "outside-cells": "State {entry} of {file} is in no cell of {cells}, and outside the first one's box in coordinate {name}{fault}. The promises hold inside the cells alone: a larger box in the "
     "design that is split.",
     "long": "{file} is longer than 4194304 bytes, and no file of the tool but a text of cells is.",
