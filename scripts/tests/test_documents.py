@@ -157,12 +157,19 @@ def below(crates: dict[str, set[str]], names: set[str]) -> set[str]:
     return reached
 
 
-def named_in(rows: list[list[str]]) -> list[tuple[str, set[str]]]:
-    """The crates of the table in its order, each with what is named beside it. A row of several has the parts of each, and what all have behind `; and`."""
+def listed(text: str, heading: str) -> list[str]:
+    """The lines of the list below a heading, each before its words: crates, and what they stand on."""
+    part = re.split(r"\n## ", text.split(f"## {heading}\n", 1)[1], maxsplit=1)[0]
+    return [line[2:].split(": ")[0] for line in part.splitlines() if line.startswith("- `")]
+
+
+def named_in(lines: list[str]) -> list[tuple[str, set[str]]]:
+    """The crates of the list in its order, each with what is named behind `on`. A line of several has the parts of each, and what all have behind `; and`."""
     named = []
-    for cells in rows:
-        names = names_in(cells[0])
-        own, _, shared = cells[1].partition("; and ")
+    for line in lines:
+        crates, _, stands = line.partition(" on ")
+        names = names_in(crates)
+        own, _, shared = stands.partition("; and ")
         parts = own.split(";") if ";" in own else [own] * len(names)
         named += [(name, set(names_in(part)) | set(names_in(shared))) for name, part in zip(names, parts, strict=True)]
     return named
@@ -218,9 +225,9 @@ class FilesOfTheGate(unittest.TestCase):
 
 class Architecture(unittest.TestCase):
     crates = crates_of(text_of("crates.txt"))
-    named = named_in(rows_of(text_of("docs/ARCHITECTURE.md"), "The crates, from the bottom up"))
+    named = named_in(listed(text_of("docs/ARCHITECTURE.md"), "The crates, from the bottom up"))
 
-    def test_each_crate_has_one_row(self):
+    def test_each_crate_stands_once(self):
         self.assertEqual(sorted(name for name, _ in self.named), sorted(self.crates))
 
     def test_what_it_stands_on_is_named(self):
@@ -233,7 +240,7 @@ class Architecture(unittest.TestCase):
         seen: set[str] = set()
         for name, _ in self.named:
             with self.subTest(crate=name):
-                self.assertEqual(self.crates[name] - seen, set(), "stands below its row")
+                self.assertEqual(self.crates[name] - seen, set(), "stands below its line")
             seen.add(name)
 
 
