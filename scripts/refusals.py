@@ -715,10 +715,8 @@ STATUSES = [
 
 ORDER = """## Which is told
 
-The first test that fails. Out of memory may come at any place, and every command takes its memory before its first write. An output may not have the name of another file (2).
-
-Each file is read (3), measured (13) and examined (5, 11, 20) before the next, in the order of the arguments. D is a design, P a policy, Q references, C a controller or cells, R a report, F faces, W the range of
-disturbances, V disturbances, S states, L a listing.
+The first test that fails. Out of memory may come at any place. An output may not have the name of another file (2). Each file is read (3), measured (13) and examined (5, 11, 20) before the next. D is a design, P a policy, Q
+references, C a controller or cells, R a report, F faces, W the range of disturbances, V disturbances, S states, L a listing.
 
 - `generate D P C R`: D, P; the design's tests; C and then R are written (4).
 - `lean D P Q C R [F [W]]`: D, P, Q, F, W; the design's tests, of which `excess` and `multiplier` come behind 7; with F the quantity `stay` (10), then face by face 16 and 17; C, R.
@@ -733,13 +731,13 @@ The design's tests are `prediction`, `corner_slack`, `corner_cost` (10); 6; `mul
 
 What a line's numbers say is the first of its kind:
 
-- 5, of a design: `not-toml`, also where bytes aren't UTF-8, a key is given twice, an integer leaves 64 bits or a float is too large; then the first missing key by its place in [FORMATS.md](FORMATS.md#design) (of a missing table its first); then 0, a key too much. Then
-  place by place shape and range. There is a row at 14 or 15. No `hi` is below its `lo`.
-- 5, of records: record by record `fields`, then the first `number` that can't stand there; at last `count`. Of cuts the number of cuts comes first, then `fields`, then the cuts; `count` comes where the first n records are right and there
-  aren't n; `range 0` is last.
+- 5, of a design: `not-toml` (also bytes that aren't UTF-8, a key given twice, an integer beyond 64 bits, a float too large); the first missing key, by its place in [FORMATS.md](FORMATS.md#design); 0, a key too much; then place by place
+  shape and range, at 15 also that no row stands at 14 or 15, at 18 that a `hi` is below its `lo`.
+- 5, of records: record by record `fields`, then the first `number` that can't stand there; at last `count`. Of cuts the number of cuts comes first, then `fields`, then the cuts; `count` where the first n are right and there aren't n;
+  `range 0` is last.
 - 6: the first corner, and in it the first row, with its slack. In intervals it is the one that is shown.
 - 8: how many steps would be needed. 9: what the errors cost over 2^40 with 48 bits.
-- 11 and 20: the first line with which, after those before it, no such text begins. In cells that is also a later cell's `size`, `bits` or version that can't stand with the first cell's. `unsafe` is told of texts in form alone.
+- 11, 20: the first line with which, after those before it, no such text begins; in cells also a later cell's `size`, `bits` or version that can't stand with the first's. `unsafe` is told of texts in form alone.
 - 12: the record, its turn (0 before any line is printed), the first coordinate. Where no cell has the state, that of the first cell's box.
 - 14: `states`, `inputs` or `grid`, with both numbers. 16, 17: the first face that isn't right. 18: the first cell, with the refusal of `generate`.
 - 21: the repetition and the instruction in it; 0 and 0 at an input. The lines before it stand.
