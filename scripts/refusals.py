@@ -749,15 +749,13 @@ def table() -> Iterator[str]:
     """The page of all refusals, made of the texts."""
     yield "# Refusals"
     yield ""
-    yield "What the program prints on standard error where it refuses: `error`, the exit status, a name and numbers. The launcher says below it what stands beside, with your names and numbers"
-    yield "in the braces. FILE is the position of the file's name among the arguments, where the command is 0; as an output 0 is standard output. All else counts from 1."
+    yield "What the program prints on standard error where it refuses: `error`, the exit status, a name and numbers. The launcher says below it what stands behind it here, with your names and"
+    yield "numbers in the braces. FILE is the position of the file's name among the arguments, where the command is 0; as an output 0 is standard output. All else counts from 1."
     yield "Made by `scripts/refusals.py --table`."
     yield ""
-    yield "| Line | What the launcher says |"
-    yield "|---|---|"
     for status, line, names in STATUSES:
         shown = f"`error {status} {line}`" if line else f"(status {status}, no line)"
-        yield f"| {shown} | {'; or: '.join(TEXTS[name] for name in names)} |"
+        yield f"- {shown}: {'; or: '.join(TEXTS[name] for name in names)}"
     yield ""
     yield ORDER
     yield ""
@@ -765,10 +763,8 @@ def table() -> Iterator[str]:
     yield ""
     yield f"(a) is {NEARER}; (b) a smaller plant.den; (c) denominators so short that exact numbers fit."
     yield ""
-    yield "| Name | What it is | What helps |"
-    yield "|---|---|---|"
     for name, (what, helps) in QUANTITIES.items():
-        yield f"| `{name}` | {what} | {helps.replace(FEWER, '(a), (b)').replace(NEARER, '(a)').replace(EXACT, ', (c)')} |"
+        yield f"- `{name}`: {what}. What helps: {helps.replace(FEWER, '(a), (b)').replace(NEARER, '(a)').replace(EXACT, ', (c)')}."
 
 
 def main(arguments: list[str]) -> int:
@@ -776,7 +772,7 @@ def main(arguments: list[str]) -> int:
         print(__doc__.strip())
         return 0
     if arguments[0] == "--table":
-        print("\n".join(table()).replace("|a| + |b|", "\\|a\\| + \\|b\\|"))
+        print("\n".join(table()))
         return 0
     say_why(int(arguments[0]), arguments[1], arguments[2:])
     return 0
