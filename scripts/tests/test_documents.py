@@ -137,6 +137,16 @@ class Pages(unittest.TestCase):
                         self.assertIn(anchor, anchors_of(target.read_text(encoding="utf-8")))
 
 
+    def test_pages_that_scripts_name(self):
+        """Each page that a script's words point to is there, with the heading that is named beside it."""
+        for path in [TOP / "mpc", TOP / "docs" / "help.txt", *sorted((TOP / "scripts").glob("*.py")), *sorted((TOP / "scripts" / "common").glob("*.py"))]:
+            for page, heading in re.findall(r'docs/([A-Z]+\.md)(?:, \\?"([^"\\]+)\\?")?', path.read_text(encoding="utf-8")):
+                with self.subTest(script=path.name, page=page, heading=heading):
+                    self.assertTrue((TOP / "docs" / page).exists())
+                    if heading:
+                        self.assertIn(slug(heading), anchors_of(text_of(f"docs/{page}")))
+
+
 # ---- the crates
 def crates_of(text: str) -> dict[str, set[str]]:
     """The crates of crates.txt, each with those of the repository that its line names."""
