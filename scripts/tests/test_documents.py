@@ -125,6 +125,22 @@ class Pages(unittest.TestCase):
         self.assertLessEqual(words["README.md"], README_WORDS)
         self.assertLessEqual(sum(words.values()), ALL_WORDS, words)
 
+    def test_examples_of_the_first_page(self):
+        """The table of the first page has the figures that the examples' pages print."""
+        rows = re.findall(r"^\| \[\w+\]\((examples/\w+)/README\.md\) \| (\d)/(\d)/(\d+) \| ([\d.]+) (m?s) \| (\d+) \| ([\d,]+) \| ([\d.]+) \| ([\d.]+) (\S+) \| ([\d.]+) \|$", text_of("README.md"), re.MULTILINE)
+        self.assertEqual(len(rows), 7)
+        for example, states, inputs, stages, time, unit, iterations, cycles, flash, promised, measure, measured in rows:
+            measure = measure.replace("²", "^2")
+            page, design = text_of(f"{example}/README.md"), text_of(f"{example}/design.toml")
+            seconds = float(time) / (1000 if unit == "ms" else 1)
+            with self.subTest(example=example):
+                for told in (f"states = {states}\n", f"inputs = {inputs}\n", f"stages = {stages}\n"):
+                    self.assertIn(told, design)
+                self.assertIn(f"every run takes K = {iterations} steps", page)
+                self.assertRegex(page, rf"about {cycles} cycles a run, .* of a stage of {seconds:g} s; about {int(float(flash) * 1000):,} bytes of flash")
+                self.assertIn(f"is exceeded by at most {promised} {measure}", page)
+                self.assertIn(f"that is {measured} {measure}", page)
+
     def test_links(self):
         """Each link names a file of the repository and, where it has one, a heading of it."""
         for name in self.linked:
