@@ -127,7 +127,9 @@ class Pages(unittest.TestCase):
 
     def test_examples_of_the_first_page(self):
         """The table of the first page has the figures that the examples' pages print."""
-        rows = re.findall(r"^\| \[\w+\]\((examples/\w+)/README\.md\) \| (\d)/(\d)/(\d+) \| ([\d.]+) (m?s) \| (\d+) \| ([\d,]+) \| ([\d.]+) \| ([\d.]+) (\S+) \| ([\d.]+) \|$", text_of("README.md"), re.MULTILINE)
+        form = r"^\| \[\w+\]\((examples/\w+)/README\.md\) \| (\d)/(\d)/(\d+) \| ([\d.]+) (m?s) "
+        form += r"\| (\d+) \| ([\d,]+) \| ([\d.]+) \| ([\d.]+) (\S+) \| ([\d.]+) \|$"
+        rows = re.findall(form, text_of("README.md"), re.MULTILINE)
         self.assertEqual(len(rows), 7)
         for example, states, inputs, stages, time, unit, iterations, cycles, flash, promised, measure, measured in rows:
             measure = measure.replace("²", "^2")
