@@ -299,7 +299,7 @@ def main() -> int:
     choice, far = search(model, draft(model), given.turns, given.seconds)
     if far.max() > 1:
         say(f"no coordinates and no box were found in which loops stay; the best is kept, {told(model, choice)}: {to_blame(Model(changed(model, choice)), far)}")
-        say("what helps: weights that move these less, more stages, limits on what overshoots, or --stay, which limits the next state (docs/DESIGNING.md)")
+        say("what helps: weights that move these less, more stages, limits on what overshoots, or --stay, which limits the next state (docs/BOXES.md)")
     changes = bool(choice.times) or min(choice.kept) < 1
     text = changed_text(model, choice) if changes else files.read_bytes(given.model).decode()
     if given.new:

@@ -353,7 +353,7 @@ def with_step(model: Model, part: float, keep: bool, step: int) -> Drafted:
     if refused:
         words = f"with a plant over {wanted[0]} and numbers that move by at most {plain(100 * wanted[1])} % the program would refuse {', '.join(refused)}"
         better = f": the plant is over {taken[0]}, and numbers move by at most {plain(100 * taken[1])} %"
-        said.append(words + (better if taken != wanted else f", and no coarser rounding helps: {help_for(refused)} (docs/DESIGNING.md, \"Sizes\")"))
+        said.append(words + (better if taken != wanted else f", and no coarser rounding helps: {help_for(refused)} (docs/SIZES.md)"))
     if not plans[2]:
         said.append("warning: no plan keeps every limit from every corner; scripts/policy.py says where")
     said = plant_words(model, design) + said + set_gap(design, part, plans)

@@ -261,7 +261,7 @@ def size_words(design: Design, policy: list, report: dict | None, reference: lis
     yield f"sizes in bits, at most 126 each: {told}"
     for of, found in parts.items():
         if wide(found):
-            yield f"too wide{of}: {', '.join(wide(found))} (docs/DESIGNING.md, \"Sizes\")"
+            yield f"too wide{of}: {', '.join(wide(found))} (docs/SIZES.md)"
 
 
 def later_sizes(design: Design, form: Condensed, bound: int | None, report: dict | None, lean: bool = False) -> dict:

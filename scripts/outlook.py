@@ -56,7 +56,7 @@ def size_words(model: Model, exact: Design) -> list[str]:
     first = choices(model)[0]
     design = whole(model, exact, *first, False, 0)
     wide = too_wide(design, corner_plans(design))
-    fits = "fits" if not wide else f"would be refused for {', '.join(wide)}, so that coarser numbers are taken (docs/DESIGNING.md, \"Sizes\")"
+    fits = "fits" if not wide else f"would be refused for {', '.join(wide)}, so that coarser numbers are taken (docs/SIZES.md)"
     return [f"a plant over {first[0]} with numbers that move by at most {plain(100 * first[1])} % {fits}"]
 
 

@@ -164,7 +164,7 @@ def is_possible(most: float, where: str) -> bool:
     """Whether plans keep every limit with some slack; else that is said."""
     if most <= 2**-16:
         say(f"no plan keeps every limit with a slack of 2^-16: at most {plain(most)} is possible at {where}")
-        say("a smaller box, wider limits or more stages before the limit holds; a state row at stage 0 limits the box itself (docs/DESIGNING.md)")
+        say("a smaller box, wider limits or more stages before the limit holds; a state row at stage 0 limits the box itself (docs/MODELS.md)")
     return most > 2**-16
 
 

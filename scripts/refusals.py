@@ -47,14 +47,14 @@ TEXTS = {
     "count-disturbances": "{file} has {entries} records, and two are needed: the least disturbances, then the greatest.",
     "count-turns": "{file} has {entries} records, and {wanted} are needed: one for each turn.",
     "no-margin": "At {corner} the policy's plan leaves too little room in {row}: slack {slack}, at least 0.0000153 (2^-16) is needed. "
-    '{hint} scripts/policy.py finds a policy with room, or says which row and corner are to blame (docs/DESIGNING.md, "Margins").',
+    '{hint} scripts/policy.py finds a policy with room, or says which row and corner are to blame (docs/TARGETS.md, "Slack of the vertex plans").',
     "curvature": "The limits are too steep for the cost: no step 2^-s with s up to 40 is small enough. Divide the rows by their tolerances, or take larger weights "
-    '(docs/DESIGNING.md, "Weights").',
+    '(docs/TARGETS.md, "Weights").',
     "too-many-steps": "A run would take K = {steps} steps, and at most 4194304 are accepted. {formula}: take a larger violation target{hint}, or a policy with "
-    '{better} (docs/DESIGNING.md, "What K is made of").',
+    '{better} (docs/TARGETS.md, "What K is made of").',
     "too-fine": "The gap target asks for more than 48 fraction bits: rounding at 48 bits may cost {epsilon}, {hint}. A larger gap target, or a policy with a smaller R "
-    '(docs/DESIGNING.md, "What K is made of").',
-    "too-wide": '`{name}`, {what}, passes 2^126{size}: {help} (docs/DESIGNING.md, "Sizes").',
+    '(docs/TARGETS.md, "What K is made of").',
+    "too-wide": '`{name}`, {what}, passes 2^126{size}: {help} (docs/SIZES.md).',
     "controller-line": "{file} is no controller text: line {line}{fault} should be {wanted}. `generate` writes such files; docs/FORMATS.md has the form.",
     "cells-line": "{file} is no text of cells: line {line}{fault} should be {wanted}. `split` writes such files; docs/FORMATS.md has the form.",
     "cells-unsafe": "{file} has the form of a text of cells, but a sum of a controller's numbers could leave the width that it says itself, so none is run: a number was changed.",
@@ -62,7 +62,7 @@ TEXTS = {
     "outside-box": "State {entry} of {file} is outside the {kind}'s box in coordinate {name}{fault}. The promises hold inside the box alone: a larger box in the design, or "
     "a state in steps of {step}.",
     "left-box": "The loop from state {entry} left the box before turn {turn}, in coordinate {name}. Nothing promises that a loop of `generate` stays, and `stay` makes those that do: limits at the next state, or coordinates in which "
-    'the box is nearly invariant (docs/DESIGNING.md, "Boxes that loops stay in").',
+    'the box is nearly invariant (docs/BOXES.md, "Boxes that loops stay in").',
     "outside-cells": "State {entry} of {file} is in no cell of {cells}, and outside the first one's box in coordinate {name}{fault}. The promises hold inside the cells alone: a larger box in the "
     "design that is split.",
     "long": "{file} is longer than 4194304 bytes, and no file of the tool but a text of cells is.",
@@ -713,25 +713,58 @@ STATUSES = [
 ]
 
 
+ORDER = """## Which is told
+
+The first test that fails. Out of memory may come at any place. An output may not have the name of another file (2). Each file is read (3), measured (13) and examined (5, 11, 20) before the next. D is a design, P a policy, Q
+references, C a controller or cells, R a report, F faces, W the range of disturbances, V disturbances, S states, L a listing.
+
+- `generate D P C R`: D, P; the design's tests; C and then R are written (4).
+- `lean D P Q C R [F [W]]`: D, P, Q, F, W; the design's tests, of which `excess` and `multiplier` come behind 7; with F the quantity `stay` (10), then face by face 16 and 17; C, R.
+- `stay D P C R F [W]`: D, P, F, W; the design's tests; `stay` (10), face by face 16 and 17; C, R.
+- `split D CUTS P C R`: D, CUTS, P; cell by cell the design's tests (18); C, R.
+- `solve C S`, `serve C S`: C, S; each state in the box, or in a cell (12); the lines.
+- `loop D C S T [V]`, T up to 1000000: D, C; both compared (14); S, V; with a record `turn` (10); then record by record and turn by turn the state in the box (12), and its line.
+- `list C L`: C; L is written. `play L S`: L, S; each state in the box (12); record by record the run (21) and its line.
+- `demo X`, X up to 4294967295: the design's tests; the report and the lines.
+
+The design's tests are `prediction`, `corner_slack`, `corner_cost` (10); 6; `multiplier` (10); `prediction`, `hessian`, `rows`, `curvature` (10); 7; 8; `error` (10); 9; `descent`, `width` (10).
+
+What a line's numbers say is the first of its kind:
+
+- 5, of a design: `not-toml` (also bytes that aren't UTF-8, a key given twice, an integer beyond 64 bits, a float too large); the first missing key, by its place in [FORMATS.md](FORMATS.md#design); 0, a key too much; then place by place
+  shape and range, at 15 also that no row stands at 14 or 15, at 18 that a `hi` is below its `lo`.
+- 5, of records: record by record `fields`, then the first `number` that can't stand there; at last `count`. Of cuts the number of cuts comes first, then `fields`, then the cuts; `count` where the first n are right and there aren't n;
+  `range 0` is last.
+- 6: the first corner, and in it the first row, with its slack. In intervals it is the one that is shown.
+- 8: how many steps would be needed. 9: what the errors cost over 2^40 with 48 bits.
+- 11, 20: the first line with which, after those before it, no such text begins; in cells also a later cell's `size`, `bits` or version that can't stand with the first's. `unsafe` is told of texts in form alone.
+- 12: the record, its turn (0 before any line is printed), the first coordinate. Where no cell has the state, that of the first cell's box.
+- 14: `states`, `inputs` or `grid`, with both numbers. 16, 17: the first face that isn't right. 18: the first cell, with the refusal of `generate`.
+- 21: the repetition and the instruction in it; 0 and 0 at an input. The lines before it stand.
+
+[PROVED.md](PROVED.md#what-was-cut) says what stands after a fault (4). Where there is no memory for the line itself, the program ends with the same status and prints none."""
+
+
 def table() -> Iterator[str]:
     """The page of all refusals, made of the texts."""
     yield "# Refusals"
     yield ""
-    yield "What the program prints where it refuses, `error`, the exit status, a name and numbers; and what the launcher says below it, with names and numbers of your files in"
-    yield "the braces. A file is told by the position of its name among the arguments, 0 is standard output. Made by `scripts/refusals.py --table`."
+    yield "What the program prints on standard error where it refuses: `error`, the exit status, a name and numbers. The launcher says below it what stands behind it here, with your names and"
+    yield "numbers in the braces. FILE is the position of the file's name among the arguments, where the command is 0; as an output 0 is standard output. All else counts from 1."
+    yield "Made by `scripts/refusals.py --table`."
     yield ""
-    yield "| Line | What the launcher says |"
-    yield "|---|---|"
     for status, line, names in STATUSES:
         shown = f"`error {status} {line}`" if line else f"(status {status}, no line)"
-        yield f"| {shown} | {'; or: '.join(TEXTS[name] for name in names)} |"
+        yield f"- {shown}: {'; or: '.join(TEXTS[name] for name in names)}"
     yield ""
-    yield "The places of a design text (`key`, `shape`, `range`), in their order: " + ", ".join(f"{i} `{key}`" for i, (key, _, _) in enumerate(PLACES, 1)) + "."
+    yield ORDER
     yield ""
-    yield "| Quantity | What it is | What helps |"
-    yield "|---|---|---|"
+    yield "## The quantities"
+    yield ""
+    yield f"(a) is {NEARER}; (b) a smaller plant.den; (c) denominators so short that exact numbers fit."
+    yield ""
     for name, (what, helps) in QUANTITIES.items():
-        yield f"| `{name}` | {what} | {helps} |"
+        yield f"- `{name}`: {what}. What helps: {helps.replace(FEWER, '(a), (b)').replace(NEARER, '(a)').replace(EXACT, ', (c)')}."
 
 
 def main(arguments: list[str]) -> int:
@@ -739,7 +772,7 @@ def main(arguments: list[str]) -> int:
         print(__doc__.strip())
         return 0
     if arguments[0] == "--table":
-        print("\n".join(table()).replace("|a| + |b|", "\\|a\\| + \\|b\\|"))
+        print("\n".join(table()))
         return 0
     say_why(int(arguments[0]), arguments[1], arguments[2:])
     return 0

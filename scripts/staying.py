@@ -448,7 +448,7 @@ def main() -> int:
     model = read_model(given.model)
     found, holds = search(model, given.steps, given.seconds, given.generate, given.clock)
     if not holds:
-        say("no coordinates, no limits and no box were found for which faces hold, and the best that was seen is kept: stronger inputs, a smaller box or a smaller `disturbed` (docs/DESIGNING.md)")
+        say("no coordinates, no limits and no box were found for which faces hold, and the best that was seen is kept: stronger inputs, a smaller box or a smaller `disturbed` (docs/BOXES.md)")
     text = files.read_bytes(given.model).decode() if found is model.text else model_text(found, "a model whose loops never leave the box, by scripts/staying.py")
     if given.new:
         files.write(given.new, text)

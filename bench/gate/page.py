@@ -15,7 +15,7 @@ PACE = {"integer_algebra": 12, "word_region": 15, "frac_scaled": 19}
 FIRST_ANSWER = "The first answer"
 HEAD = """# What proofs cost
 
-Written by `bench/gate/run.py --page`. [CONTRIBUTING.md](../../CONTRIBUTING.md#what-keeps-a-proof-short) says what keeps a proof short, and what a change costs.
+Written by `bench/gate/run.py --page`. [PROOFS.md](../../docs/PROOFS.md#what-keeps-a-proof-short) says what keeps a proof short.
 """
 
 

@@ -1,4 +1,4 @@
-"""The documents name what the repository has: the modules of the theorem with their lines, and the crates with what they stand on."""
+"""The documents name what the repository has: the modules of the theorem with their lines, and the crates with what they stand on. Their links lead somewhere, and they are short."""
 import pathlib
 import re
 import unittest
@@ -7,6 +7,9 @@ TOP = pathlib.Path(__file__).resolve().parents[2]
 # The most ways down from one crate, and from all together (`ways_down`).
 MOST_WAYS = 18_000
 ALL_WAYS = 132_000
+# The most words of the first page, and of all pages that are read before something is designed or changed.
+README_WORDS = 700
+ALL_WORDS = 28_000
 WORDS = {"fifteen": 15, "sixteen": 16, "seventeen": 17, "eighteen": 18, "nineteen": 19}
 
 
@@ -102,6 +105,66 @@ class Theorem(unittest.TestCase):
         self.assertEqual(built - named, set())
 
 
+# ---- words and links
+def slug(heading: str) -> str:
+    """The anchor of a heading, as a page's reader makes it."""
+    return re.sub(r"[^\w\- ]", "", heading.strip().lower()).replace(" ", "-")
+
+
+def anchors_of(text: str) -> set[str]:
+    return {slug(heading) for heading in re.findall(r"^#+ (.*)$", re.sub(r"^```.*?^```", "", text, flags=re.MULTILINE | re.DOTALL), re.MULTILINE)}
+
+
+class Pages(unittest.TestCase):
+    read = ["README.md", "CONTRIBUTING.md", *(str(path.relative_to(TOP)) for path in sorted((TOP / "docs").iterdir()))]
+    linked = [*(name for name in read if name.endswith(".md")), "CHANGELOG.md"]
+    linked += [str(path.relative_to(TOP)) for folder in ("examples", "bench", "checks") for path in sorted((TOP / folder).rglob("*.md"))]
+
+    def test_words(self):
+        words = {name: len(text_of(name).split()) for name in self.read}
+        self.assertLessEqual(words["README.md"], README_WORDS)
+        self.assertLessEqual(sum(words.values()), ALL_WORDS, words)
+
+    def test_examples_of_the_first_page(self):
+        """The table of the first page has the figures that the examples' pages print."""
+        form = r"^\| \[\w+\]\((examples/\w+)/README\.md\) \| (\d)/(\d)/(\d+) \| ([\d.]+) (m?s) "
+        form += r"\| (\d+) \| ([\d,]+) \| ([\d.]+) \| ([\d.]+) (\S+) \| ([\d.]+) \|$"
+        rows = re.findall(form, text_of("README.md"), re.MULTILINE)
+        self.assertEqual(len(rows), 7)
+        for example, states, inputs, stages, time, unit, iterations, cycles, flash, promised, measure, measured in rows:
+            measure = measure.replace("²", "^2")
+            page, design = text_of(f"{example}/README.md"), text_of(f"{example}/design.toml")
+            seconds = float(time) / (1000 if unit == "ms" else 1)
+            with self.subTest(example=example):
+                for told in (f"states = {states}\n", f"inputs = {inputs}\n", f"stages = {stages}\n"):
+                    self.assertIn(told, design)
+                self.assertIn(f"every run takes K = {iterations} steps", page)
+                self.assertRegex(page, rf"about {cycles} cycles a run, .* of a stage of {seconds:g} s; about {int(float(flash) * 1000):,} bytes of flash")
+                self.assertIn(f"is exceeded by at most {promised} {measure}", page)
+                self.assertIn(f"that is {measured} {measure}", page)
+
+    def test_links(self):
+        """Each link names a file of the repository and, where it has one, a heading of it."""
+        for name in self.linked:
+            for link in re.findall(r"\]\((?!https?:)([^)\s]*)\)", text_of(name)):
+                path, _, anchor = link.partition("#")
+                target = (TOP / name).parent / path if path else TOP / name
+                with self.subTest(page=name, link=link):
+                    self.assertTrue(target.exists(), "no such file")
+                    if anchor:
+                        self.assertIn(anchor, anchors_of(target.read_text(encoding="utf-8")))
+
+
+    def test_pages_that_scripts_name(self):
+        """Each page that a script's words point to is there, with the heading that is named beside it."""
+        for path in [TOP / "mpc", TOP / "docs" / "help.txt", *sorted((TOP / "scripts").glob("*.py")), *sorted((TOP / "scripts" / "common").glob("*.py"))]:
+            for page, heading in re.findall(r'docs/([A-Z]+\.md)(?:, \\?"([^"\\]+)\\?")?', path.read_text(encoding="utf-8")):
+                with self.subTest(script=path.name, page=page, heading=heading):
+                    self.assertTrue((TOP / "docs" / page).exists())
+                    if heading:
+                        self.assertIn(slug(heading), anchors_of(text_of(f"docs/{page}")))
+
+
 # ---- the crates
 def crates_of(text: str) -> dict[str, set[str]]:
     """The crates of crates.txt, each with those of the repository that its line names."""
@@ -122,12 +185,19 @@ def below(crates: dict[str, set[str]], names: set[str]) -> set[str]:
     return reached
 
 
-def named_in(rows: list[list[str]]) -> list[tuple[str, set[str]]]:
-    """The crates of the table in its order, each with what is named beside it. A row of several has the parts of each, and what all have behind `; and`."""
+def listed(text: str, heading: str) -> list[str]:
+    """The lines of the list below a heading, each before its words: crates, and what they stand on."""
+    part = re.split(r"\n## ", text.split(f"## {heading}\n", 1)[1], maxsplit=1)[0]
+    return [line[2:].split(": ")[0] for line in part.splitlines() if line.startswith("- `")]
+
+
+def named_in(lines: list[str]) -> list[tuple[str, set[str]]]:
+    """The crates of the list in its order, each with what is named behind `on`. A line of several has the parts of each, and what all have behind `; and`."""
     named = []
-    for cells in rows:
-        names = names_in(cells[0])
-        own, _, shared = cells[1].partition("; and ")
+    for line in lines:
+        crates, _, stands = line.partition(" on ")
+        names = names_in(crates)
+        own, _, shared = stands.partition("; and ")
         parts = own.split(";") if ";" in own else [own] * len(names)
         named += [(name, set(names_in(part)) | set(names_in(shared))) for name, part in zip(names, parts, strict=True)]
     return named
@@ -183,9 +253,9 @@ class FilesOfTheGate(unittest.TestCase):
 
 class Architecture(unittest.TestCase):
     crates = crates_of(text_of("crates.txt"))
-    named = named_in(rows_of(text_of("docs/ARCHITECTURE.md"), "The crates, from the bottom up"))
+    named = named_in(listed(text_of("docs/ARCHITECTURE.md"), "The crates, from the bottom up"))
 
-    def test_each_crate_has_one_row(self):
+    def test_each_crate_stands_once(self):
         self.assertEqual(sorted(name for name, _ in self.named), sorted(self.crates))
 
     def test_what_it_stands_on_is_named(self):
@@ -198,7 +268,7 @@ class Architecture(unittest.TestCase):
         seen: set[str] = set()
         for name, _ in self.named:
             with self.subTest(crate=name):
-                self.assertEqual(self.crates[name] - seen, set(), "stands below its row")
+                self.assertEqual(self.crates[name] - seen, set(), "stands below its line")
             seen.add(name)
 
 
