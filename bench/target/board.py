@@ -89,11 +89,11 @@ def answers(lines):
     return [(int(words[0]), [signed(int(word, 16)) for word in words[1:]]) for words in (line.split() for line in lines)]
 
 
-def solve(folder, controller, states, board, optimise="-O2"):
-    """What the C answers on a board from each state: 0 and the sums, or a coordinate outside."""
-    form = write_c(folder, controller)
+def solve(folder, controller, states, board, optimise="-O2", straight=False):
+    """What the C answers on a board from each state: 0 and the sums, or a coordinate outside. The straight C is there already."""
+    is_wide = False if straight else write_c(folder, controller).is_wide
     write_states(folder, states)
-    build(folder, board, [os.path.join(HERE, "main.c")], optimise, [f"-DWIDE={int(form.is_wide)}"])
+    build(folder, board, [os.path.join(HERE, "main.c")], optimise, [f"-DWIDE={int(is_wide)}", f"-DSTRAIGHT={int(straight)}"])
     return answers(emulate(folder, board))
 
 

@@ -1,8 +1,8 @@
 #!/usr/bin/env python3
-"""run.py PROGRAM [--boards m4,m7] [--examples motor,pmsm] [--optimise -O3] [--eva SECONDS]: what the C of the examples' controllers costs on emulated boards.
+"""run.py PROGRAM [--boards m4,m7] [--examples motor,pmsm] [--optimise -O3] [--by generate] [--eva SECONDS]: what the C of the examples' controllers costs on emulated boards.
 
-For each example PROGRAM makes the controller and the plans of its states; the C of it runs on the boards, must print the same sums, and is counted: exact instructions of a run,
-cycles by the table of instructions of the Cortex-M4 without wait states (of m4 alone), flash, RAM of work and sums. With --eva Frama-C's Eva is asked whether
+For each example PROGRAM makes the controller by `lean`, or by `generate`, and the plans of its states; its C, as tables and as the program of `c` where there is one, runs on the boards, must print
+the same sums, and is counted: exact instructions of a run, cycles by the table of instructions of the Cortex-M4 without wait states (of m4 alone), flash, RAM of work and sums. With --eva Frama-C's Eva is asked whether
 any value leaves its type, from every state that 32 bits hold and through all steps, for at most so many seconds each.
 
 Needs gcc-arm-none-eabi and qemu-system-arm (--eva: frama-c-base); says so where they aren't installed.
@@ -17,40 +17,45 @@ import board
 
 from common.strict_texts import safe_controller
 
-EXAMPLES = ["first", "motor", "pmsm", "satellite", "wheel", "antenna", "rendezvous"]
+EXAMPLES = ["motor", "pmsm", "satellite", "wheel", "kiln", "antenna", "rendezvous"]
+# the status of `c` where the controller is too wide for it
+TOO_WIDE = 22
 # cycles mean nothing on other processors than the one whose table they are of
 TABLED = "m4"
 # states of each that are run: a run of the wide ones has tens of millions of instructions
 COUNTS = {"antenna": 2, "rendezvous": 1}
 
 
-def made(program, name, folder):
-    """The controller of an example, its states and the sums of their plans."""
+def made(program, name, folder, by):
+    """The controller of an example, its states and the sums of their plans; and whether the program writes its C."""
     example = os.path.join(board.TOP, "examples", name)
     controller, states = os.path.join(folder, "controller"), os.path.join(example, "state.csv" if name == "first" else "states.csv")
-    subprocess.run([program, "generate", os.path.join(example, "design.toml"), os.path.join(example, "policy.csv"), controller, os.path.join(folder, "report")], check=True)
+    plans = ["policy.csv"] if by == "generate" else ["lean.csv", "reference.csv"]
+    subprocess.run([program, by, *(os.path.join(example, file) for file in ["design.toml", *plans]), controller, os.path.join(folder, "report")], check=True)
+    written = subprocess.run([program, "c", controller, "mpc", os.path.join(folder, "mpc.c"), os.path.join(folder, "mpc.h")], capture_output=True, text=True)
+    if written.returncode not in (0, TOO_WIDE):
+        raise SystemExit(f"run.py: {name}: {written.stderr.strip()}")
     plans = subprocess.run([program, "solve", controller, states], capture_output=True, text=True, check=True).stdout.splitlines()
     with open(states, encoding="ascii") as file:
         rows = [[int(v) for v in line.split(",")] for line in file.read().split()]
     with open(controller, encoding="ascii") as file:
         count = COUNTS.get(name, len(rows))
-        return safe_controller(file.read()), rows[:count], [[int(v) for v in line.split()[1:]] for line in plans[:count]]
+        return safe_controller(file.read()), rows[:count], [[int(v) for v in line.split()[1:]] for line in plans[:count]], written.returncode == 0
 
 
-def measured(controller, states, sums, name, which, optimise):
+def measured(folder, controller, states, sums, name, which, optimise, straight):
     """A row of the table; an error where the board prints other sums."""
-    with tempfile.TemporaryDirectory() as folder:
-        outside = [*controller.hi[:-1], controller.hi[-1] + 1]
-        got = board.solve(folder, controller, [*states, outside], which, optimise)
-        if got != [*[(0, plan) for plan in sums], (controller.states, [])]:
-            raise SystemExit(f"run.py: {name} on {which} prints other sums than solve: {got}")
-        runs = {run for run in board.counts(folder, which)[: len(states)]}
-        flash, own = board.sizes(folder)
-        held = board.size_of(folder, "work") + board.size_of(folder, "sums") + own
+    outside = [*controller.hi[:-1], controller.hi[-1] + 1]
+    got = board.solve(folder, controller, [*states, outside], which, optimise, straight)
+    if got != [*[(0, plan) for plan in sums], (controller.states, [])]:
+        raise SystemExit(f"run.py: {name} on {which} prints other sums than solve: {got}")
+    runs = {run for run in board.counts(folder, which)[: len(states)]}
+    flash, own = board.sizes(folder)
+    held = (0 if straight else board.size_of(folder, "work")) + board.size_of(folder, "sums") + own
     instructions, cycles = max(runs)
     constant = "" if len({count for count, _ in runs}) == 1 else f" (from {min(runs)[0]:,})"
     told = f"{cycles:,}" if which == TABLED else ""
-    return f"| {name} | {which} {optimise} | {controller.width} | {controller.steps} | {instructions:,}{constant} | {instructions / controller.steps:,.0f} | {told} | {flash} | {held} |"
+    return f"| {name}, {'straight' if straight else 'tables'} | {which} {optimise} | {controller.width} | {controller.steps} | {instructions:,}{constant} | {instructions / controller.steps:,.0f} | {told} | {flash} | {held} |"
 
 
 def eva(controller, name, seconds):
@@ -73,6 +78,7 @@ def main():
     parser.add_argument("--boards", default="m4")
     parser.add_argument("--examples", default=",".join(EXAMPLES))
     parser.add_argument("--optimise", default="-O2")
+    parser.add_argument("--by", choices=["lean", "generate"], default="lean")
     parser.add_argument("--eva", type=int, default=0, metavar="SECONDS")
     given = parser.parse_args()
     if not given.eva and board.lacking():
@@ -81,11 +87,13 @@ def main():
         print("| Example | Board | Width | K | Instructions a run | a step | Cycles | Flash | RAM |\n|---|---|---|---|---|---|---|---|---|")
     for name in given.examples.split(","):
         with tempfile.TemporaryDirectory() as folder:
-            controller, states, sums = made(given.program, name, folder)
-        if given.eva:
-            print(eva(controller, name, given.eva), flush=True)
-        for which in given.boards.split(",") if not given.eva else []:
-            print(measured(controller, states, sums, name, which, given.optimise), flush=True)
+            controller, states, sums, has_program = made(os.path.abspath(given.program), name, folder, given.by)
+            if given.eva:
+                print(eva(controller, name, given.eva), flush=True)
+                continue
+            for which in given.boards.split(","):
+                for straight in [True, False] if has_program else [False]:
+                    print(measured(folder, controller, states, sums, name, which, given.optimise, straight), flush=True)
 
 
 if __name__ == "__main__":
