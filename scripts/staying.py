@@ -5,7 +5,8 @@
 
 Each state whose faces don't hold by the model's own limits gets limits on the next state, by `stay` in the model's `[box]`: the next state is kept so much inside the box, and may exceed
 that by as much. From each corner some inputs must then lead back inside. Which box has such inputs at all its corners, and is the largest, a linear program says, of each choice of
-coordinates: the model's own, `position + T rate`, and those in which loops of linear gains shrink each by itself, with held states and last inputs in them, as `speed - reference`.
+coordinates: the model's own, `position + T rate`, and those in which loops of linear gains shrink each by itself, with held states and last inputs in them, as `speed - reference`. Of a box of
+last inputs a part may be taken, too: then the limits on these inputs are so much narrower.
 Each box is judged by how much of the model's own it holds, and by what its controller takes: which part of a stage a run is on a Cortex-M4 of so many MHz (100), and the steps K.
 A controller is one of `lean`, or with --generate of `stay`, of at most N steps (20000).
 

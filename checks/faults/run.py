@@ -39,7 +39,7 @@ SHORT_STEP = 211
 OLD = {"c": b"an old controller\n", "r": b"an old report\n", "r.json": b"an old report\n", "l": b"an old listing\n"}
 # where the words name what is read
 READS = {"generate": (1, 2), "lean": (1, 2, 3, 6, 7), "stay": (1, 2, 5, 6), "solve": (1, 2), "loop": (1, 2, 3, 5), "demo": (), "list": (1,), "play": (1, 2),
-         "split": (1, 2, 3), "serve": (1, 2)}
+         "split": (1, 2, 3), "serve": (1, 2), "settle": (1, 2, 3, 4)}
 
 
 def example(name, file):
@@ -70,6 +70,10 @@ CUT = {"d": FIRST["d"], "l": b"1,0\n", "p": b"1,0\n1,0\n8,-7\n8,-7\n"}
 CUT_TWICE = {"d": cases.in_version(2, MADE["d"]), "l": b"1,-16\n1,3\n", "p": 4 * MADE["p"]}
 # the first controller with an exponent for each row
 SECOND_CONTROLLER = FIRST["k"].replace(b"mpc-controller 1\n", b"mpc-controller 2\n").replace(b"\nlo ", b"\nexps 0 1 1\nlo ")
+
+# x+ = x + u, of 40 over 2^4 to both sides, and a controller of -x/2 between -1 and 1; from where no multiplier moves it settles, also under disturbances
+SETTLED = {"d": FIRST["d"].replace(b"grid = 0\nlo = [0]\nhi = [1]", b"grid = 4\nlo = [-40]\nhi = [40]"), "f": b"5,-31,32\n0,-31,32\n1,-3,3\n", "w": b"-1\n1\n",
+           "k": b"mpc-controller 1\nsize 1 1 1 2\nbits 11 4 1 40\nsteps 9\nclamp 65536\nwords 5\nlo -40\nhi 40\nP 1024\nT 0\nW 512 -512\nG 2048\nG -2048\nE 0\nE 0\nb 2048 2048\nend\n"}
 
 
 class Command:
@@ -169,6 +173,11 @@ def all_commands(executable):
     yield Command(executable, "loop, under disturbances", shifted, {**FIRST, "v": b"1\n0\n1\n0\n"})
     yield Command(executable, "loop, out of the box", shifted, {**FIRST, "v": b"1\n0\n2\n0\n"})
     made = listing.text_of(listing.listing_of(control.read_controller(FIRST["k"])))
+    settle = ["settle", "d", "k", "f"]
+    yield Command(executable, "settle", settle, SETTLED)
+    yield Command(executable, "settle, under disturbances", [*settle, "w"], SETTLED)
+    yield Command(executable, "settle, a multiplier that moves", settle, {**SETTLED, "f": b"5,-32,32\n0,-32,32\n1,-3,3\n"})
+    yield Command(executable, "settle, a loop that isn't back", [*settle, "w"], {**SETTLED, "f": b"1,0,0\n0,-31,32\n1,-1,1\n"})
     yield Command(executable, "list", ["list", "k", "l"], FIRST)
     yield Command(executable, "list, version 2", ["list", "k", "l"], {**FIRST, "k": SECOND_CONTROLLER})
     split, first = ["split", "d", "l", "p", "c", "r"], control.read_controller(FIRST["k"])
