@@ -52,6 +52,14 @@ bound_narrow t units excess h = close excess (bound_of t units excess) h
     close : (x r : ℕ) → max x (2 ^ 82 * r) ≤ 2 ^ 126 → r ≤ 2 ^ 44
     close x r h = omega (arith, h)
 
+-- as a number of 128 bits
+pub bound_range : (t : Targets) (units excess : ℕ) (r : ℤ) → r ≡ pos (bound_of t units excess) → lean_multiplier_size units excess (floor_target t) ≤ 2 ^ 126 →
+    (pos 1 ≤ℤ r) × (r ≤ℤ pos (2 ^ 44))
+bound_range t units excess r e room = within (bound_of t units excess) e (bound_some t units excess) (bound_narrow t units excess room)
+  where
+    within : (n : ℕ) → r ≡ pos n → 1 ≤ n → n ≤ 2 ^ 44 → (pos 1 ≤ℤ r) × (r ≤ℤ pos (2 ^ 44))
+    within n e l m = rw e (omega (arith, ints, l), omega (arith, ints, m))
+
 -- ---- terms
 -- by their numbers
 pub terms_same : (t : Targets) (units excess : ℕ) (r steps errors u x v : ℤ) → r ≡ pos (bound_of t units excess) → steps ≡ pos (step_target t) →
