@@ -75,7 +75,8 @@ returns c =
             ap (λ (x : Numbers). pos (row_bound c.args.terms.target (exponent_in n.exponents i) x.step_exponent (unsigned_abs c.args.terms.aim.r) x.steps (unsigned_abs c.args.eps))) parts;
         gap = nonneg c.args.eps c.requires.errors;
         undercut = (rw (to_z-of_z w128 _ r, to_z-of_z w128 _ w, c.unwrap_or.ensures, to_z-of_z w128 _ v, repaired_is c.args.terms.target c.row_bound-violation.result _ most) at c.undercut.ensures) ∙
-            ap (λ (x : Numbers). pos (undercut_bound (unsigned_abs c.args.terms.aim.r) (repaired c.args.terms.target (row_bound c.args.terms.target x.step_exponent x.step_exponent (unsigned_abs c.args.terms.aim.r) x.steps (unsigned_abs c.args.eps))))) parts;
+            ap (λ (x : Numbers). pos (undercut_bound (unsigned_abs c.args.terms.aim.r)
+            (repaired c.args.terms.target (row_bound c.args.terms.target x.step_exponent x.step_exponent (unsigned_abs c.args.terms.aim.r) x.steps (unsigned_abs c.args.eps))))) parts;
       };
     })
   where
