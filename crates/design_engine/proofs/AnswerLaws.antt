@@ -1,9 +1,10 @@
 -- What an answer says of the tests, and what is certified for what is built.
 use Rattle.std.proofs.Common.{◌≡◌, inl, inr, ◌⊎◌, ℕ, ◌<◌, ◌≤◌, ℤ, List, length, unsigned_abs, refl, ap, subst, rules, arith, Result, Ok, Err}
 use Rattle.std.specs.Prelude.{IfOk, IfErr, OnOk, IsOk}
-use Rattle.std.specs.Result.{IsErr}
-use Rattle.qp_model.specs.problem.Parts.{IsDesign, design_of}
+use Rattle.std.specs.Result.{IsErr, IsErrAnd}
+use Rattle.qp_model.specs.problem.Parts.{design_of}
 use Rattle.qp_model.specs.problem.Policy.{Plans, IsPolicyFor}
+use Rattle.qp_model.specs.declared.bounds.Margin.{Margin}
 use Rattle.qp_model.specs.machine.Controller.{Numbers}
 use Rattle.qp_model.specs.form.Class.{form_of}
 use Rattle.qp_model.specs.bounds.RealErrors.{real_errors, real_cost}
@@ -11,22 +12,26 @@ use Rattle.qp_model.specs.bounds.Certified.{IsCertified}
 use Rattle.design_engine.proofs.FormLaws.{form_law}
 use Rattle.qp_model.specs.declared.design_parts.DesignParts.{DesignParts}
 use Rattle.qp_model.specs.bounds.Printed.{Printed}
-use Rattle.qp_model.specs.declared.bounds.Margin.{Margin}
 use Rattle.step_error.proofs.RealSteps.{carried}
 use Rattle.step_error.proofs.MachineRuns.{machine_run}
-use Rattle.design_engine.specs.Targets.{Targets, targets_of, IsWithinTargets}
+use Rattle.design_engine.specs.Targets.{targets_of, IsWithinTargets}
 use Rattle.design_engine.specs.Aims.{aim_of, IsMadeWith}
 use Rattle.design_engine.specs.Bounds.{margin_of, printed_multiplier}
 use Rattle.design_engine.specs.declared.aimed.Aim.{Aim}
-use Rattle.design_engine.proofs.BuiltFacts.{cost_limited}
+use Rattle.design_engine.proofs.BuiltFacts.{cost_limited, built_as}
+use Rattle.design_engine.proofs.RefusalFacts.{aim_caused}
 use Rattle.integer_algebra.specs.Sums.{at}
 use Rattle.qp_model.specs.problem.Box.{IsGridState}
 use Rattle.step_error.specs.MachineLaws.{HasErrors}
-use Rattle.design_engine.specs.Built.{IsBuilt}
-use Rattle.design_engine.specs.Refusals.{PassesAll, HasCause, IsRefused}
+use Rattle.design_engine.specs.Built.{IsBuilt, IsBuiltAs}
+use Rattle.design_engine.specs.Tests.{PassesAim, HasAimCause, IsRefusedFor}
+use Rattle.design_engine.specs.Terms.{plain_terms, IsMadeBy, Tells}
+use Rattle.design_engine.specs.Refusals.{PassesExponent, PassesSome, HasCause}
+use Rattle.design_engine.specs.declared.bounds.Terms.{Terms}
+use Rattle.design_engine.specs.declared.generation.Made.{Made}
 use Rattle.qp_model.specs.declared.refusal.Refusal.{Refusal}
 use Rattle.qp_model.specs.declared.refusal.Refusal.TheVariants.{Memory}
-use Rattle.design_engine.proofs.CauseLaws.{one_cause, no_cause}
+use Rattle.design_engine.proofs.TestLaws.{IsOne, IsNone}
 use Rattle.design_engine.proofs.PromiseLaws.{certified_from}
 use Rattle.design_engine.proofs.TargetLaws.{targets_law}
 
@@ -53,10 +58,6 @@ pub err_map : {T E : Type 0} (r : Result T E) (p q : E → Type 0) → IfErr r p
 err_map (Ok x) p q h f = h
 err_map (Err e) p q h f = f e h
 
-pub on_ok : {T E : Type 0} (r : Result T E) (p : Type 0) → p → OnOk r p
-on_ok (Ok x) p h = h
-on_ok (Err e) p h = tt
-
 pub absent_of_error : {T E : Type 0} (r : Result T E) (p : T → Type 0) → IsErr r → IfOk r p
 absent_of_error (Ok x) p h = absurd (search rules)
 absent_of_error (Err e) p h = tt
@@ -65,26 +66,28 @@ pub ok_of_error : {T E : Type 0} (r : Result T E) (p : Type 0) → IsErr r → O
 ok_of_error (Ok x) p h = absurd (search rules)
 ok_of_error (Err e) p h = tt
 
--- ---- each cause is answered, and so is what passes every test
--- some numbers pass every test
-pub record IsPassed (p : DesignParts) (t : Targets) (plans : Plans) : Type 0 where
-  pub margin : Margin
-  pub exponent : ℕ
-  pub bits : ℕ
-  pub passes : PassesAll (design_of p) t plans margin exponent bits
+-- ---- what an answer tells
+-- a refusal that is handed on
+pub handed : (is : Made → Type 0) (passed : Type 0) (cause from : Refusal → Type 0) (r : Result Made Refusal) → IsErr r → IsErrAnd r from →
+    ((e : Refusal) → from e → IsRefusedFor cause e) → Tells is passed cause r
+handed is passed cause from (Ok x) e h f = absurd h
+handed is passed cause from (Err x) e h f = record { made = tt; passes = tt; refused = f x h }
 
-module _ (p : DesignParts) (t : Targets) (plans : Plans) (design : IsDesign p) (policy : IsPolicyFor (design_of p) plans) where
-  pub every_from : {T : Type 0} (r : Result T Refusal) → IfErr r (IsRefused (design_of p) t plans) → OnOk r (IsPassed p t plans) →
-      (e : Refusal) → HasCause (design_of p) t plans e → (r ≡ Err e) ⊎ (r ≡ Err Memory)
-  every_from (Ok x) refused h e cause = absurd (no_cause p plans t h.margin h.exponent h.bits e design policy h.passes cause)
-  every_from (Err o) (inl memory) h e cause = inr (ap Err memory)
-  every_from (Err o) (inr other) h e cause = inl (ap Err (one_cause p plans t o e design policy other cause))
+-- the same of an answer, in other words
+pub told_as : (is other : Made → Type 0) (passed more : Type 0) (cause why : Refusal → Type 0) (r : Result Made Refusal) → ((x : Made) → is x → other x) → (passed → more) →
+    ((e : Refusal) → IsRefusedFor cause e → IsRefusedFor why e) → Tells is passed cause r → Tells other more why r
+told_as is other passed more cause why (Ok x) f g k h = record { made = f x h.made; passes = g h.passes; refused = tt }
+told_as is other passed more cause why (Err e) f g k h = record { made = tt; passes = tt; refused = k e h.refused }
 
-  pub accepted_from : {T : Type 0} (r : Result T Refusal) → IfErr r (IsRefused (design_of p) t plans) →
-      (m : Margin) (s f : ℕ) → PassesAll (design_of p) t plans m s f → IsOk r ⊎ (r ≡ Err Memory)
-  accepted_from (Ok x) refused m s f passes = inl refl
-  accepted_from (Err o) (inl memory) m s f passes = inr (ap Err memory)
-  accepted_from (Err o) (inr other) m s f passes = absurd (no_cause p plans t m s f o design policy passes other)
+-- each cause is answered, and so is what passes every test
+module _ (is : Made → Type 0) (passed : Type 0) (cause : Refusal → Type 0) (one : IsOne cause) (none : passed → IsNone cause) where
+  pub every_from : (r : Result Made Refusal) → Tells is passed cause r → (e : Refusal) → cause e → (r ≡ Err e) ⊎ (r ≡ Err Memory)
+  every_from (Ok x) h e k = absurd (none h.passes e k)
+  every_from (Err o) h e k = elim h.refused [ inl memory ↦ inr (ap Err memory) | inr other ↦ inl (ap Err (one o e other k)) ]
+
+  pub accepted_from : (r : Result Made Refusal) → Tells is passed cause r → passed → IsOk r ⊎ (r ≡ Err Memory)
+  accepted_from (Ok x) h passes = inl refl
+  accepted_from (Err o) h passes = elim h.refused [ inl memory ↦ inr (ap Err memory) | inr other ↦ absurd (none passes o other) ]
 
 -- ---- what is built
 pub built_certified : (p : DesignParts) (plans : Plans) (c : Numbers) (b : Printed) → IsBuilt p plans c b → IsCertified (design_of p) c b
@@ -109,3 +112,13 @@ built_within p plans c b h = targets_law p (real_cost (design_of p) (form_of (de
   exponents = λ i l. h.made.made.exponents.bounded i (subst (λ (n : ℕ). i < n) h.made.made.sizes.rows l);
   bounds = h.bounds;
 })
+
+-- what is told of the terms of a margin is told of its policy
+pub plain_told : (p : DesignParts) (plans : Plans) (m : Margin) (s : ℕ) (x : Terms) (r : Result Made Refusal) → IsPolicyFor (design_of p) plans →
+    PassesExponent (design_of p) (targets_of p) plans m s → x ≡ plain_terms (targets_of p) m →
+    Tells (IsMadeBy p x) ((f : ℕ) × PassesAim (design_of p) x.aim s f) (HasAimCause (design_of p) x.aim s) r →
+    Tells (IsBuiltAs p plans) (PassesSome (design_of p) (targets_of p) plans) (HasCause (design_of p) (targets_of p) plans) r
+plain_told p plans m s x r policy passes is h =
+    told_as (IsMadeBy p (plain_terms (targets_of p) m)) _ _ _ _ _ r (λ made. built_as p plans m made policy passes.before.before)
+    (λ k. (m, s, k.0, record { before = passes; aim = k.1 })) (aim_caused (design_of p) (targets_of p) plans m s passes)
+    (subst (λ (y : Terms). Tells (IsMadeBy p y) ((f : ℕ) × PassesAim (design_of p) y.aim s f) (HasAimCause (design_of p) y.aim s) r) is h)

@@ -1,11 +1,11 @@
 -- What passes every test is built.
-use Rattle.std.proofs.Common.{◌≡◌, inl, inr, ℕ, false, ◌≤◌, ◌^◌, pos, ◌≤ℤ◌, unsigned_abs, List, arith, refl, ap, sym, subst, ◌∙◌}
+use Rattle.std.proofs.Common.{◌≡◌, inl, inr, ℕ, ◌≤◌, ◌^◌, pos, ◌≤ℤ◌, unsigned_abs, List, arith, refl, ap, sym, subst, ◌∙◌}
 use Rattle.std.proofs.lemmas.Bool.{cases_eq}
 use Rattle.std.proofs.lemmas.List.Elements.{All-from_get_or}
 use Rattle.qp_model.specs.problem.Parts.{IsDesign, design_of}
 use Rattle.qp_model.specs.problem.Policy.{Plans, IsPolicyFor}
 use Rattle.qp_model.specs.form.Curvature.{AreExponents}
-use Rattle.qp_model.specs.bounds.Choices.{multiplier_of}
+use Rattle.qp_model.specs.bounds.Choices.{multiplier_of, violation_bound, row_violation_bound}
 use Rattle.qp_model.specs.bounds.CornerClass.{IsMargin}
 use Rattle.qp_model.specs.form.Class.{form_of, hessian_quantity}
 use Rattle.design_engine.proofs.FormLaws.{form_law}
@@ -17,17 +17,20 @@ use Rattle.qp_model.specs.machine.Controller.{Numbers}
 use Rattle.qp_model.specs.problem.Limits.{text_version}
 use Rattle.qp_model.specs.machine.AbsoluteSums.{IsController}
 use Rattle.qp_model.specs.declared.design_parts.DesignParts.{DesignParts}
-use Rattle.qp_model.specs.bounds.Printed.{Printed}
+use Rattle.qp_model.specs.bounds.Printed.{Printed, printed}
 use Rattle.qp_model.specs.declared.bounds.Margin.{Margin}
 use Rattle.hessian_check.specs.Steps.{IsExponentOf}
 use Rattle.hessian_check.specs.RowExponents.{exponent_in, AreExponentsOf}
 use Rattle.design_engine.specs.Targets.{targets_of}
 use Rattle.design_engine.specs.Aims.{aim_of, steps_of, AreBitsOf, IsMadeWith}
 use Rattle.design_engine.specs.declared.aimed.Aim.{Aim}
-use Rattle.design_engine.specs.Bounds.{margin_of, stated_cost, AreBoundsOf}
+use Rattle.design_engine.specs.Bounds.{margin_of, stated_cost, AreBoundsWith}
+use Rattle.design_engine.specs.Terms.{plain_terms, IsMadeBy}
+use Rattle.design_engine.specs.declared.generation.Made.{Made}
+use Rattle.dual_bounds.proofs.RowBounds.{greatest_row}
 use Rattle.controller_maker.specs.Assembled.{HasExponents, IsAssembled}
 use Rattle.controller_maker.proofs.RowExponents.{repeated_exponents}
-use Rattle.design_engine.specs.Built.{IsBuilt}
+use Rattle.design_engine.specs.Built.{IsBuiltAs}
 use Rattle.design_engine.specs.Refusals.{PassesMargin}
 
 -- the step exponent is at most 40
@@ -94,15 +97,35 @@ pub cost_limited : (p : DesignParts) (a : Aim) (c : Numbers) → IsMadeWith p a 
     real_cost (design_of p) (form_of (design_of p)) (unsigned_abs a.r) c ≤ unsigned_abs a.error_target
 cost_limited p a c h = omega (arith, made_within p a c h, h.bits.within)
 
--- with a margin, and with its bounds
-pub built_from : (p : DesignParts) (plans : Plans) (c : Numbers) (b : Printed) (m : Margin) → IsPolicyFor (design_of p) plans →
-    PassesMargin (design_of p) (targets_of p) plans m → margin_of b ≡ m → b.lean ≡ false → IsMadeWith p (aim_of (targets_of p) m) c →
-    AreBoundsOf c b (real_cost (design_of p) (form_of (design_of p)) (multiplier_of m) c) → IsBuilt p plans c b
-built_from p plans c b m policy passes same plain made bounds = record {
-  policy = policy;
-  margin = subst (λ (x : Margin). IsMargin (design_of p) plans x) (sym same) passes.margin;
-  slack = subst (λ (x : Margin). pos 1 ≤ℤ x.units) (sym same) passes.slack;
-  made = subst (λ (x : Margin). IsMadeWith p (aim_of (targets_of p) x) c) (sym same) made;
-  lean = plain;
-  bounds = subst (λ (x : Margin). AreBoundsOf c b (real_cost (design_of p) (form_of (design_of p)) (multiplier_of x) c)) (sym same) bounds;
+-- with the terms of a margin, and with their bounds
+pub built_as : (p : DesignParts) (plans : Plans) (m : Margin) (made : Made) → IsPolicyFor (design_of p) plans → PassesMargin (design_of p) (targets_of p) plans m →
+    IsMadeBy p (plain_terms (targets_of p) m) made → IsBuiltAs p plans made
+built_as p plans m made policy passes h = record {
+  built = record {
+    policy = policy;
+    margin = subst (λ (x : Margin). IsMargin (design_of p) plans x) (sym same) passes.margin;
+    slack = subst (λ (x : Margin). pos 1 ≤ℤ x.units) (sym same) passes.slack;
+    made = subst (λ (x : Margin). IsMadeWith p (aim_of (targets_of p) x) c) (sym same) h.controller;
+    lean = h.bounds.lean;
+    bounds = subst (λ (x : Margin). AreBoundsWith c b (multiplier_of x) (cost x) (violation_bound c.step_exponent (multiplier_of x) c.steps (cost x))
+        (λ e. row_violation_bound e c.step_exponent (multiplier_of x) c.steps (cost x)) (unsigned_abs b.violation)) (sym same)
+        (subst (λ (n : ℕ). AreBoundsWith c b (multiplier_of m) (cost m) n rows (unsigned_abs b.violation)) (greatest_row c.step_exponent (multiplier_of m) c.steps (cost m))
+        (subst (λ (n : ℕ). AreBoundsWith c b (multiplier_of m) (cost m) (rows c.step_exponent) rows n) (sym (ap unsigned_abs h.bounds.bounds.violation)) h.bounds.bounds));
+  };
+  errors = h.errors ∙ (λ i. pos (stated_cost (design_of p) (multiplier_of (sym same i)) c.fraction_bits));
 }
+  where
+    c : Numbers
+    c = made.controller
+
+    b : Printed
+    b = printed made.bounds
+
+    same : margin_of b ≡ m
+    same = λ i. record { units = h.bounds.units i; cost = h.bounds.corners i }
+
+    cost : Margin → ℕ
+    cost x = real_cost (design_of p) (form_of (design_of p)) (multiplier_of x) c
+
+    rows : ℕ → ℕ
+    rows e = row_violation_bound e c.step_exponent (multiplier_of m) c.steps (cost m)

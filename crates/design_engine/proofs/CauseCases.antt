@@ -1,5 +1,5 @@
 -- What holds of each quantity and of each refusal that a test can name holds of all that it names: what `generate` and `lean` are refused with are such properties.
-use Rattle.std.proofs.Common.{◌≡◌, inl, inr, ◌⊎◌, ◌↔◌, ℕ, Result, Err}
+use Rattle.std.proofs.Common.{◌≡◌, inl, inr, ◌⊎◌, ◌↔◌, ℕ, ℤ, Result, Err}
 use Rattle.frac_scaled.specs.declared.fraction.Frac.{Frac}
 use Rattle.qp_model.specs.problem.Design.{Design}
 use Rattle.qp_model.specs.problem.Policy.{Plans}
@@ -11,7 +11,7 @@ use Rattle.corner_margin.specs.Refusing.{of_margin}
 use Rattle.corner_margin.specs.declared.fault.MarginFault.{MarginFault}
 use Rattle.corner_margin.specs.declared.fault.MarginFault.TheVariants.{Memory as margin_memory, TooWide as margin_wide, NoMargin as margin_none}
 use Rattle.hessian_check.specs.Steps.{HasNoStep}
-use Rattle.design_engine.specs.Tests.{IsRefusedFor, PassesForm, IsFormWide, HasFormCause, IsAimWide}
+use Rattle.design_engine.specs.Tests.{IsRefusedFor, PassesForm, IsFormWide, HasFormCause, IsAimWide, HasAimCause}
 use Rattle.design_engine.specs.declared.aimed.Aim.{Aim}
 use Rattle.qp_model.specs.declared.refusal.Refusal.{Refusal}
 use Rattle.qp_model.specs.declared.refusal.Refusal.TheVariants.{Memory, NoMargin, Curvature, TooManySteps, TooFine, TooWide}
@@ -20,7 +20,7 @@ use Rattle.qp_model.specs.declared.refusal.Refusal.TheVariants.{Memory, NoMargin
 module _ (W P : Quantity → Type 0) (prediction : W Prediction → P Prediction) (slack : W CornerSlack → P CornerSlack) (cost : W CornerCost → P CornerCost) (multiplier : W Multiplier → P Multiplier) (hessian : W Hessian → P Hessian)
     (rows : W Rows → P Rows) (curvature : W curvature_named → P curvature_named) (error : W Error → P Error) (descent : W Descent → P Descent)
     (width : W Width → P Width) (turn : W Turn → P Turn) (excess : W Excess → P Excess) (stay : W Stay → P Stay) (settle : W Settle → P Settle) where
-  each_quantity : (quantity : Quantity) → W quantity → P quantity
+  pub each_quantity : (quantity : Quantity) → W quantity → P quantity
   each_quantity Prediction h = prediction h
   each_quantity CornerSlack h = slack h
   each_quantity CornerCost h = cost h
@@ -54,7 +54,19 @@ module _ (d : Design) (P : Quantity → Type 0) where
   wide_aim a s error descent width =
       each_quantity (IsAimWide d a s) P (λ h. absurd h) (λ h. absurd h) (λ h. absurd h) (λ h. absurd h) (λ h. absurd h) (λ h. absurd h) (λ h. absurd h) error descent width (λ h. absurd h) (λ h. absurd h) (λ h. absurd h) (λ h. absurd h)
 
--- ---- a refusal by the corners, and by the form
+-- ---- one refusal after the other
+module _ (W P : Refusal → Type 0) (memory : W Memory → P Memory) (margin : (corner row : ℕ) (slack : Frac) → W (NoMargin corner row slack) → P (NoMargin corner row slack))
+    (curvature : W Curvature → P Curvature) (steps : (k : ℤ) → W (TooManySteps k) → P (TooManySteps k)) (fine : (eps : ℤ) → W (TooFine eps) → P (TooFine eps))
+    (wide : (quantity : Quantity) → W (TooWide quantity) → P (TooWide quantity)) where
+  pub each_refusal : (e : Refusal) → W e → P e
+  each_refusal Memory h = memory h
+  each_refusal (NoMargin corner row slack) h = margin corner row slack h
+  each_refusal Curvature h = curvature h
+  each_refusal (TooManySteps k) h = steps k h
+  each_refusal (TooFine eps) h = fine eps h
+  each_refusal (TooWide quantity) h = wide quantity h
+
+-- ---- a refusal by the corners, by the form, and by an aim
 module _ (d : Design) (Cause : Refusal → Type 0) where
   pub margin_cases : (plans : Plans) → ((quantity : Quantity) → IsFirstWideCorner d plans quantity → Cause (TooWide quantity)) →
       ((corner row : ℕ) (slack : Frac) → HasCornerRoom d plans × IsFirstShort d plans corner row slack → Cause (NoMargin corner row slack)) →
@@ -66,11 +78,15 @@ module _ (d : Design) (Cause : Refusal → Type 0) where
   margin_cases plans of_wide of_short r (margin_none corner row slack) is wide short e f = rw f (inr (of_short corner row slack (short corner row slack is)))
 
   pub form_cases : (PassesForm d × HasNoStep d → Cause Curvature) → ((quantity : Quantity) → IsFormWide d quantity → Cause (TooWide quantity)) →
-      (e : Refusal) → IsRefusedFor (HasFormCause d) e → (e ≡ Memory) ⊎ Cause e
-  form_cases none wide e (inl memory) = inl memory
-  form_cases none wide Memory (inr k) = absurd k
-  form_cases none wide (NoMargin corner row slack) (inr k) = absurd k
-  form_cases none wide Curvature (inr k) = inr (none k)
-  form_cases none wide (TooManySteps steps) (inr k) = absurd k
-  form_cases none wide (TooFine eps) (inr k) = absurd k
-  form_cases none wide (TooWide quantity) (inr k) = inr (wide quantity k)
+      (e : Refusal) → HasFormCause d e → Cause e
+  form_cases none wide = each_refusal (HasFormCause d) Cause (λ h. absurd h) (λ corner row slack h. absurd h) none (λ k h. absurd h) (λ eps h. absurd h) wide
+
+  pub aim_cases : (a : Aim) (s : ℕ) → ((k : ℤ) → HasAimCause d a s (TooManySteps k) → Cause (TooManySteps k)) →
+      ((eps : ℤ) → HasAimCause d a s (TooFine eps) → Cause (TooFine eps)) → ((quantity : Quantity) → IsAimWide d a s quantity → Cause (TooWide quantity)) →
+      (e : Refusal) → HasAimCause d a s e → Cause e
+  aim_cases a s many fine wide = each_refusal (HasAimCause d a s) Cause (λ h. absurd h) (λ corner row slack h. absurd h) (λ h. absurd h) many fine wide
+
+-- a cause, by another
+pub refused_map : (p q : Refusal → Type 0) → ((e : Refusal) → p e → q e) → (e : Refusal) → IsRefusedFor p e → IsRefusedFor q e
+refused_map p q f e (inl memory) = inl memory
+refused_map p q f e (inr h) = inr (f e h)

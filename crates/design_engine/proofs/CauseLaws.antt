@@ -1,19 +1,19 @@
 -- Each cause is that of one test in a list of tests, and so there is one at most.
-use Rattle.std.proofs.Common.{◌≡◌, inl, inr, ℕ, ◌≤◌, ◌^◌, refl}
+use Rattle.std.proofs.Common.{inl, inr, ℕ, refl}
 use Rattle.qp_model.specs.problem.Design.{Design}
-use Rattle.qp_model.specs.problem.Parts.{IsDesign, design_of}
-use Rattle.qp_model.specs.problem.Policy.{Plans, IsPolicyFor}
+use Rattle.qp_model.specs.problem.Parts.{design_of}
+use Rattle.qp_model.specs.problem.Policy.{Plans}
 use Rattle.qp_model.specs.bounds.Choices.{multiplier_size_of}
-use Rattle.qp_model.specs.declared.design_parts.DesignParts.{DesignParts}
 use Rattle.qp_model.specs.declared.bounds.Margin.{Margin}
 use Rattle.qp_model.specs.declared.quantity.Quantity.{Quantity}
-use Rattle.qp_model.specs.declared.quantity.Quantity.TheVariants.{Prediction, CornerSlack, CornerCost, Multiplier, Hessian, Rows, Curvature as curvature_named, Error, Descent, Width, Turn, Excess, Stay, Settle}
+use Rattle.qp_model.specs.declared.quantity.Quantity.TheVariants.{Prediction, CornerSlack, CornerCost, Multiplier, Hessian, Rows, Curvature as curvature_named, Error, Descent, Width}
 use Rattle.design_engine.specs.Targets.{Targets}
 use Rattle.design_engine.specs.Aims.{aim_of}
-use Rattle.design_engine.specs.Refusals.{PassesMargin, PassesExponent, PassesAll, HasCause, IsTooWide, HasWideForm, HasWideAim, HasMissedAim}
+use Rattle.design_engine.specs.Refusals.{PassesMargin, PassesExponent, HasCause, IsTooWide, HasWideForm, HasWideAim, HasMissedAim}
 use Rattle.design_engine.specs.Order.{CausesLaw, PassingLaw}
 use Rattle.qp_model.specs.declared.refusal.Refusal.{Refusal}
-use Rattle.qp_model.specs.declared.refusal.Refusal.TheVariants.{Memory, NoMargin, Curvature, TooManySteps, TooFine, TooWide}
+use Rattle.qp_model.specs.declared.refusal.Refusal.TheVariants.{Curvature, TooManySteps, TooFine, TooWide}
+use Rattle.design_engine.proofs.CauseCases.{each_quantity, each_refusal}
 use Rattle.design_engine.proofs.TestLaws.{Sized, sized_one, sized_none}
 use Rattle.design_engine.proofs.StageLaws.{OfAim, aim_told, aim_one, aim_none, OfForm, form_told, form_passed, form_one, form_none, OfCorners, short_told, corner_told, corner_passed, corners_one, corners_none}
 
@@ -47,29 +47,21 @@ module _ (d : Design) (t : Targets) (plans : Plans) where
   missed e h = from_exponent e h.0 h.1 h.2 (aim_told d (aim_of t h.0) h.1 e h.3)
 
   wide_told : (quantity : Quantity) → IsTooWide d t plans quantity → Whole d t plans (TooWide quantity)
-  wide_told Prediction (inl h) = corner_told d plans (AfterMargin d t) Prediction h
-  wide_told Prediction (inr h) = of_form Prediction h
-  wide_told CornerSlack h = corner_told d plans (AfterMargin d t) CornerSlack h
-  wide_told CornerCost h = corner_told d plans (AfterMargin d t) CornerCost h
-  wide_told Multiplier h = from_margin _ h.0 h.1 (inl (refl, h.2))
-  wide_told Hessian h = of_form Hessian h
-  wide_told Rows h = of_form Rows h
-  wide_told curvature_named h = of_form curvature_named h
-  wide_told Error h = of_aim Error h
-  wide_told Descent h = of_aim Descent h
-  wide_told Width h = of_aim Width h
-  wide_told Turn h = absurd h
-  wide_told Excess h = absurd h
-  wide_told Stay h = absurd h
-  wide_told Settle h = absurd h
+  wide_told =
+      each_quantity (IsTooWide d t plans) (λ quantity. Whole d t plans (TooWide quantity)) prediction
+      (corner_told d plans (AfterMargin d t) CornerSlack) (corner_told d plans (AfterMargin d t) CornerCost) (λ h. from_margin _ h.0 h.1 (inl (refl, h.2)))
+      (of_form Hessian) (of_form Rows) (of_form curvature_named) (of_aim Error) (of_aim Descent) (of_aim Width)
+      (λ h. absurd h) (λ h. absurd h) (λ h. absurd h) (λ h. absurd h)
+    where
+      prediction : IsTooWide d t plans Prediction → Whole d t plans (TooWide Prediction)
+      prediction (inl h) = corner_told d plans (AfterMargin d t) Prediction h
+      prediction (inr h) = of_form Prediction h
 
   told : (e : Refusal) → HasCause d t plans e → Whole d t plans e
-  told Memory h = absurd h
-  told (NoMargin corner row slack) h = short_told d plans (AfterMargin d t) corner row slack h.0 h.1
-  told Curvature h = from_margin _ h.0 h.1.before (inr (h.1.multiplier, form_told d (AfterExponent d t h.0) Curvature (h.1.form, h.2)))
-  told (TooManySteps k) h = missed (TooManySteps k) h
-  told (TooFine eps) h = missed (TooFine eps) h
-  told (TooWide quantity) h = wide_told quantity h
+  told =
+      each_refusal (HasCause d t plans) (Whole d t plans) (λ h. absurd h) (λ corner row slack h. short_told d plans (AfterMargin d t) corner row slack h.0 h.1)
+      (λ h. from_margin _ h.0 h.1.before (inr (h.1.multiplier, form_told d (AfterExponent d t h.0) Curvature (h.1.form, h.2))))
+      (λ k. missed (TooManySteps k)) (λ eps. missed (TooFine eps)) wide_told
 
 -- ---- there is one at most, and none where all tests are passed
 pub one_cause : CausesLaw

@@ -1,22 +1,26 @@
 -- What the tests' numbers are within.
-use Rattle.std.proofs.Common.{◌≡◌, ℕ, zero, suc, ◌+◌, ◌*◌, ◌/◌, ◌^◌, ◌≤◌, min, max, ℤ, pos, negsuc, ◌*ℤ◌, ◌≤ℤ◌, unsigned_abs, arith, ap, subst, ◌∙◌, to_z, of_z}
+use Rattle.std.proofs.Common.{◌≡◌, ℕ, ◌*◌, ◌/◌, ◌^◌, ◌≤◌, min, max, ℤ, pos, negsuc, ◌*ℤ◌, ◌≤ℤ◌, unsigned_abs, arith, ap, sym, subst, ◌∙◌, Option, Some, None, to_z, of_z}
 use Rattle.std.proofs.lemmas.Int.{ints, to_z-of_z}
 use Rattle.std.proofs.lemmas.Nat.{mul-le}
 use Rattle.std.proofs.Math.Nat.{div-le_self}
 use Rattle.std.specs.Int.{w128, int_min}
 use mir.Val.{SFits}
-use Rattle.qp_model.specs.problem.Design.{Design}
-use Rattle.qp_model.specs.problem.Parts.{IsDesign}
+use Rattle.qp_model.specs.form.Class.{form_of}
+use Rattle.qp_model.specs.problem.Parts.{IsDesign, design_of}
 use Rattle.qp_model.specs.problem.Range.{IsDenominator, IsPositive}
-use Rattle.qp_model.specs.bounds.Choices.{multiplier_size, multiplier_size_of, step_count, violation_bound, undercut_bound, multiplier_of}
+use Rattle.qp_model.specs.bounds.Choices.{multiplier_size, multiplier_size_of, violation_bound, row_violation_bound, multiplier_of}
+use Rattle.qp_model.specs.bounds.RealErrors.{real_cost}
+use Rattle.qp_model.specs.machine.Controller.{Numbers}
 use Rattle.qp_model.specs.declared.design_parts.DesignParts.{DesignParts}
 use Rattle.qp_model.specs.declared.bounds.Margin.{Margin}
 use Rattle.design_engine.specs.Targets.{Targets, targets_of, half_target, gap_target, error_limit}
-use Rattle.design_engine.specs.Aims.{aim_of, IsAim}
-use Rattle.design_engine.specs.Tests.{HasAimCause, IsRefusedFor}
+use Rattle.design_engine.specs.Aims.{aim_of, IsAim, IsMadeWith}
+use Rattle.design_engine.specs.Terms.{row_bound, repaired, AreTerms, HasUndercutRoom, plain_terms}
 use Rattle.design_engine.specs.declared.aimed.Aim.{Aim}
-use Rattle.qp_model.specs.declared.refusal.Refusal.{Refusal}
-use Rattle.design_engine.proofs.TargetLaws.{quotient_some, some_of, size_of, halves, steps_some}
+use Rattle.design_engine.specs.declared.bounds.Terms.{Terms}
+use Rattle.dual_bounds.proofs.RowBounds.{greatest_row}
+use Rattle.design_engine.proofs.BuiltFacts.{cost_limited}
+use Rattle.design_engine.proofs.TargetLaws.{quotient_some, some_of, size_of, halves}
 
 -- ---- the targets
 pub half_small : (p : DesignParts) → IsDesign p → half_target (targets_of p) ≤ 2 ^ 70
@@ -67,13 +71,6 @@ bound_narrow m h = close _ (multiplier_of m) h
     close : (x r : ℕ) → max x (2 ^ 82 * r) ≤ 2 ^ 126 → r ≤ 2 ^ 44
     close x r h = omega (arith, h)
 
--- ---- the printed bounds
-pub undercut_small : (s r h e : ℕ) → 1 ≤ r → r ≤ 2 ^ 44 → 1 ≤ h → h ≤ 2 ^ 70 → e ≤ r * h → undercut_bound r (violation_bound s r (step_count s r h) e) ≤ 2 ^ 126
-undercut_small s r h e o n l k i = close r (violation_bound s r (step_count s r h) e) h n k (halves s r h e o l i)
-  where
-    close : (r v h : ℕ) → r ≤ 2 ^ 44 → h ≤ 2 ^ 70 → v ≤ 2 * h → r * v ≤ 2 ^ 126
-    close r v h a b c = omega (arith, mul-le r v (2 ^ 44) (2 ^ 71) a (omega (arith, b, c)))
-
 -- ---- numbers of 128 bits that the code reads
 pub whole_is : (z : ℤ) (n : ℕ) → SFits w128 z → z ≡ pos n → unsigned_abs (to_z w128 (of_z w128 z)) ≡ n
 whole_is z n f e = ap unsigned_abs (to_z-of_z w128 z f ∙ e)
@@ -123,13 +120,13 @@ product_is r z h f g some narrow e l =
 pub at_most : (z : ℤ) (n : ℕ) {k : ℕ} → z ≡ pos n → n ≤ k → k ≤ 2 ^ 71 → z ≤ℤ pos (2 ^ 114)
 at_most z n {k} e h l = rw e (omega (arith, ints, h, l))
 
--- ---- an aim
--- by its numbers
-pub aim_same : (t : Targets) (m : Margin) (r steps errors : ℤ) → r ≡ pos (multiplier_of m) → steps ≡ pos (half_target t) → errors ≡ pos (error_limit t (multiplier_of m)) →
-    ◌≡◌ {A = Aim} (record { r = r; step_target = steps; error_target = errors }) (aim_of t m)
-aim_same t m r steps errors e f g = λ i. record { r = e i; step_target = f i; error_target = g i }
+-- ---- terms
+-- by their numbers
+pub terms_same : (t : Targets) (m : Margin) (r steps errors u x : ℤ) → r ≡ pos (multiplier_of m) → steps ≡ pos (half_target t) → errors ≡ pos (error_limit t (multiplier_of m)) →
+    u ≡ m.units → x ≡ m.cost → ◌≡◌ {A = Terms} (record { aim = record { r = r; step_target = steps; error_target = errors }; units = u; cost = x; target = None }) (plain_terms t m)
+terms_same t m r steps errors u x e f g h k = λ i. record { aim = record { r = e i; step_target = f i; error_target = g i }; units = h i; cost = k i; target = None }
 
--- that of a margin lies in the ranges
+-- those of a margin lie in the ranges
 pub aim_ranges : (p : DesignParts) (m : Margin) → IsDesign p → multiplier_size_of m ≤ 2 ^ 126 → IsAim (aim_of (targets_of p) m)
 aim_ranges p m h room = record {
   some = least _ (bound_some m);
@@ -145,6 +142,48 @@ aim_ranges p m h room = record {
     most : (n k : ℕ) → n ≤ k → pos n ≤ℤ pos k
     most n k l = omega (arith, ints, l)
 
--- a refusal, by another name of the aim
-pub aim_refused : (d : Design) (a b : Aim) (s : ℕ) → a ≡ b → (e : Refusal) → IsRefusedFor (HasAimCause d a s) e → IsRefusedFor (HasAimCause d b s) e
-aim_refused d a b s is e h = subst (λ (x : Aim). IsRefusedFor (HasAimCause d x s) e) is h
+pub plain_ranges : (p : DesignParts) (m : Margin) → IsDesign p → multiplier_size_of m ≤ 2 ^ 126 → AreTerms (plain_terms (targets_of p) m)
+plain_ranges p m h room = record {
+  aim = aim_ranges p m h room;
+  share = lesser (gap_target (targets_of p)) (multiplier_of m * half_target (targets_of p));
+  steps = wider (half_target (targets_of p)) (half_small p h);
+  target = tt;
+  short = omega arith;
+}
+  where
+    lesser : (g n : ℕ) → min g n ≤ n
+    lesser g n = omega arith
+
+    wider : (n : ℕ) → n ≤ 2 ^ 70 → n ≤ 2 ^ 71
+    wider n l = omega (arith, l)
+
+pub error_small : (a : Aim) → IsAim a → unsigned_abs a.error_target ≤ 2 ^ 71
+error_small a h = size_of a.error_target (2 ^ 71) h.errors h.small
+
+-- the undercut of what is made with terms
+pub undercut_room : (p : DesignParts) (x : Terms) (c : Numbers) → AreTerms x → IsMadeWith p x.aim c →
+    HasUndercutRoom x c (real_cost (design_of p) (form_of (design_of p)) (unsigned_abs x.aim.r) c)
+undercut_room p x c t made =
+    room x.target c.step_exponent r c.steps cost (size_of x.aim.r (2 ^ 44) t.aim.some t.aim.narrow) violation t.short
+  where
+    r : ℕ
+    r = unsigned_abs x.aim.r
+
+    cost : ℕ
+    cost = real_cost (design_of p) (form_of (design_of p)) (unsigned_abs x.aim.r) c
+
+    violation : row_violation_bound c.step_exponent c.step_exponent r c.steps cost ≤ 2 ^ 72
+    violation = omega (
+      arith,
+      greatest_row c.step_exponent r c.steps cost,
+      t.steps,
+      subst (λ (k : ℕ). violation_bound c.step_exponent r k cost ≤ 2 * unsigned_abs x.aim.step_target)
+          (sym made.steps) (halves c.step_exponent r (unsigned_abs x.aim.step_target) cost (some_of x.aim.r t.aim.some) (some_of x.aim.step_target t.aim.steps) within),
+    )
+      where
+        within : cost ≤ r * unsigned_abs x.aim.step_target
+        within = omega (arith, cost_limited p x.aim c made, t.share)
+
+    room : (o : Option ℤ) (s r k e : ℕ) → r ≤ 2 ^ 44 → row_violation_bound s s r k e ≤ 2 ^ 72 → repaired o 0 ≤ 2 ^ 71 → r * repaired o (row_bound o s s r k e) ≤ 2 ^ 126
+    room None s r k e h v t = omega (arith, mul-le r (row_violation_bound s s r k e) (2 ^ 44) (2 ^ 72) h v)
+    room (Some target) s r k e h v t = omega (arith, mul-le r (unsigned_abs target) (2 ^ 44) (2 ^ 71) h t)

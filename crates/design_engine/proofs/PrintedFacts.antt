@@ -1,47 +1,33 @@
--- The printed bounds, by their numbers.
-use Rattle.std.proofs.Common.{◌≡◌, ℕ, ◌<◌, ℤ, pos, unsigned_abs, arith, ap, refl, sym, subst, ◌∙◌}
-use Rattle.qp_model.specs.bounds.Choices.{violation_bound, row_violation_bound, undercut_bound, multiplier_of}
+-- The printed bounds, by what the code computes.
+use Rattle.std.proofs.Common.{◌≡◌, ℕ, ◌<◌, ◌≤◌, ℤ, pos, ◌≤ℤ◌, unsigned_abs, Option, Some, None, List, length, arith, refl, ap, sym, subst, ◌∙◌}
+use Rattle.std.proofs.lemmas.Int.{ints}
+use Rattle.std.specs.Option.{unwrap_or}
 use Rattle.qp_model.specs.machine.Controller.{Numbers}
 use Rattle.qp_model.specs.machine.Machine.{exponent_of}
-use Rattle.qp_model.specs.bounds.Printed.{printed}
+use Rattle.qp_model.specs.machine.AbsoluteSums.{IsController}
 use Rattle.qp_model.specs.problem.Runs.{Holds}
-use Rattle.qp_model.specs.declared.bounds.Bounds.{Bounds}
-use Rattle.qp_model.specs.declared.bounds.Margin.{Margin}
-use Rattle.design_engine.specs.Bounds.{AreBoundsOf}
+use Rattle.hessian_check.specs.RowExponents.{exponent_in}
+use Rattle.design_engine.specs.Terms.{repaired, IsTarget}
 
--- the numbers of bounds are those of a controller with the margin m, the errors of whose steps cost so much
-pub record AreNumbersOf (cost : ℕ) (c : Numbers) (m : Margin) (b : Bounds) : Type 0 where
-  pub version : b.version ≡ c.version
-  pub margin : b.margin ≡ m.units
-  pub corners : b.cost ≡ m.cost
-  pub multiplier : b.multiplier ≡ pos (multiplier_of m)
-  pub step : c.step_exponent ≡ b.step
-  pub steps : c.steps ≡ b.steps
-  pub bits : c.fraction_bits ≡ b.bits
-  pub width : b.width ≡ c.width
-  pub words : b.words ≡ c.words
-  pub gap : b.gap ≡ pos cost
-  pub violation : b.violation ≡ pos (violation_bound b.step (unsigned_abs b.multiplier) b.steps (unsigned_abs b.gap))
-  pub rows : Holds b.rows.items c.rows (λ i. pos (row_violation_bound (exponent_of c i) b.step (unsigned_abs b.multiplier) b.steps (unsigned_abs b.gap)))
-  pub undercut : b.undercut ≡ pos (undercut_bound (unsigned_abs b.multiplier) (unsigned_abs b.violation))
+-- what holds of the rows of a list holds of the controller's
+pub listed : (c : Numbers) (xs : List ℤ) (es : List ℕ) (f : ℕ → ℤ) → IsController c → es ≡ c.exponents → Holds xs (length es) (λ i. f (exponent_in es i)) →
+    Holds xs c.rows (λ i. f (exponent_of c i))
+listed c xs es f sound e h =
+    let long = ap (λ (ls : List ℕ). length ls) e ∙ sound.form.sized.shaped.exponents in
+    record {
+      long = h.long ∙ long;
+      is = λ i l. h.is i (subst (λ (n : ℕ). i < n) (sym long) l) ∙ ap (λ (ls : List ℕ). f (exponent_in ls i)) e;
+    }
 
-pub bounds_from : (cost : ℕ) (c : Numbers) (m : Margin) (b : Bounds) → AreNumbersOf cost c m b → AreBoundsOf c (printed b) cost
-bounds_from cost c m b is = record {
-  version = is.version;
-  multiplier = is.multiplier ∙ ap pos same;
-  step = sym is.step;
-  steps = sym is.steps;
-  bits = sym is.bits;
-  width = is.width;
-  words = is.words;
-  violation = is.violation ∙ rw (is.multiplier, is.gap, sym is.step, sym is.steps) (ap (λ (r : ℕ). pos (violation_bound c.step_exponent r c.steps cost)) same);
-  row_count = is.rows.long;
-  row_violations = λ i l. is.rows.is i l ∙
-      rw (is.multiplier, is.gap, sym is.step, sym is.steps) (ap (λ (r : ℕ). pos (row_violation_bound (exponent_of c i) c.step_exponent r c.steps cost)) same);
-  gap = is.gap;
-  undercut = is.undercut ∙ rw is.multiplier (ap (λ (r : ℕ). pos (undercut_bound r (unsigned_abs b.violation))) same);
-}
-  where
-    -- R, of what is printed
-    same : multiplier_of m ≡ multiplier_of (record { units = b.margin; cost = b.cost })
-    same = rw (is.margin, is.corners) refl
+-- none of its exponents is above its step exponent
+pub below : (c : Numbers) (es : List ℕ) → IsController c → es ≡ c.exponents → (i : ℕ) → i < length es → exponent_in es i ≤ c.step_exponent
+below c es sound e = subst (λ (xs : List ℕ). (i : ℕ) → i < length xs → exponent_in xs i ≤ c.step_exponent) (sym e) (λ i l. sound.form.sized.exponents i 0 l)
+
+-- the violation that a repair is known for
+pub repaired_is : (o : Option ℤ) (v : ℤ) (n : ℕ) → v ≡ pos n → unsigned_abs (unwrap_or o v) ≡ repaired o n
+repaired_is None v n e = ap unsigned_abs e
+repaired_is (Some target) v n e = refl
+
+pub repaired_least : (o : Option ℤ) (v : ℤ) (n : ℕ) → v ≡ pos n → IsTarget o → pos 0 ≤ℤ unwrap_or o v
+repaired_least None v n e h = rw e (omega (arith, ints))
+repaired_least (Some target) v n e h = h

@@ -40,9 +40,9 @@ use Rattle.dual_bounds.proofs.MixLaws.{repair_law, threshold_law}
 use Rattle.dual_bounds.proofs.RowBounds.{row_below}
 use Rattle.step_error.specs.MachineLaws.{IsRunOf, MachineRunLaw}
 use Rattle.design_engine.specs.Targets.{targets_of, violation_target, floor_target}
-use Rattle.design_engine.specs.Bounds.{margin_of}
+use Rattle.design_engine.specs.Bounds.{margin_of, AreThresholdBoundsOf}
 use Rattle.design_engine.specs.Promise.{IsBacked, CertifiedLaw}
-use Rattle.design_engine.specs.Threshold.{IsSupported, IsCover, KeepsCover, CoverLaw, RepairsLaw, IsEnough, AreThresholdBoundsOf, ThresholdCertifiedLaw, multiplier_above, MeetsTargets, MadeAboveLaw}
+use Rattle.design_engine.specs.Threshold.{IsSupported, IsCover, KeepsCover, CoverLaw, RepairsLaw, IsEnough, ThresholdCertifiedLaw, multiplier_above, MeetsTargets, MadeAboveLaw}
 use Rattle.design_engine.proofs.TargetLaws.{some_of, floor_fits, threshold_targets_law}
 use Rattle.design_engine.proofs.PromiseFacts.{power_mono, power_more, gap_closed, row_part, greatest_within, threshold_within, row_within, row_closed, row_shared, row_widened, row_over, first_part, second_part, shared_part, half_part, error_part, enough_left, lesser}
 use Rattle.design_engine.proofs.RowChoice.{at_row, dot_single, squares_single, row_in_box, dot_none, squares_none, none_in_box, greatest_row}

@@ -13,7 +13,7 @@ use Rattle.qp_model.specs.bounds.Errors as errors
 use Rattle.qp_model.specs.bounds.Errors.{error_size, error_sums_of, epsilon}
 use Rattle.qp_model.specs.declared.bounds.Margin.{Margin}
 use Rattle.qp_model.specs.declared.quantity.Quantity.{Quantity}
-use Rattle.qp_model.specs.declared.quantity.Quantity.TheVariants.{Prediction, CornerSlack, CornerCost, Multiplier, Hessian, Rows, Curvature as curvature_named, Error, Descent, Width, Turn, Excess, Stay, Settle}
+use Rattle.qp_model.specs.declared.quantity.Quantity.TheVariants.{Multiplier, Error}
 use Rattle.corner_margin.specs.Corners as corners
 use Rattle.corner_margin.specs.Corners.{HasCornerRoom, IsFirstShort}
 use Rattle.corner_margin.specs.declared.fault.MarginFault.{MarginFault}
@@ -28,32 +28,27 @@ use Rattle.hessian_check.specs.declared.fault.CurvatureFault.{CurvatureFault}
 use Rattle.hessian_check.specs.declared.fault.CurvatureFault.TheVariants.{Memory as curvature_memory, TooWide as curvature_wide, NoStep}
 use Rattle.step_error.specs.Choice.{IsChoice}
 use Rattle.approx_inverse.specs.Fault.{IsFault}
-use Rattle.qp_model.specs.declared.size_fault.SizeFault.{SizeFault}
 use Rattle.qp_model.specs.declared.size_fault.SizeFault.TheVariants.{Memory as solve_memory, TooWide as solve_wide}
 use Rattle.design_engine.specs.Targets.{Targets}
 use Rattle.design_engine.specs.Aims.{steps_of, aim_of}
-use Rattle.design_engine.specs.Tests.{IsRefusedFor, PassesForm, IsFormWide, HasFormCause, PassesBits, HasAimCause}
+use Rattle.design_engine.specs.Tests.{IsRefusedFor, IsFormWide, HasFormCause, PassesBits, HasAimCause}
 use Rattle.controller_maker.specs.Widest.{width_size}
 use Rattle.controller_maker.specs.Fault.{IsWidthFault}
 use Rattle.corner_margin.specs.Refusing.{of_margin}
 use Rattle.qp_model.specs.refusal.Refusing.{of_size}
 use Rattle.hessian_check.specs.Refusing.{of_curvature}
-use Rattle.qp_model.specs.refusal.Refusing.{of_size}
-use Rattle.qp_model.specs.refusal.Refusing.{of_size}
 use Rattle.design_engine.specs.Refusals.{PassesMargin, PassesExponent, HasCause, IsRefused, IsTooWide}
-use Rattle.qp_model.specs.declared.size_fault.SizeFault.{SizeFault}
 use Rattle.qp_model.specs.declared.size_fault.SizeFault.TheVariants.{Memory as width_memory, TooWide as width_wide}
 use Rattle.qp_model.specs.declared.refusal.Refusal.{Refusal}
-use Rattle.qp_model.specs.declared.refusal.Refusal.TheVariants.{Memory, NoMargin, Curvature, TooManySteps, TooFine, TooWide}
+use Rattle.qp_model.specs.declared.refusal.Refusal.TheVariants.{TooManySteps, TooFine, TooWide}
 use Rattle.design_engine.specs.declared.aimed.Aim.{Aim}
-use Rattle.design_engine.proofs.CauseCases.{wide_corner, wide_form, wide_aim, margin_cases, form_cases}
+use Rattle.design_engine.proofs.CauseCases.{each_quantity, wide_corner, wide_form, wide_aim, margin_cases, form_cases, aim_cases, refused_map}
 
 -- the error that a fault becomes
 pub refused_by : {T : Type 0} (r : Result T Refusal) (from p : Refusal → Type 0) → IsErrAnd r from → ((e : Refusal) → from e → p e) → IfErr r p
 refused_by (Ok x) from p h f = absurd h
 refused_by (Err e) from p h f = f e h
 
--- a size that is not above its limit
 -- a number above the limit would be a refusal, and there is none
 pub within_limit : (x : StepExponents) (fault : CurvatureFault) (n : ℕ) → (2 ^ 126 < n → ◌≡◌ {A = Result StepExponents CurvatureFault} (Ok x) (Err fault)) → n ≤ 2 ^ 126
 within_limit x fault n h = elim (cases_lt (2 ^ 126) n) [ inl l ↦ absurd (differ (h l)) | inr l ↦ l ]
@@ -74,20 +69,9 @@ condensed_within x quantity n h = elim (cases_lt (2 ^ 126) n) [ inl l ↦ absurd
 -- ---- the form
 module _ (d : Design) where
   form_wide : (quantity : Quantity) → condensing.IsFirstWideForm d quantity → IsFormWide d quantity
-  form_wide Prediction k = k
-  form_wide CornerSlack k = absurd k
-  form_wide CornerCost k = absurd k
-  form_wide Multiplier k = absurd k
-  form_wide Hessian k = k
-  form_wide Rows k = k
-  form_wide curvature_named k = absurd k
-  form_wide Error k = absurd k
-  form_wide Descent k = absurd k
-  form_wide Width k = absurd k
-  form_wide Turn k = absurd k
-  form_wide Excess k = absurd k
-  form_wide Stay k = absurd k
-  form_wide Settle k = absurd k
+  form_wide =
+      each_quantity (condensing.IsFirstWideForm d) (IsFormWide d) (λ h. h) (λ h. absurd h) (λ h. absurd h) (λ h. absurd h) (λ h. h) (λ h. h)
+      (λ h. absurd h) (λ h. absurd h) (λ h. absurd h) (λ h. absurd h) (λ h. absurd h) (λ h. absurd h) (λ h. absurd h) (λ h. absurd h)
 
   pub condense_refused : (r : Result Condensed SizeFault) (fault : SizeFault) → r ≡ Err fault →
       ((quantity : Quantity) → r ≡ Err (condense_wide quantity) → condensing.IsFirstWideForm d quantity) →
@@ -150,18 +134,14 @@ module _ (d : Design) (t : Targets) (plans : Plans) where
   -- a cause in the form
   pub form_caused : (m : Margin) → PassesMargin d t plans m → multiplier_size_of m ≤ 2 ^ 126 → (e : Refusal) → IsRefusedFor (HasFormCause d) e → IsRefused d t plans e
   form_caused m h n =
-      form_cases d (HasCause d t plans) (λ k. (m, record { before = h; multiplier = n; form = k.0 }, k.1))
-      (wide_form d (IsTooWide d t plans) (λ k. inr (m, (h, n), k)) (λ k. (m, (h, n), k)) (λ k. (m, (h, n), k)) (λ k. (m, (h, n), k)))
+      refused_map _ _ (form_cases d (HasCause d t plans) (λ k. (m, record { before = h; multiplier = n; form = k.0 }, k.1))
+      (wide_form d (IsTooWide d t plans) (λ k. inr (m, (h, n), k)) (λ k. (m, (h, n), k)) (λ k. (m, (h, n), k)) (λ k. (m, (h, n), k))))
 
   -- and one after it
   pub aim_caused : (m : Margin) (s : ℕ) → PassesExponent d t plans m s → (e : Refusal) → IsRefusedFor (HasAimCause d (aim_of t m) s) e → IsRefused d t plans e
-  aim_caused m s h e (inl memory) = inl memory
-  aim_caused m s h Memory (inr k) = absurd k
-  aim_caused m s h (NoMargin corner row slack) (inr k) = absurd k
-  aim_caused m s h Curvature (inr k) = absurd k
-  aim_caused m s h (TooManySteps steps) (inr k) = inr (m, s, h, k)
-  aim_caused m s h (TooFine eps) (inr k) = inr (m, s, h, k)
-  aim_caused m s h (TooWide quantity) (inr k) = inr (wide_aim d (IsTooWide d t plans) (aim_of t m) s (λ w. (m, s, h, w)) (λ w. (m, s, h, w)) (λ w. (m, s, h, w)) quantity k)
+  aim_caused m s h =
+      refused_map _ _ (aim_cases d (HasCause d t plans) (aim_of t m) s (λ k w. (m, s, h, w)) (λ eps w. (m, s, h, w))
+      (wide_aim d (IsTooWide d t plans) (aim_of t m) s (λ w. (m, s, h, w)) (λ w. (m, s, h, w)) (λ w. (m, s, h, w))))
 
 -- a choice, by other names of its numbers
 pub choice_same : (sums other : errors.ErrorSums) (low from limit most f : ℕ) → sums ≡ other → low ≡ from → limit ≡ most → IsChoice sums low limit f → IsChoice other from most f

@@ -1,29 +1,20 @@
 -- What a controller that is assembled for a design gives for its real errors, and that these cost no more than the stated ones.
-use Rattle.std.proofs.Common.{◌≡◌, ℕ, ◌^◌, ◌≤◌, List, ℤ, pos, refl, sym, subst, ◌∙◌}
-use Rattle.qp_model.specs.problem.Design.{Design, entries}
+use Rattle.std.proofs.Common.{◌≡◌, ℕ, ◌^◌, ◌≤◌, List, ℤ, refl, sym, subst, ◌∙◌}
+use Rattle.qp_model.specs.problem.Design.{entries}
 use Rattle.qp_model.specs.problem.Parts.{design_of}
-use Rattle.qp_model.specs.bounds.Choices.{multiplier_of}
-use Rattle.qp_model.specs.bounds.Printed.{Printed}
-use Rattle.qp_model.specs.declared.bounds.Margin.{Margin}
 use Rattle.qp_model.specs.form.Class.{form_of}
 use Rattle.qp_model.specs.form.Columns.{descent_size}
 use Rattle.mat_int.specs.Matrix.{Matrix}
 use Rattle.qp_model.specs.machine.Controller.{Numbers, IsShaped, plan_length}
 use Rattle.qp_model.specs.machine.AbsoluteSums.{IsController}
-use Rattle.qp_model.specs.form.Curvature.{AreExponents}
-use Rattle.hessian_check.specs.RowExponents.{exponent_in}
-use Rattle.qp_model.specs.bounds.RealErrors.{real_cost}
 use Rattle.qp_model.specs.declared.design_parts.DesignParts.{DesignParts}
 use Rattle.condensed_form.specs.Form.{IsFormOf}
 use Rattle.condensed_form.specs.declared.condensed.Condensed.{Condensed}
 use Rattle.step_error.specs.declared.sums.ErrorSums.{ErrorSums}
 use Rattle.step_error.specs.Made.{AreSumsOf, HasGains}
-use Rattle.step_error.proofs.RealCosts as costs
-use Rattle.design_engine.specs.Bounds.{margin_of, printed_multiplier, stated_cost}
 use Rattle.controller_maker.specs.Assembled.{IsAssembled}
 use Rattle.design_engine.specs.Residuals.{IsGivenFor}
 use Rattle.controller_maker.proofs.Tables.{shape_as, plan_long}
-use Rattle.design_engine.proofs.BuiltFacts.{derived_from}
 
 -- what is said of a controller's gains, by other names of these
 pub named : (is : Matrix → List ℤ → Matrix → ℕ → Type 0) (k n : Numbers) (t : List ℤ) → n ≡ k → t ≡ n.offsets → is k.state_gains k.offsets k.dual_gains k.fraction_bits →
@@ -56,12 +47,3 @@ module _ (p : DesignParts) (r q s : ℕ) (es : List ℕ) (k f : ℕ) (c : Conden
 
       long : plan_length n ≡ entries (design_of p)
       long = plan_long (design_of p) n made.sizes.inputs made.sizes.stages
-
-  pub cost_within : AreExponents (design_of p) (exponent_in es) s → real_cost (design_of p) (form_of (design_of p)) q n ≤ stated_cost (design_of p) q f
-  cost_within curved = subst (λ (b : ℕ). real_cost (design_of p) (form_of (design_of p)) q n ≤ stated_cost (design_of p) q b) made.fraction_bits
-      (costs.cost p (form_of (design_of p)) q n form.design form.encloses (derived_from (design_of p) n r q s es k f curved is made))
-
--- the stated cost by other names
-pub stated_by : (d : Design) (b : Printed) (m : Margin) (f g : ℕ) (z : ℤ) → margin_of b ≡ m → g ≡ f → z ≡ pos (stated_cost d (multiplier_of m) f) →
-    z ≡ pos (stated_cost d (printed_multiplier b) g)
-stated_by d b m f g z e same is = is ∙ (λ i. pos (stated_cost d (multiplier_of (sym e i)) (sym same i)))

@@ -1,5 +1,5 @@
 -- The tests of any controller as lists: those of the corners, of a form and of an aim. Each list tells at most one refusal, and none where all are passed.
-use Rattle.std.proofs.Common.{◌≡◌, inl, inr, ℕ, ◌^◌, ◌<◌, ◌≤◌, ℤ, pos, ◌*ℤ◌, ◌≤ℤ◌, ◌<ℤ◌, unsigned_abs, arith, refl, sym, ◌∙◌}
+use Rattle.std.proofs.Common.{◌≡◌, inl, inr, ℕ, ◌^◌, ◌<◌, ◌≤◌, ℤ, pos, ◌*ℤ◌, ◌≤ℤ◌, ◌<ℤ◌, unsigned_abs, arith, ap, refl, sym, ◌∙◌}
 use Rattle.std.proofs.lemmas.Int.{ints}
 use Rattle.integer_algebra.proofs.OrderLaws.{le_of_lt_z, mul-le-mul_right_z}
 use Rattle.frac_scaled.specs.declared.fraction.Frac.{Frac}
@@ -13,7 +13,7 @@ use Rattle.qp_model.specs.bounds.Errors.{error_size, error_sums_of}
 use Rattle.qp_model.specs.declared.design_parts.DesignParts.{DesignParts}
 use Rattle.qp_model.specs.declared.bounds.Margin.{Margin}
 use Rattle.qp_model.specs.declared.quantity.Quantity.{Quantity}
-use Rattle.qp_model.specs.declared.quantity.Quantity.TheVariants.{Prediction, CornerSlack, CornerCost, Multiplier, Hessian, Rows, Curvature as curvature_named, Error, Descent, Width, Turn, Excess, Stay, Settle}
+use Rattle.qp_model.specs.declared.quantity.Quantity.TheVariants.{Prediction, CornerSlack, CornerCost, Hessian, Rows, Curvature as curvature_named, Error, Descent, Width}
 use Rattle.corner_margin.specs.Corners.{HasCornerRoom, IsFirstShort, IsFirstWideCorner}
 use Rattle.hessian_check.specs.Steps.{IsExponentOf, HasNoStep}
 use Rattle.step_error.proofs.SumFacts.{floor_range}
@@ -22,8 +22,9 @@ use Rattle.design_engine.specs.Tests.{width_of, PassesForm, IsFormWide, HasFormC
 use Rattle.design_engine.specs.Bounds.{stated_cost}
 use Rattle.design_engine.specs.declared.aimed.Aim.{Aim}
 use Rattle.qp_model.specs.declared.refusal.Refusal.{Refusal}
-use Rattle.qp_model.specs.declared.refusal.Refusal.TheVariants.{Memory, NoMargin, Curvature, TooManySteps, TooFine, TooWide}
+use Rattle.qp_model.specs.declared.refusal.Refusal.TheVariants.{NoMargin, Curvature, TooManySteps, TooFine, TooWide}
 use Rattle.design_engine.proofs.TestLaws.{IsOne, IsNone, Nothing, nothing_one, nothing_none, Next, next_one, next_none, Sized, sized_one, sized_none, Finds, finds_one, finds_none}
+use Rattle.design_engine.proofs.CauseCases.{wide_corner, wide_form, wide_aim, form_cases, aim_cases}
 use Rattle.design_engine.proofs.OneOfEach.{one_margin, one_slack, one_corner, one_row, one_exponent, no_exponent, one_choice, no_choice, slack_positive}
 
 -- ---- an aim, with the step exponent s, from the last tests back
@@ -45,34 +46,15 @@ module _ (d : Design) (a : Aim) where
 
   -- a cause is that of one of the tests
   aim_wide : (s : ℕ) (quantity : Quantity) → IsAimWide d a s quantity → OfAim s (TooWide quantity)
-  aim_wide s Error h = inr (h.0, inl (refl, h.1))
-  aim_wide s Descent h = inr (h.1.steps, inr (h.1.error, inr (h.0, h.1.choice, inl (refl, h.2))))
-  aim_wide s Width h = inr (h.1.steps, inr (h.1.error, inr (h.0, h.1.choice, inr (h.2.0, inl (refl, h.2.1)))))
-  aim_wide s Prediction h = absurd h
-  aim_wide s CornerSlack h = absurd h
-  aim_wide s CornerCost h = absurd h
-  aim_wide s Multiplier h = absurd h
-  aim_wide s Hessian h = absurd h
-  aim_wide s Rows h = absurd h
-  aim_wide s curvature_named h = absurd h
-  aim_wide s Turn h = absurd h
-  aim_wide s Excess h = absurd h
-  aim_wide s Stay h = absurd h
-  aim_wide s Settle h = absurd h
+  aim_wide s =
+      wide_aim d (λ quantity. OfAim s (TooWide quantity)) a s (λ h. inr (h.0, inl (refl, h.1)))
+      (λ h. inr (h.1.steps, inr (h.1.error, inr (h.0, h.1.choice, inl (refl, h.2)))))
+      (λ h. inr (h.1.steps, inr (h.1.error, inr (h.0, h.1.choice, inr (h.2.0, inl (refl, h.2.1))))))
 
   pub aim_told : (s : ℕ) (e : Refusal) → HasAimCause d a s e → OfAim s e
-  aim_told s Memory h = absurd h
-  aim_told s (NoMargin corner row slack) h = absurd h
-  aim_told s Curvature h = absurd h
-  aim_told s (TooManySteps k) h = inl (steps_same _ _ h.1, h.0)
-    where
-      steps_same : (j n : ℤ) → j ≡ n → TooManySteps j ≡ TooManySteps n
-      steps_same j n e = rw e refl
-  aim_told s (TooFine eps) h = inr (h.0, inr (h.1.0, inl (fine_same _ _ h.1.1.1, h.1.1.0)))
-    where
-      fine_same : (j n : ℤ) → j ≡ n → TooFine j ≡ TooFine n
-      fine_same j n e = rw e refl
-  aim_told s (TooWide quantity) h = aim_wide s quantity h
+  aim_told s =
+      aim_cases d (OfAim s) a s (λ k h. inl (ap (λ (n : ℤ). TooManySteps n) h.1, h.0))
+      (λ eps h. inr (h.0, inr (h.1.0, inl (ap (λ (n : ℤ). TooFine n) h.1.1.1, h.1.1.0)))) (aim_wide s)
 
 module _ (p : DesignParts) (a : Aim) (design : IsDesign p) where
   fine_clash : (e : Refusal) (f : ℕ) → IsFine (design_of p) a e → AreBitsOf (design_of p) a f → ⊥
@@ -102,29 +84,14 @@ module _ (d : Design) (after : ℕ → Refusal → Type 0) where
       (Sized curvature_named (curvature_quantity d) (Finds ℕ IsFlat (IsExponentOf d) after))))
 
   form_wide : (quantity : Quantity) → IsFormWide d quantity → OfForm (TooWide quantity)
-  form_wide Prediction h = inl (refl, h)
-  form_wide Hessian h = inr (h.0, inl (refl, h.1))
-  form_wide Rows h = inr (h.0, inr (h.1.0, inl (refl, h.1.1)))
-  form_wide curvature_named h = inr (h.0, inr (h.1.0, inr (h.1.1.0, inl (refl, h.1.1.1))))
-  form_wide CornerSlack h = absurd h
-  form_wide CornerCost h = absurd h
-  form_wide Multiplier h = absurd h
-  form_wide Error h = absurd h
-  form_wide Descent h = absurd h
-  form_wide Width h = absurd h
-  form_wide Turn h = absurd h
-  form_wide Excess h = absurd h
-  form_wide Stay h = absurd h
-  form_wide Settle h = absurd h
+  form_wide =
+      wide_form d (λ quantity. OfForm (TooWide quantity)) (λ h. inl (refl, h)) (λ h. inr (h.0, inl (refl, h.1)))
+      (λ h. inr (h.0, inr (h.1.0, inl (refl, h.1.1)))) (λ h. inr (h.0, inr (h.1.0, inr (h.1.1.0, inl (refl, h.1.1.1)))))
 
   -- a cause in the form, and one after it
   pub form_told : (e : Refusal) → HasFormCause d e → OfForm e
-  form_told Memory h = absurd h
-  form_told (NoMargin corner row slack) h = absurd h
-  form_told Curvature h = inr (h.0.prediction, inr (h.0.hessian, inr (h.0.rows, inr (h.0.curvature, inl (refl, h.1)))))
-  form_told (TooManySteps k) h = absurd h
-  form_told (TooFine eps) h = absurd h
-  form_told (TooWide quantity) h = form_wide quantity h
+  form_told =
+      form_cases d OfForm (λ h. inr (h.0.prediction, inr (h.0.hessian, inr (h.0.rows, inr (h.0.curvature, inl (refl, h.1)))))) form_wide
 
   pub form_passed : (e : Refusal) (s : ℕ) → PassesForm d → IsExponentOf d s → after s e → OfForm e
   form_passed e s h exponent x = inr (h.prediction, inr (h.hessian, inr (h.rows, inr (h.curvature, inr (s, exponent, x)))))
@@ -162,20 +129,9 @@ module _ (d : Design) (plans : Plans) (after : Margin → Refusal → Type 0) wh
   short_told corner row slack h short = roomy _ h (inl (corner, row, slack, refl, short))
 
   pub corner_told : (quantity : Quantity) → IsFirstWideCorner d plans quantity → OfCorners (TooWide quantity)
-  corner_told Prediction h = inl (refl, h)
-  corner_told CornerSlack h = inr (h.0, inl (refl, h.1))
-  corner_told CornerCost h = inr (h.0, inr (h.1.0, inl (refl, h.1.1)))
-  corner_told Multiplier h = absurd h
-  corner_told Hessian h = absurd h
-  corner_told Rows h = absurd h
-  corner_told curvature_named h = absurd h
-  corner_told Error h = absurd h
-  corner_told Descent h = absurd h
-  corner_told Width h = absurd h
-  corner_told Turn h = absurd h
-  corner_told Excess h = absurd h
-  corner_told Stay h = absurd h
-  corner_told Settle h = absurd h
+  corner_told =
+      wide_corner d (λ quantity. OfCorners (TooWide quantity)) plans (λ h. inl (refl, h)) (λ h. inr (h.0, inl (refl, h.1)))
+      (λ h. inr (h.0, inr (h.1.0, inl (refl, h.1.1))))
 
   pub corner_passed : (e : Refusal) (m : Margin) → HasCornerRoom d plans → IsMargin d plans m → pos 1 ≤ℤ m.units → after m e → OfCorners e
   corner_passed e m room margin slack a = roomy e room (inr (m, (margin, slack), a))

@@ -1,13 +1,12 @@
 -- Why a design with a policy has no controller: the first of these tests, in their order, that it fails.
-use Rattle.std.specs.Prelude.{◌≡◌, ◌⊎◌, ℕ, ◌^◌, ◌<◌, ◌≤◌, ℤ, pos, ◌≤ℤ◌}
-use Rattle.qp_model.specs.form.Class.{prediction_quantity, hessian_quantity, rows_quantity, curvature_quantity}
+use Rattle.std.specs.Prelude.{◌≡◌, ◌⊎◌, ℕ, ◌^◌, ◌≤◌, ℤ, pos, ◌≤ℤ◌}
 use Rattle.qp_model.specs.problem.Design.{Design}
 use Rattle.qp_model.specs.problem.Policy.{Plans}
 use Rattle.qp_model.specs.bounds.CornerClass.{IsMargin}
 use Rattle.qp_model.specs.bounds.Choices.{multiplier_size_of}
 use Rattle.qp_model.specs.declared.bounds.Margin.{Margin}
 use Rattle.qp_model.specs.declared.quantity.Quantity.{Quantity}
-use Rattle.qp_model.specs.declared.quantity.Quantity.TheVariants.{Prediction, CornerSlack, CornerCost, Multiplier, Hessian, Rows, Curvature as curvature_named, Error, Descent, Width, Turn, Excess, Stay, Settle}
+use Rattle.qp_model.specs.declared.quantity.Quantity.TheVariants.{Prediction, CornerSlack, CornerCost, Multiplier, Hessian, Rows, Curvature as curvature_named, Error, Descent, Width}
 use Rattle.corner_margin.specs.Corners.{HasCornerRoom, IsFirstWideCorner, IsFirstShort}
 use Rattle.hessian_check.specs.Steps.{IsExponentOf, HasNoStep}
 use Rattle.design_engine.specs.Targets.{Targets}
@@ -39,6 +38,10 @@ pub record PassesAll (d : Design) (t : Targets) (plans : Plans) (m : Margin) (s 
   pub before : PassesExponent d t plans m s
   pub aim : PassesAim d (aim_of t m) s f
 
+-- some numbers pass every test
+abbrev pub PassesSome : Design → Targets → Plans → Type 0
+PassesSome d t plans = (m : Margin) × (s : ℕ) × (f : ℕ) × PassesAll d t plans m s f
+
 -- ---- the causes
 -- R is within its limit
 abbrev pub HasMultiplier : Design → Targets → Plans → Margin → Type 0
@@ -63,10 +66,7 @@ IsTooWide d t plans curvature_named = HasWideForm d t plans curvature_named
 IsTooWide d t plans Error = HasWideAim d t plans Error
 IsTooWide d t plans Descent = HasWideAim d t plans Descent
 IsTooWide d t plans Width = HasWideAim d t plans Width
-IsTooWide d t plans Turn = ⊥
-IsTooWide d t plans Excess = ⊥
-IsTooWide d t plans Stay = ⊥
-IsTooWide d t plans Settle = ⊥
+IsTooWide d t plans other = ⊥
 
 -- the steps and the bits miss what the targets leave
 abbrev pub HasMissedAim : Design → Targets → Plans → Refusal → Type 0

@@ -1,12 +1,12 @@
 -- The promise with a threshold: a repair's cost is known only of plans that exceed some row by more than it.
-use Rattle.std.specs.Prelude.{◌≡◌, ℕ, ◌+◌, ◌*◌, ◌^◌, ◌<◌, ◌≤◌, min, max, ℤ, pos, ◌+ℤ◌, ◌*ℤ◌, ◌≤ℤ◌, ◌<ℤ◌, List, length}
+use Rattle.std.specs.Prelude.{◌≡◌, ℕ, ◌+◌, ◌*◌, ◌^◌, ◌<◌, ◌≤◌, min, ℤ, pos, ◌+ℤ◌, ◌*ℤ◌, ◌≤ℤ◌, ◌<ℤ◌, List, length}
 use Rattle.integer_algebra.specs.Sums.{at, square}
 use Rattle.qp_model.specs.problem.Design.{Design, rows}
 use Rattle.qp_model.specs.problem.Sound.{IsSound}
 use Rattle.qp_model.specs.form.Form.{Form, IsFormFor}
 use Rattle.qp_model.specs.problem.Parts.{IsDesign, design_of}
 use Rattle.qp_model.specs.problem.Policy.{Plans, IsPolicyFor}
-use Rattle.qp_model.specs.bounds.Choices.{step_count, lean_multiplier, lean_row_violation}
+use Rattle.qp_model.specs.bounds.Choices.{step_count, lean_multiplier}
 use Rattle.qp_model.specs.problem.Box.{IsGridState}
 use Rattle.qp_model.specs.problem.Residual.{residual, residual_scale}
 use Rattle.qp_model.specs.bounds.Errors.{StepErrors, cost_of_errors}
@@ -19,6 +19,7 @@ use Rattle.qp_model.specs.declared.design_parts.DesignParts.{DesignParts}
 use Rattle.qp_model.specs.bounds.Printed.{Printed}
 use Rattle.step_error.specs.MachineLaws.{HasErrors}
 use Rattle.dual_bounds.specs.Corners.{KeepsExcess, ExceedsNoMore, HasRepair}
+use Rattle.design_engine.specs.Bounds.{AreThresholdBoundsOf}
 use Rattle.design_engine.specs.Targets.{targets_of, gap_target, violation_target, step_target, rest_target, floor_target, IsWithinTargets}
 
 -- ---- repairs
@@ -76,21 +77,6 @@ CoverLaw = (p : DesignParts) (h : Form) (e : StepErrors) (c : Numbers) (r thresh
     KeepsCover (design_of p) c r (cost_of_errors (design_of p) h r c.fraction_bits e) (at xi) (pos (average_denominator c)) (at (averaged_plan c xi)) over over_denominator
 
 -- ---- bounds within a threshold
--- the bounds print the controller's numbers, R, the violation of all rows and of each, and the other two over 2^40
-pub record AreThresholdBoundsOf (c : Numbers) (b : Printed) (r threshold cost : ℕ) : Type 0 where
-  pub version : b.version ≡ c.version
-  pub multiplier : b.multiplier ≡ pos r
-  pub step : b.step ≡ c.step_exponent
-  pub steps : b.steps ≡ c.steps
-  pub bits : b.bits ≡ c.fraction_bits
-  pub width : b.width ≡ c.width
-  pub words : b.words ≡ c.words
-  pub violation : b.violation ≡ pos (lean_row_violation c.step_exponent r c.steps cost threshold)
-  pub row_count : length b.row_violations ≡ c.rows
-  pub row_violations : (i : ℕ) → i < c.rows → at b.row_violations i ≡ pos (lean_row_violation (exponent_of c i) r c.steps cost threshold)
-  pub gap : b.gap ≡ pos cost
-  pub undercut : b.undercut ≡ pos (r * threshold)
-
 -- steps and errors leave at most threshold / 2^40
 abbrev pub IsEnough : Numbers → (r threshold cost : ℕ) → Type 0
 IsEnough c r threshold cost = 2 ^ (c.step_exponent + 41) * r * r + c.steps * cost ≤ c.steps * r * threshold

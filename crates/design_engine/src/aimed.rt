@@ -49,7 +49,7 @@ pub(crate) struct StepsAndBits {
 
 /// A controller that is made with an aim.
 #[derive(Drop)]
-pub struct Aimed {
+pub(crate) struct Aimed {
     pub controller: Controller,
     /// What the errors of a step cost at most, over `2^40`, by the residuals that its gains leave.
     pub cost: i128,
@@ -155,7 +155,7 @@ fn controller_by(
 /// # Errors
 /// The first test that they fail: `TooManySteps`; `TooWide` with `error`; `TooFine`; `TooWide` with `descent` or `width`. `Memory` where memory runs out
 /// before.
-pub fn controller_for(
+pub(crate) fn controller_for(
     alloc: Global,
     design: &Design,
     stepped: &SteppedForm,

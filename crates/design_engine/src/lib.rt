@@ -3,18 +3,18 @@
 #![tactic(auto)]
 
 mod aimed;
+mod bounds;
 mod condensing;
 mod corners;
 mod generation;
 mod laws;
 mod residuals;
-mod violations;
 
-pub use aimed::{Aim, Aimed, SteppedForm, controller_for, stepped_form};
+pub use aimed::{Aim, SteppedForm, stepped_form};
+pub use bounds::{Run, Terms, row_violations, violations_after};
 pub use condensing::{condense, form_law};
 pub use controller_maker::{Settings, controller_of};
 pub use corners::{margins, shown_law};
-pub use generation::{Made, gap_target, generate};
+pub use generation::{Made, gap_target, generate, made_with};
 pub use laws::{agreement_law, causes_law, certified_law, targets_law, threshold_law};
 pub use qp_model::Refusal;
-pub use violations::row_violations;

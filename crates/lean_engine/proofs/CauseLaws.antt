@@ -1,19 +1,19 @@
 -- Each cause is that of one test in a list of tests, and so there is one at most.
-use Rattle.std.proofs.Common.{◌≡◌, inl, inr, ℕ, ◌≤◌, ◌^◌, refl}
+use Rattle.std.proofs.Common.{inl, inr, ℕ, refl}
 use Rattle.qp_model.specs.problem.Design.{Design}
-use Rattle.qp_model.specs.problem.Parts.{IsDesign, design_of}
-use Rattle.qp_model.specs.problem.Policy.{Plans, IsPolicyFor}
-use Rattle.qp_model.specs.declared.design_parts.DesignParts.{DesignParts}
+use Rattle.qp_model.specs.problem.Parts.{design_of}
+use Rattle.qp_model.specs.problem.Policy.{Plans}
 use Rattle.qp_model.specs.declared.bounds.Margin.{Margin}
 use Rattle.qp_model.specs.declared.quantity.Quantity.{Quantity}
-use Rattle.qp_model.specs.declared.quantity.Quantity.TheVariants.{Prediction, CornerSlack, CornerCost, Multiplier, Hessian, Rows, Curvature as curvature_named, Error, Descent, Width, Turn, Excess, Stay, Settle}
+use Rattle.qp_model.specs.declared.quantity.Quantity.TheVariants.{Prediction, CornerSlack, CornerCost, Multiplier, Hessian, Rows, Curvature as curvature_named, Error, Descent, Width, Excess}
 use Rattle.design_engine.specs.Targets.{Targets}
 use Rattle.design_engine.specs.Refusals.{PassesMargin}
 use Rattle.qp_model.specs.declared.refusal.Refusal.{Refusal}
-use Rattle.qp_model.specs.declared.refusal.Refusal.TheVariants.{Memory, NoMargin, Curvature, TooManySteps, TooFine, TooWide}
-use Rattle.design_engine.proofs.TestLaws.{IsOne, IsNone, Sized, sized_one, sized_none}
+use Rattle.qp_model.specs.declared.refusal.Refusal.TheVariants.{Curvature, TooManySteps, TooFine, TooWide}
+use Rattle.design_engine.proofs.CauseCases.{each_quantity, each_refusal}
+use Rattle.design_engine.proofs.TestLaws.{Sized, sized_one, sized_none}
 use Rattle.design_engine.proofs.StageLaws.{OfAim, aim_told, aim_one, aim_none, OfForm, form_told, form_passed, form_one, form_none, OfCorners, short_told, corner_told, corner_passed, corners_one, corners_none}
-use Rattle.lean_engine.specs.Refusals.{policy_excess_size, multiplier_size_at, aim_at, PassesScaling, PassesBound, PassesLean, HasLeanCause, IsTooWideLean, HasWideLeanForm, HasWideLeanAim, HasMissedLeanAim}
+use Rattle.lean_engine.specs.Refusals.{policy_excess_size, multiplier_size_at, aim_at, PassesScaling, PassesBound, HasLeanCause, IsTooWideLean, HasWideLeanForm, HasWideLeanAim, HasMissedLeanAim}
 use Rattle.lean_engine.specs.Order.{LeanCausesLaw, LeanPassingLaw}
 
 -- ---- the tests
@@ -48,29 +48,20 @@ module _ (d : Design) (t : Targets) (plans references : Plans) where
   missed e h = from_bound e h.0 h.1 h.2 (aim_told d (aim_at d t plans references h.0) h.1 e h.3)
 
   wide_told : (quantity : Quantity) → IsTooWideLean d t plans references quantity → Whole (TooWide quantity)
-  wide_told Prediction (inl h) = corner_told d plans AfterMargin Prediction h
-  wide_told Prediction (inr h) = of_form Prediction h
-  wide_told CornerSlack h = corner_told d plans AfterMargin CornerSlack h
-  wide_told CornerCost h = corner_told d plans AfterMargin CornerCost h
-  wide_told Multiplier h = from_scaling _ h.0 h.1 h.2 (inr (h.3.0, inl (refl, h.3.1)))
-  wide_told Hessian h = of_form Hessian h
-  wide_told Rows h = of_form Rows h
-  wide_told curvature_named h = of_form curvature_named h
-  wide_told Error h = of_aim Error h
-  wide_told Descent h = of_aim Descent h
-  wide_told Width h = of_aim Width h
-  wide_told Turn h = absurd h
-  wide_told Excess h = from_scaling _ h.0 h.1 h.2 (inl (refl, h.3))
-  wide_told Stay h = absurd h
-  wide_told Settle h = absurd h
+  wide_told =
+      each_quantity (IsTooWideLean d t plans references) (λ quantity. Whole (TooWide quantity)) prediction
+      (corner_told d plans AfterMargin CornerSlack) (corner_told d plans AfterMargin CornerCost) (λ h. from_scaling _ h.0 h.1 h.2 (inr (h.3.0, inl (refl, h.3.1))))
+      (of_form Hessian) (of_form Rows) (of_form curvature_named) (of_aim Error) (of_aim Descent) (of_aim Width)
+      (λ h. absurd h) (λ h. from_scaling _ h.0 h.1 h.2 (inl (refl, h.3))) (λ h. absurd h) (λ h. absurd h)
+    where
+      prediction : IsTooWideLean d t plans references Prediction → Whole (TooWide Prediction)
+      prediction (inl h) = corner_told d plans AfterMargin Prediction h
+      prediction (inr h) = of_form Prediction h
 
   told : (e : Refusal) → HasLeanCause d t plans references e → Whole e
-  told Memory h = absurd h
-  told (NoMargin corner row slack) h = short_told d plans AfterMargin corner row slack h.0 h.1
-  told Curvature h = from_margin _ h.0 h.1 (form_told d (AfterExponent h.0) Curvature h.2)
-  told (TooManySteps k) h = missed (TooManySteps k) h
-  told (TooFine eps) h = missed (TooFine eps) h
-  told (TooWide quantity) h = wide_told quantity h
+  told =
+      each_refusal (HasLeanCause d t plans references) Whole (λ h. absurd h) (λ corner row slack h. short_told d plans AfterMargin corner row slack h.0 h.1)
+      (λ h. from_margin _ h.0 h.1 (form_told d (AfterExponent h.0) Curvature h.2)) (λ k. missed (TooManySteps k)) (λ eps. missed (TooFine eps)) wide_told
 
 -- ---- there is one at most, and none where all tests are passed
 pub one_cause : LeanCausesLaw

@@ -1,20 +1,20 @@
 -- What the numbers of a lean controller are within.
-use Rattle.std.proofs.Common.{◌≡◌, ℕ, zero, suc, ◌+◌, ◌*◌, ◌/◌, ◌^◌, ◌≤◌, min, max, ℤ, pos, ◌≤ℤ◌, unsigned_abs, arith, ◌∙◌}
+use Rattle.std.proofs.Common.{◌≡◌, ℕ, ◌*◌, ◌/◌, ◌^◌, ◌≤◌, min, max, ℤ, pos, ◌≤ℤ◌, unsigned_abs, Some, arith}
 use Rattle.std.proofs.lemmas.Int.{ints}
 use Rattle.std.proofs.lemmas.Nat.{mul-le}
 use Rattle.std.proofs.Math.Nat.{div-le_self}
 use Rattle.qp_model.specs.problem.Parts.{IsDesign}
 use Rattle.qp_model.specs.problem.Range.{IsPositive}
-use Rattle.qp_model.specs.bounds.Choices.{lean_multiplier, lean_multiplier_size}
+use Rattle.qp_model.specs.bounds.Choices.{lean_multiplier_size}
 use Rattle.qp_model.specs.declared.design_parts.DesignParts.{DesignParts}
 use Rattle.design_engine.specs.Targets.{Targets, targets_of, gap_target, violation_target, step_target, rest_target, floor_target}
 use Rattle.design_engine.specs.Aims.{IsAim}
-use Rattle.design_engine.specs.declared.aimed.Aim.{Aim}
 use Rattle.design_engine.proofs.TargetLaws.{quotient_some, some_of, size_of}
 use Rattle.design_engine.proofs.GenerationFacts.{gap_some, gap_small}
-use Rattle.lean_engine.specs.Lean.{bound_of, lean_aim}
-use Rattle.lean_engine.specs.Priced.{IsBoundOf}
-use Rattle.lean_engine.specs.declared.bounds.Bound.{Bound}
+use Rattle.design_engine.specs.Terms.{AreTerms}
+use Rattle.design_engine.specs.declared.bounds.Terms.{Terms}
+use Rattle.qp_model.proofs.AbsoluteLaws.{div-le}
+use Rattle.lean_engine.specs.Lean.{bound_of, lean_aim, lean_terms}
 
 positive_small : (z : ℤ) → IsPositive z → unsigned_abs z ≤ 2 ^ 31
 positive_small z h = omega (arith, ints, h.low, h.high)
@@ -52,16 +52,21 @@ bound_narrow t units excess h = close excess (bound_of t units excess) h
     close : (x r : ℕ) → max x (2 ^ 82 * r) ≤ 2 ^ 126 → r ≤ 2 ^ 44
     close x r h = omega (arith, h)
 
--- R times the violation's target
-pub undercut_small : (r t : ℕ) → r ≤ 2 ^ 44 → t ≤ 2 ^ 71 → r * t ≤ 2 ^ 126
-undercut_small r t h k = omega (arith, mul-le r t (2 ^ 44) (2 ^ 71) h k)
+-- as a number of 128 bits
+pub bound_range : (t : Targets) (units excess : ℕ) (r : ℤ) → r ≡ pos (bound_of t units excess) → lean_multiplier_size units excess (floor_target t) ≤ 2 ^ 126 →
+    (pos 1 ≤ℤ r) × (r ≤ℤ pos (2 ^ 44))
+bound_range t units excess r e room = within (bound_of t units excess) e (bound_some t units excess) (bound_narrow t units excess room)
+  where
+    within : (n : ℕ) → r ≡ pos n → 1 ≤ n → n ≤ 2 ^ 44 → (pos 1 ≤ℤ r) × (r ≤ℤ pos (2 ^ 44))
+    within n e l m = rw e (omega (arith, ints, l), omega (arith, ints, m))
 
--- ---- the aim
--- by its numbers
-pub aim_same : (t : Targets) (units excess : ℕ) (r steps errors : ℤ) → r ≡ pos (bound_of t units excess) → steps ≡ pos (step_target t) →
-    errors ≡ pos (min (gap_target t) (bound_of t units excess * rest_target t)) →
-    ◌≡◌ {A = Aim} (record { r = r; step_target = steps; error_target = errors }) (lean_aim t units excess)
-aim_same t units excess r steps errors e f g = λ i. record { r = e i; step_target = f i; error_target = g i }
+-- ---- terms
+-- by their numbers
+pub terms_same : (t : Targets) (units excess : ℕ) (r steps errors u x v : ℤ) → r ≡ pos (bound_of t units excess) → steps ≡ pos (step_target t) →
+    errors ≡ pos (min (gap_target t) (bound_of t units excess * rest_target t)) → u ≡ pos units → x ≡ pos excess → v ≡ pos (violation_target t) →
+    ◌≡◌ {A = Terms} (record { aim = record { r = r; step_target = steps; error_target = errors }; units = u; cost = x; target = Some v }) (lean_terms t units excess)
+terms_same t units excess r steps errors u x v e f g h j k =
+    λ i. record { aim = record { r = e i; step_target = f i; error_target = g i }; units = h i; cost = j i; target = Some (k i) }
 
 pub limit_small : (p : DesignParts) (units excess : ℕ) → IsDesign p →
     min (gap_target (targets_of p)) (bound_of (targets_of p) units excess * rest_target (targets_of p)) ≤ 2 ^ 71
@@ -89,15 +94,24 @@ aim_ranges p units excess h narrow = record {
     limit : (g r k : ℕ) → 1 ≤ g → 1 ≤ r → 1 ≤ k → 1 ≤ min g (r * k)
     limit g r k a b c = omega (arith, a, mul-le 1 1 r k b c)
 
--- R of a slack and an excess
-pub bound_least : (t : Targets) (x : Bound) → IsBoundOf t x → pos 1 ≤ℤ x.r
-bound_least t x h = rw h.bound (whole (bound_of t (unsigned_abs x.units) (unsigned_abs x.excess)) (bound_some t (unsigned_abs x.units) (unsigned_abs x.excess)))
+pub lean_ranges : (p : DesignParts) (units excess : ℕ) → IsDesign p → lean_multiplier_size units excess (floor_target (targets_of p)) ≤ 2 ^ 126 →
+    AreTerms (lean_terms (targets_of p) units excess)
+lean_ranges p units excess h room = record {
+  aim = aim_ranges p units excess h (bound_narrow (targets_of p) units excess room);
+  share = under (gap_target (targets_of p)) (bound_of (targets_of p) units excess) (rest_target (targets_of p)) (step_target (targets_of p)) less;
+  steps = wider (step_target (targets_of p)) (share_small (15 * 2 ^ 36) (unsigned_abs p.violation) (unsigned_abs p.target_den) small);
+  target = omega (arith, ints);
+  short = violation_small p h;
+}
   where
-    whole : (n : ℕ) → 1 ≤ n → pos 1 ≤ℤ pos n
-    whole n l = omega (arith, ints, l)
+    small : unsigned_abs p.violation ≤ 2 ^ 31
+    small = positive_small p.violation h.violation
 
-pub bound_most : (t : Targets) (x : Bound) → IsBoundOf t x → x.r ≤ℤ pos (2 ^ 44)
-bound_most t x h = rw h.bound (whole (bound_of t (unsigned_abs x.units) (unsigned_abs x.excess)) (2 ^ 44) (bound_narrow t (unsigned_abs x.units) (unsigned_abs x.excess) h.room))
-  where
-    whole : (n k : ℕ) → n ≤ k → pos n ≤ℤ pos k
-    whole n k l = omega (arith, ints, l)
+    less : rest_target (targets_of p) ≤ step_target (targets_of p)
+    less = div-le (2 ^ 36 * unsigned_abs p.violation) (15 * 2 ^ 36 * unsigned_abs p.violation) (unsigned_abs p.target_den) (some_of p.target_den h.target_den.low) (omega arith)
+
+    wider : (n : ℕ) → n ≤ 15 * 2 ^ 36 * 2 ^ 31 → n ≤ 2 ^ 71
+    wider n l = omega (arith, l)
+
+    under : (g r k n : ℕ) → k ≤ n → min g (r * k) ≤ r * n
+    under g r k n l = omega (arith, mul-le r k r n (omega arith) l)

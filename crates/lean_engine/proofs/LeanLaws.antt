@@ -1,5 +1,5 @@
 -- Why a controller that is made leanly keeps the whole promise of its bounds.
-use Rattle.std.proofs.Common.{◌≡◌, ℕ, ◌<◌, ◌≤◌, ◌^◌, ℤ, pos, ◌≤ℤ◌, unsigned_abs, arith, ap, sym, subst, ◌∙◌}
+use Rattle.std.proofs.Common.{◌≡◌, ℕ, ◌<◌, ◌≤◌, ◌^◌, ℤ, pos, ◌≤ℤ◌, unsigned_abs, arith, ap, sym, subst}
 use Rattle.std.proofs.lemmas.Int.{ints}
 use Rattle.qp_model.specs.form.Class.{form_of}
 use Rattle.qp_model.specs.form.Quantities.{input_floor}
@@ -7,7 +7,6 @@ use Rattle.qp_model.specs.problem.Design.{Design, rows}
 use Rattle.qp_model.specs.problem.Parts.{design_of}
 use Rattle.qp_model.specs.problem.Policy.{Plans}
 use Rattle.qp_model.specs.bounds.CornerClass.{shown}
-use Rattle.qp_model.specs.bounds.Excess.{excess_of}
 use Rattle.qp_model.specs.bounds.Margin.{simulated, HasSlack, BoundsCorners}
 use Rattle.qp_model.specs.bounds.RealErrors.{real_errors}
 use Rattle.qp_model.specs.machine.Controller.{Numbers}

@@ -1,4 +1,3 @@
 pub mod Lean
 pub mod Refusals
-pub mod Priced
 pub mod Order

@@ -1,6 +1,6 @@
 -- Why a design with a policy and reference plans has no lean controller: the first of these tests, in their order, that it fails. The excess is made of the
 -- condensed form's numbers, and so it and R come after the step exponent.
-use Rattle.std.specs.Prelude.{◌≡◌, ◌⊎◌, ℕ, ◌^◌, ◌≤◌, pos, ◌≤ℤ◌, unsigned_abs}
+use Rattle.std.specs.Prelude.{◌≡◌, ◌⊎◌, ℕ, ◌^◌, ◌≤◌, unsigned_abs}
 use Rattle.qp_model.specs.form.Class.{form_of}
 use Rattle.qp_model.specs.problem.Design.{Design}
 use Rattle.qp_model.specs.problem.Policy.{Plans}
@@ -8,7 +8,7 @@ use Rattle.qp_model.specs.bounds.Choices.{lean_multiplier_size}
 use Rattle.qp_model.specs.bounds.Excess.{excess_of, excess_size}
 use Rattle.qp_model.specs.declared.bounds.Margin.{Margin}
 use Rattle.qp_model.specs.declared.quantity.Quantity.{Quantity}
-use Rattle.qp_model.specs.declared.quantity.Quantity.TheVariants.{Prediction, CornerSlack, CornerCost, Multiplier, Hessian, Rows, Curvature as curvature_named, Error, Descent, Width, Turn, Excess, Stay, Settle}
+use Rattle.qp_model.specs.declared.quantity.Quantity.TheVariants.{Prediction, CornerSlack, CornerCost, Multiplier, Hessian, Rows, Curvature as curvature_named, Error, Descent, Width, Excess}
 use Rattle.corner_margin.specs.Corners.{HasCornerRoom, IsFirstWideCorner, IsFirstShort}
 use Rattle.hessian_check.specs.Steps.{IsExponentOf, HasNoStep}
 use Rattle.design_engine.specs.Targets.{Targets, floor_target}
@@ -52,6 +52,10 @@ pub record PassesLean (d : Design) (t : Targets) (plans references : Plans) (m :
   pub before : PassesBound d t plans references m s
   pub aim : PassesAim d (aim_at d t plans references m) s f
 
+-- some numbers pass every test
+abbrev pub PassesSomeLean : Design → Targets → (plans references : Plans) → Type 0
+PassesSomeLean d t plans references = (m : Margin) × (s : ℕ) × (f : ℕ) × PassesLean d t plans references m s f
+
 -- ---- the causes
 -- the quantity is the first of the form, or of the steps and the bits, that is above its limit
 abbrev pub HasWideLeanForm : Design → Targets → Plans → Quantity → Type 0
@@ -76,9 +80,7 @@ IsTooWideLean d t plans references Multiplier =
 IsTooWideLean d t plans references Error = HasWideLeanAim d t plans references Error
 IsTooWideLean d t plans references Descent = HasWideLeanAim d t plans references Descent
 IsTooWideLean d t plans references Width = HasWideLeanAim d t plans references Width
-IsTooWideLean d t plans references Turn = ⊥
-IsTooWideLean d t plans references Stay = ⊥
-IsTooWideLean d t plans references Settle = ⊥
+IsTooWideLean d t plans references other = ⊥
 
 -- the steps and the bits miss what the targets leave
 abbrev pub HasMissedLeanAim : Design → Targets → (plans references : Plans) → Refusal → Type 0

@@ -2,12 +2,12 @@
 //! its bounds, and why the controller keeps them.
 #![tactic(auto)]
 
-mod bounds;
 mod generation;
 mod laws;
 mod targets;
+mod violations;
 
-pub use bounds::row_violations;
 pub use generation::generate_lean;
 pub use laws::{causes_law, lean_law};
 pub use targets::violation_target;
+pub use violations::row_violations;
