@@ -5,3 +5,4 @@ pub mod Text
 pub mod Laws
 pub mod Worked
 pub mod Terms
+pub mod Measured

@@ -6,6 +6,7 @@ mod ending;
 mod header;
 mod laws;
 mod lines;
+mod measured;
 mod name;
 mod opposite;
 mod plan;

@@ -6,4 +6,4 @@ use Rattle.c_program.specs.Terms.{block_text}
 use Rattle.c_program.proofs.plan.push_differences.Given as goal
 
 abbrev pub invariant-loop-i : goal.invariant-loop-i
-invariant-loop-i l = string_bytes l.text ≡ string_bytes l.fn.text ++ block_text (numbers l.c) (codes "        ") (groups (difference_statements (numbers l.c)) l.i)
+invariant-loop-i l = string_bytes l.text ≡ string_bytes l.fn.text ++ block_text (numbers l.from.c.now) (codes "        ") (groups (difference_statements (numbers l.from.c.now)) l.i)

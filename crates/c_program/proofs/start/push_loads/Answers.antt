@@ -5,9 +5,9 @@ use Rattle.c_program.proofs.Texts.{block_none, block_more}
 use Rattle.c_program.proofs.start.push_loads.Goals as goal
 
 pub loop-k-init : goal.loop-k-init
-loop-k-init c = block_none (numbers c.args.c.now) (codes "    ") (loaded_statements (numbers c.args.c.now)) (string_bytes c.args.text.now)
+loop-k-init c = block_none (numbers c.args.from.now.c.now) (codes "    ") (loaded_statements (numbers c.args.from.now.c.now)) (string_bytes c.args.text.now)
 
 pub loop-k-preserved : goal.loop-k-preserved
 loop-k-preserved c =
-    block_more (numbers c.args.c.now) (codes "    ") (loaded_statements (numbers c.args.c.now)) c.loop-k.k (string_bytes c.args.text.now) (string_bytes c.loop-k.text) (string_bytes c.push_loaded.new.text)
+    block_more (numbers c.args.from.now.c.now) (codes "    ") (loaded_statements (numbers c.args.from.now.c.now)) c.loop-k.k (string_bytes c.args.text.now) (string_bytes c.loop-k.text) (string_bytes c.push_loaded.new.text)
     c.loop-k.invariant c.in_ok-push_loaded.ensures

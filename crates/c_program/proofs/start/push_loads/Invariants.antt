@@ -6,4 +6,4 @@ use Rattle.c_program.specs.Terms.{block_text}
 use Rattle.c_program.proofs.start.push_loads.Given as goal
 
 abbrev pub invariant-loop-k : goal.invariant-loop-k
-invariant-loop-k l = string_bytes l.text ≡ string_bytes l.fn.text ++ block_text (numbers l.c) (codes "    ") (groups (loaded_statements (numbers l.c)) l.k)
+invariant-loop-k l = string_bytes l.text ≡ string_bytes l.fn.text ++ block_text (numbers l.from.c.now) (codes "    ") (groups (loaded_statements (numbers l.from.c.now)) l.k)

@@ -7,10 +7,10 @@ use Rattle.c_program.proofs.start.push_multipliers.Goals as goal
 
 pub loop-i-init : goal.loop-i-init
 loop-i-init c =
-    let n = numbers c.args.c.now in
+    let n = numbers c.args.from.now.c.now in
     block_none n (codes "    ") (zero_statements Multiplier) (string_bytes c.args.text.now)
 
 pub loop-i-preserved : goal.loop-i-preserved
 loop-i-preserved c =
-    let n = numbers c.args.c.now in
+    let n = numbers c.args.from.now.c.now in
     block_more n (codes "    ") (zero_statements Multiplier) c.loop-i.i (string_bytes c.args.text.now) (string_bytes c.loop-i.text) (string_bytes c.push_multiplier.new.text) c.loop-i.invariant c.in_ok-push_multiplier.ensures

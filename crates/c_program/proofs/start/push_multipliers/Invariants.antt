@@ -7,4 +7,4 @@ use Rattle.c_program.specs.Terms.{block_text}
 use Rattle.c_program.proofs.start.push_multipliers.Given as goal
 
 abbrev pub invariant-loop-i : goal.invariant-loop-i
-invariant-loop-i l = string_bytes l.text ≡ string_bytes l.fn.text ++ block_text (numbers l.c) (codes "    ") (groups (zero_statements Multiplier) l.i)
+invariant-loop-i l = string_bytes l.text ≡ string_bytes l.fn.text ++ block_text (numbers l.from.c.now) (codes "    ") (groups (zero_statements Multiplier) l.i)

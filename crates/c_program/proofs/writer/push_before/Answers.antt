@@ -10,7 +10,7 @@ use Rattle.c_program.proofs.writer.push_before.Goals as goal
 
 pub returns : goal.returns
 returns c =
-    let n = numbers c.args.c.now in
+    let n = numbers c.args.from.now.c.now in
     let i = codes "    " in
     let old = string_bytes c.args.text.now in
     let a = groups (loaded_statements n) n.states in
@@ -21,7 +21,7 @@ returns c =
     let t2 = string_bytes c.push_entry_bases.new.text in
     let t3 = string_bytes c.push_row_bases.new.text in
     let t4 = string_bytes c.push_multipliers.new.text in
-    let long = ap (λ (xs : List ℕ). length xs) c.requires.states ∙ length-state_reach n c.requires.sound.form.sized in
+    let long = ap (λ (xs : List ℕ). length xs) c.args.from.now.state_tops ∙ length-state_reach n c.args.from.now.sound.form.sized in
     let first = c.in_ok-push_loads.ensures ∙ ap (λ (k : ℕ). old ++ block_text n i (groups (loaded_statements n) k)) long in
     blocks_more n i (a ++ b ++ d ++ e) (groups (zero_statements Sum) (length n.offsets)) old t4 (string_bytes c.push_start_sums.new.text)
     (blocks_more n i (a ++ b ++ d) e old t3 t4 (blocks_more n i (a ++ b) d old t2 t3 (blocks_more n i a b old t1 t2 first c.in_ok-push_entry_bases.ensures) c.in_ok-push_row_bases.ensures) c.in_ok-push_multipliers.ensures)

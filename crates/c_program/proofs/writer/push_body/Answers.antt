@@ -7,7 +7,7 @@ use Rattle.c_program.proofs.writer.push_body.Goals as goal
 
 pub returns : goal.returns
 returns c =
-    let n = numbers c.args.c.now in
+    let n = numbers c.args.from.now.c.now in
     let i = codes "        " in
     let old = string_bytes c.args.text.now in
     let a = groups (difference_statements n) (length n.bounds) in

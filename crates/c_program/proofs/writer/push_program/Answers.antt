@@ -12,7 +12,7 @@ use Rattle.c_program.proofs.writer.push_program.Goals as goal
 
 pub returns : goal.returns
 returns c =
-    let n = numbers c.args.c.now in
+    let n = numbers c.args.from.now.c.now in
     let p = program_of n in
     let m = length n.offsets in
     let old = string_bytes c.args.text.now in
