@@ -19,5 +19,6 @@ pub mod Rooms
 pub mod Texts
 pub mod Reading
 pub mod Statements
+pub mod ProgramTexts
 -- ---- a worked program
 pub mod Worked

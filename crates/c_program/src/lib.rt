@@ -18,6 +18,8 @@ mod words;
 mod writer;
 
 pub use header::write_header;
-pub use laws::{expression_text_law, program_law, statement_text_law, worked_lines};
+pub use laws::{
+    expression_text_law, program_law, program_text_law, statement_text_law, worked_lines,
+};
 pub use name::is_name;
 pub use writer::write_program;
