@@ -12,6 +12,8 @@ pub mod Before
 pub mod Step
 pub mod Box
 pub mod Rounding
+pub mod LeftIn
+pub mod ProgramNeeds
 pub mod ProgramLaw
 -- ---- the text
 pub mod Lists

@@ -1,5 +1,6 @@
 pub mod Syntax
 pub mod Meaning
+pub mod Needed
 pub mod Of
 pub mod Text
 pub mod Laws

@@ -8,6 +8,7 @@ mod laws;
 mod lines;
 mod measured;
 mod name;
+mod needed;
 mod opposite;
 mod plan;
 mod rows;

@@ -43,7 +43,7 @@ fn are_at_negated(row: &[i128], k: usize, i: usize) -> bool
 }
 
 // Whether both are so.
-fn both(a: bool, b: bool) -> bool
+pub fn both(a: bool, b: bool) -> bool
     ensures { result ≡ (a && b) }
 {
     a && b

@@ -6,13 +6,14 @@ ghost use Rattle.qp_model.specs.machine.AbsoluteSums.{IsController};
 ghost use Rattle.c_program.specs.Syntax.{variable, groups};
 ghost use Rattle.c_program.specs.Syntax.Family.{Multiplier};
 ghost use Rattle.c_program.specs.Syntax.Expression.{Value, Minus};
-ghost use Rattle.c_program.specs.Of.{multiplier_top, is_first, gain_of, gain_variable, difference_statements, entry_expression, entry_statements, sum_statements};
+ghost use Rattle.c_program.specs.Of.{is_row_needed, multiplier_top, is_first, gain_of, gain_variable, difference_statements, entry_expression, entry_statements, sum_statements};
 ghost use Rattle.c_program.specs.Text.{variable_text, expression_text};
 ghost use Rattle.c_program.specs.Terms.{product_text, products_text};
-ghost use Rattle.c_program.specs.Measured.{measured_controller, row_count, entry_count, loop_text};
+ghost use Rattle.c_program.specs.Measured.{measured_controller, row_count, entry_count, loop_text, needed_statements, where_needed};
 
 use crate::lines::push_sum;
 use crate::measured::Measured;
+use crate::needed::is_row_needed_at;
 use crate::opposite::{is_first_at, is_second_at, partner_at};
 use crate::tops::{lowering_at, multiplier_top, sum_top};
 use crate::words::{kind_word, push_declared, push_end, push_number, push_scaled, push_value};
@@ -68,13 +69,26 @@ fn push_difference_where(from: &Measured, text: &mut String, i: usize) -> Result
     }
 }
 
+// The same where the row is needed.
+fn push_needed_difference(from: &Measured, text: &mut String, i: usize) -> Result<(), AllocError>
+    requires in_range { i < row_count from.now }
+    ensures { OnOk result (string_bytes text.new ≡ string_bytes text.old ++
+        where_needed (is_row_needed (measured_controller from.now) i) (loop_text from.now (difference_statements (measured_controller from.now) i))) }
+{
+    if is_row_needed_at(from.c, i) {
+        push_difference_where(from, text, i)
+    } else {
+        Ok(())
+    }
+}
+
 // The lines of the differences.
 pub fn push_differences(from: &Measured, text: &mut String) -> Result<(), AllocError>
     ensures { OnOk result (string_bytes text.new ≡ string_bytes text.old ++
-        loop_text from.now (groups (difference_statements (measured_controller from.now)) (row_count from.now))) }
+        loop_text from.now (needed_statements from.now (groups (difference_statements (measured_controller from.now)) (row_count from.now)))) }
 {
     for i in 0..from.c.bound.len() {
-        push_difference_where(from, text, i)?;
+        push_needed_difference(from, text, i)?;
     }
     Ok(())
 }

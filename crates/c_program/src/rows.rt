@@ -5,12 +5,13 @@ ghost use Rattle.c_program.specs.Syntax.{variable, groups};
 ghost use Rattle.c_program.specs.Syntax.Family.{Multiplier, Moved};
 ghost use Rattle.c_program.specs.Syntax.Expression.{Value};
 ghost use Rattle.c_program.specs.Syntax.Statement.{Declare, Assign, AtLeastZero, AtMost};
-ghost use Rattle.c_program.specs.Of.{kind_of, is_first, is_second, gradient_statements, row_expression, moved_expression, move_statements, row_statements};
+ghost use Rattle.c_program.specs.Of.{is_row_needed, kind_of, is_first, is_second, gradient_statements, row_expression, moved_expression, move_statements, row_statements};
 ghost use Rattle.c_program.specs.Text.{kind_text, expression_text};
 ghost use Rattle.c_program.specs.Terms.{row_rest};
-ghost use Rattle.c_program.specs.Measured.{measured_controller, row_count, loop_text};
+ghost use Rattle.c_program.specs.Measured.{measured_controller, row_count, loop_text, needed_statements, where_needed};
 
 use crate::measured::Measured;
+use crate::needed::is_row_needed_at;
 use crate::opposite::{is_first_at, is_second_at, partner_at};
 use crate::sums::push_row;
 use crate::tops::{multiplier_top, top_at};
@@ -240,13 +241,26 @@ fn push_row_lines(from: &Measured, text: &mut String, i: usize) -> Result<(), Al
     Ok(())
 }
 
+// The same where the row is needed.
+fn push_needed_row(from: &Measured, text: &mut String, i: usize) -> Result<(), AllocError>
+    requires in_range { i < row_count from.now }
+    ensures { OnOk result (string_bytes text.new ≡ string_bytes text.old ++
+        where_needed (is_row_needed (measured_controller from.now) i) (loop_text from.now (row_statements (measured_controller from.now) i))) }
+{
+    if is_row_needed_at(from.c, i) {
+        push_row_lines(from, text, i)
+    } else {
+        Ok(())
+    }
+}
+
 // The lines of the rows.
 pub fn push_rows(from: &Measured, text: &mut String) -> Result<(), AllocError>
     ensures { OnOk result (string_bytes text.new ≡ string_bytes text.old ++
-        loop_text from.now (groups (row_statements (measured_controller from.now)) (row_count from.now))) }
+        loop_text from.now (needed_statements from.now (groups (row_statements (measured_controller from.now)) (row_count from.now)))) }
 {
     for i in 0..from.c.bound.len() {
-        push_row_lines(from, text, i)?;
+        push_needed_row(from, text, i)?;
     }
     Ok(())
 }

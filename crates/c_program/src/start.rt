@@ -4,11 +4,12 @@ ghost use Rattle.qp_model.specs.machine.Controller.{numbers};
 ghost use Rattle.qp_model.specs.machine.AbsoluteSums.{IsController};
 ghost use Rattle.c_program.specs.Syntax.{groups};
 ghost use Rattle.c_program.specs.Syntax.Family.{Multiplier, Sum};
-ghost use Rattle.c_program.specs.Of.{loaded_expression, loaded_statements, entry_base_statements, row_base_statements, zero_statements};
+ghost use Rattle.c_program.specs.Of.{is_row_needed, is_coordinate_needed, loaded_expression, loaded_statements, entry_base_statements, row_base_statements, zero_statements};
 ghost use Rattle.c_program.specs.Text.{expression_text};
-ghost use Rattle.c_program.specs.Measured.{measured_controller, row_count, entry_count, start_text};
+ghost use Rattle.c_program.specs.Measured.{measured_controller, row_count, entry_count, start_text, needed_statements, where_needed};
 
 use crate::measured::Measured;
+use crate::needed::{is_coordinate_needed_at, is_row_needed_at};
 use crate::sums::{push_row, push_scaled_row};
 use crate::tops::{bound_at, multiplier_top, offset_at, sum_top};
 use crate::words::{kind_word, push_constant, push_declared, push_end, push_number};
@@ -47,13 +48,26 @@ fn push_loaded(from: &Measured, text: &mut String, k: usize) -> Result<(), Alloc
     Ok(())
 }
 
+// The same where the coordinate is needed.
+fn push_needed_loaded(from: &Measured, text: &mut String, k: usize) -> Result<(), AllocError>
+    requires in_range { k < length from.now.states.now }
+    ensures { OnOk result (string_bytes text.new ≡ string_bytes text.old ++
+        where_needed (is_coordinate_needed (measured_controller from.now) k) (start_text from.now (loaded_statements (measured_controller from.now) k))) }
+{
+    if is_coordinate_needed_at(from, k) {
+        push_loaded(from, text, k)
+    } else {
+        Ok(())
+    }
+}
+
 // The lines that load the state.
 pub fn push_loads(from: &Measured, text: &mut String) -> Result<(), AllocError>
     ensures { OnOk result (string_bytes text.new ≡ string_bytes text.old ++
-        start_text from.now (groups (loaded_statements (measured_controller from.now)) (length from.now.states.now))) }
+        start_text from.now (needed_statements from.now (groups (loaded_statements (measured_controller from.now)) (length from.now.states.now)))) }
 {
     for k in 0..from.states.len() {
-        push_loaded(from, text, k)?;
+        push_needed_loaded(from, text, k)?;
     }
     Ok(())
 }
@@ -101,13 +115,26 @@ fn push_row_base(from: &Measured, text: &mut String, i: usize) -> Result<(), All
     Ok(())
 }
 
+// The same where the row is needed.
+fn push_needed_row_base(from: &Measured, text: &mut String, i: usize) -> Result<(), AllocError>
+    requires in_range { i < row_count from.now }
+    ensures { OnOk result (string_bytes text.new ≡ string_bytes text.old ++
+        where_needed (is_row_needed (measured_controller from.now) i) (start_text from.now (row_base_statements (measured_controller from.now) i))) }
+{
+    if is_row_needed_at(from.c, i) {
+        push_row_base(from, text, i)
+    } else {
+        Ok(())
+    }
+}
+
 // The lines of the bases of rows.
 pub fn push_row_bases(from: &Measured, text: &mut String) -> Result<(), AllocError>
     ensures { OnOk result (string_bytes text.new ≡ string_bytes text.old ++
-        start_text from.now (groups (row_base_statements (measured_controller from.now)) (row_count from.now))) }
+        start_text from.now (needed_statements from.now (groups (row_base_statements (measured_controller from.now)) (row_count from.now)))) }
 {
     for i in 0..from.c.bound.len() {
-        push_row_base(from, text, i)?;
+        push_needed_row_base(from, text, i)?;
     }
     Ok(())
 }
@@ -130,13 +157,26 @@ fn push_multiplier(from: &Measured, text: &mut String, i: usize) -> Result<(), A
     Ok(())
 }
 
+// The same where the row is needed.
+fn push_needed_multiplier(from: &Measured, text: &mut String, i: usize) -> Result<(), AllocError>
+    requires in_range { i < row_count from.now }
+    ensures { OnOk result (string_bytes text.new ≡ string_bytes text.old ++
+        where_needed (is_row_needed (measured_controller from.now) i) (start_text from.now (zero_statements Multiplier i))) }
+{
+    if is_row_needed_at(from.c, i) {
+        push_multiplier(from, text, i)
+    } else {
+        Ok(())
+    }
+}
+
 // The lines of the multipliers.
 pub fn push_multipliers(from: &Measured, text: &mut String) -> Result<(), AllocError>
     ensures { OnOk result (string_bytes text.new ≡ string_bytes text.old ++
-        start_text from.now (groups (zero_statements Multiplier) (row_count from.now))) }
+        start_text from.now (needed_statements from.now (groups (zero_statements Multiplier) (row_count from.now)))) }
 {
     for i in 0..from.c.bound.len() {
-        push_multiplier(from, text, i)?;
+        push_needed_multiplier(from, text, i)?;
     }
     Ok(())
 }

@@ -5,7 +5,7 @@ ghost use Rattle.qp_model.specs.machine.Controller.{numbers};
 ghost use Rattle.c_program.specs.Of.{before_of, repetition_body, program_of};
 ghost use Rattle.c_program.specs.Text.{shift_line, head_text, refusal_line, numbered_lines, program_text};
 ghost use Rattle.c_program.specs.Terms.{opening_lines, repetition_line};
-ghost use Rattle.c_program.specs.Measured.{measured_controller, start_text, loop_text};
+ghost use Rattle.c_program.specs.Measured.{measured_controller, start_text, loop_text, needed_statements};
 
 use crate::averages::push_second;
 use crate::ending::push_outputs;
@@ -45,7 +45,7 @@ fn push_refusals(from: &Measured, text: &mut String) -> Result<(), AllocError>
 
 // The lines before the loop.
 fn push_before(from: &Measured, text: &mut String) -> Result<(), AllocError>
-    ensures { OnOk result (string_bytes text.new ≡ string_bytes text.old ++ start_text from.now (before_of (measured_controller from.now))) }
+    ensures { OnOk result (string_bytes text.new ≡ string_bytes text.old ++ start_text from.now (needed_statements from.now (before_of (measured_controller from.now)))) }
 {
     push_loads(from, text)?;
     push_entry_bases(from, text)?;
@@ -57,7 +57,7 @@ fn push_before(from: &Measured, text: &mut String) -> Result<(), AllocError>
 
 // The lines of the loop.
 fn push_body(from: &Measured, text: &mut String) -> Result<(), AllocError>
-    ensures { OnOk result (string_bytes text.new ≡ string_bytes text.old ++ loop_text from.now (repetition_body (measured_controller from.now))) }
+    ensures { OnOk result (string_bytes text.new ≡ string_bytes text.old ++ loop_text from.now (needed_statements from.now (repetition_body (measured_controller from.now)))) }
 {
     push_differences(from, text)?;
     push_entries(from, text)?;
