@@ -12,6 +12,8 @@ pub mod Before
 pub mod Step
 pub mod Box
 pub mod Rounding
+pub mod LeftIn
+pub mod ProgramNeeds
 pub mod ProgramLaw
 -- ---- the text
 pub mod Lists
@@ -19,5 +21,6 @@ pub mod Rooms
 pub mod Texts
 pub mod Reading
 pub mod Statements
+pub mod ProgramTexts
 -- ---- a worked program
 pub mod Worked

@@ -1,12 +1,13 @@
 -- Lists that grow number by number, and what the numbers of a controller are at most.
-use Rattle.std.proofs.Common.{◌≡◌, ℕ, zero, suc, ◌+◌, ◌<◌, ◌==◌, Bool, true, false, ◌&&◌, if◌then◌else◌, ltb, true≢false, IsTrue, ◌↔◌, ℤ, pos, ◌+ℤ◌, List, [], ◌∷◌, ◌++◌, length, take, get_or, unsigned_abs, refl, sym, ap, ◌∙◌, arith, add-one}
+use Rattle.std.proofs.Common.{◌≡◌, ℕ, zero, suc, ◌+◌, ◌<◌, ◌==◌, Bool, true, false, ◌&&◌, ◌||◌, if◌then◌else◌, ltb, true≢false, IsTrue, ◌↔◌, ℤ, pos, ◌+ℤ◌, List, [], ◌∷◌, ◌++◌, length, take, get_or, unsigned_abs, refl, sym, ap, ◌∙◌, arith, add-one}
 use Rattle.std.proofs.lemmas.Bool.{cond-true, cond-false, eq-eqb, ne_eqb, lt-ltb, ltb-true, false_from_ne_true}
 use Rattle.std.proofs.lemmas.Int.{ints}
 use Rattle.std.proofs.lemmas.List.{take_more}
 use Rattle.std.proofs.lemmas.List.FromFn.{get_or-map-range_with_len, length-map-range_with_len}
 use Rattle.integer_algebra.specs.Sums.{at}
+use Rattle.mat_int.specs.Matrix.{row_of}
 use Rattle.qp_model.specs.machine.Controller.{Numbers}
-use Rattle.c_program.specs.Of.{are_negated, are_opposed, first_opposed, partner, is_first, is_second}
+use Rattle.c_program.specs.Of.{state_top, multiplier_top, are_negated, are_opposed, first_opposed, partner, is_first, is_second, any_below, is_product, is_row_needed, is_coordinate_needed}
 use Rattle.c_program.specs.Terms.{partners_of}
 
 pub one_more : {X : Type 0} (xs : List X) (j : ℕ) (d x : X) (old new : List X) → j < length xs → old ≡ take j xs → x ≡ get_or xs j d → new ≡ old ++ x ∷ [] → new ≡ take (j + 1) xs
@@ -93,3 +94,22 @@ pub at_any : (xs : List ℤ) (i : ℕ) (x : ℤ) → i < length xs → x ≡ get
 at_any [] i x l e = absurd (omega (arith, l))
 at_any (y ∷ ys) zero x l e = e
 at_any (y ∷ ys) (suc i) x l e = at_any ys i x (omega (arith, l)) e
+
+-- ---- one of many
+pub any_none : (f : ℕ → Bool) → false ≡ any_below f 0
+unfolding any_below
+any_none f = refl
+
+pub any_more : (f : ℕ → Bool) (j : ℕ) (old b new : Bool) → old ≡ any_below f j → b ≡ f j → new ≡ (old || b) → new ≡ any_below f (j + 1)
+unfolding any_below
+any_more f j old b new h e k = k ∙ ap (λ (x : Bool). x || b) h ∙ ap (λ (y : Bool). any_below f j || y) e ∙ ap (any_below f) (sym (add-one j))
+
+pub row_needed : (c : Numbers) (i : ℕ) → is_row_needed c i ≡ any_below (λ j. is_product (at (row_of c.dual_gains j) i) (multiplier_top c i)) (length c.offsets)
+unfolding is_row_needed
+row_needed c i = refl
+
+pub coordinate_needed : (c : Numbers) (k : ℕ) → is_coordinate_needed c k ≡
+    (any_below (λ j. is_product (at (row_of c.state_gains j) k) (state_top c k)) (length c.offsets)
+    || any_below (λ i. is_row_needed c i && is_product (at (row_of c.state_rows i) k) (state_top c k)) (length c.bounds))
+unfolding is_coordinate_needed
+coordinate_needed c k = refl

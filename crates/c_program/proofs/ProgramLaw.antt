@@ -24,9 +24,9 @@ use Rattle.overflow_check.proofs.Runs.{after_sums_le, after_sums_length, after_s
 use Rattle.c_program.specs.Syntax.{variable}
 use Rattle.c_program.specs.Syntax.Family.{Sum, Output}
 use Rattle.c_program.specs.Syntax.Expression.{Value}
-use Rattle.c_program.specs.Meaning.{Environment, held, value, IsDefined, all_done, begun, after_rounds, outcome_at, first_outside, handed, averages_of, AreAveraged}
+use Rattle.c_program.specs.Meaning.{Environment, held, value, IsDefined, all_done, begun, after_rounds, outcome_at, first_outside, handed, averages_of, AreAveraged, IsDefinedRun}
 use Rattle.c_program.specs.Meaning.Outcome.{Solved}
-use Rattle.c_program.specs.Of.{entry_top, before_of, repetition_body, shifted_average, divided_average, average_expression, program_of}
+use Rattle.c_program.specs.Of.{entry_top, before_of, repetition_body, shifted_average, divided_average, average_expression, program_of, is_needed, whole_program}
 use Rattle.c_program.specs.Laws.{first_inputs, Solves, ProgramLaw}
 use Rattle.c_program.proofs.Runs.{Runs, repeats}
 use Rattle.c_program.proofs.Terms.{Makes, makes_same, makes_value}
@@ -34,6 +34,8 @@ use Rattle.c_program.proofs.Rounding.{shifted_made, divided_made}
 use Rattle.c_program.proofs.Parts.{Ready}
 use Rattle.c_program.proofs.Before.{kinds, Begins, before_runs}
 use Rattle.c_program.proofs.Step.{StepReady, Holds, body_runs}
+use Rattle.c_program.proofs.LeftIn.{rounds_agree, part_defined, outputs_agree}
+use Rattle.c_program.proofs.ProgramNeeds.{program_closed, outputs_needed}
 use Rattle.c_program.proofs.Box.{none_outside, first_told, refused_at}
 
 -- ---- a controller of at most 64 bits and a state of its box
@@ -107,7 +109,7 @@ steps c xi k e sound narrow grid l h =
     (body_runs c (loaded c xi) (after c (loaded c xi) k) e (step_ready c xi k sound narrow grid l) h)
 
 holds_after : (c : Numbers) (xi : List ℤ) → IsController c → c.width ≤ 64 → IsAdmissible c xi → (k : ℕ) → k ≤ c.steps →
-    Holds c (loaded c xi) (after c (loaded c xi) k) (after_rounds (program_of c) xi k)
+    Holds c (loaded c xi) (after c (loaded c xi) k) (after_rounds (whole_program c) xi k)
 holds_after c xi sound narrow grid k l =
     let first = before_runs c xi (ready c xi sound narrow grid) in
     repeats (kinds c) (repetition_body c) (λ k. Holds c (loaded c xi) (after c (loaded c xi) k)) c.steps (all_done (begun xi) (before_of c)) (starts c xi _ first.ends)
@@ -174,20 +176,30 @@ averages_are c xi sound narrow grid =
     get_or-map-range_with_len made 0 n j j (pos 0) inside (omega arith) ∙ (average_made c xi j sound narrow grid inside).is ∙
     sym (get_or-map-range_with_len round 0 n j j (pos 0) inside (omega arith)))
 
+-- C defines the run of the program with every row, too
+whole_defined : (c : Numbers) (xi : List ℤ) → IsController c → c.width ≤ 64 → IsAdmissible c xi → IsDefinedRun (whole_program c) xi
+whole_defined c xi sound narrow grid = record {
+  before = (before_runs c xi (ready c xi sound narrow grid)).defined;
+  body = λ k l. (steps c xi k _ sound narrow grid l (holds_after c xi sound narrow grid k (omega (arith, l)))).defined;
+}
+
+outputs_are : (c : Numbers) (xi : List ℤ) → IsController c → c.width ≤ 64 → IsAdmissible c xi →
+    map (held (after_rounds (program_of c) xi c.steps)) (map (variable Sum) (range_with_len 0 (length c.offsets))) ≡ (after c (loaded c xi) c.steps).sums
+outputs_are c xi sound narrow grid =
+    let whole = whole_defined c xi sound narrow grid in
+    let js = range_with_len 0 (length c.offsets) in
+    sym (outputs_agree (is_needed c) (after_rounds (whole_program c) xi c.steps) (after_rounds (program_of c) xi c.steps) (map (variable Sum) js)
+    (rounds_agree (is_needed c) (whole_program c) xi (program_closed c) whole c.steps (le_refl c.steps)) (outputs_needed c js)) ∙
+    outputs c xi (after_rounds (whole_program c) xi c.steps) c.steps (holds_after c xi sound narrow grid c.steps (le_refl c.steps))
+
 solves : (c : Numbers) (xi : List ℤ) → IsController c → c.width ≤ 64 → IsAdmissible c xi → Solves c xi
-solves c xi sound narrow grid =
-    let e = after_rounds (program_of c) xi c.steps in
-    record {
-      state = state_fits c xi sound grid;
-      run = record {
-        before = (before_runs c xi (ready c xi sound narrow grid)).defined;
-        body = λ k l. (steps c xi k _ sound narrow grid l (holds_after c xi sound narrow grid k (omega (arith, l)))).defined;
-      };
-      outcome = ap (outcome_at (program_of c) xi) (none_outside c xi sound.form.sized.shaped.low grid) ∙
-          ap Solved (outputs c xi e c.steps (holds_after c xi sound narrow grid c.steps (le_refl c.steps)));
-      averaged = averages_defined c xi sound narrow grid;
-      averages = averages_are c xi sound narrow grid;
-    }
+solves c xi sound narrow grid = record {
+  state = state_fits c xi sound grid;
+  run = part_defined (is_needed c) (whole_program c) xi (program_closed c) (whole_defined c xi sound narrow grid);
+  outcome = ap (outcome_at (program_of c) xi) (none_outside c xi sound.form.sized.shaped.low grid) ∙ ap Solved (outputs_are c xi sound narrow grid);
+  averaged = averages_defined c xi sound narrow grid;
+  averages = averages_are c xi sound narrow grid;
+}
 
 pub program_law : ProgramLaw
 program_law c sound narrow = record {

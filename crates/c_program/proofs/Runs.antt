@@ -36,11 +36,11 @@ runs_append kind e xs ys P Q first second =
     record { defined = are_done-append kind e xs ys first.defined rest.defined; ends = subst Q (sym (all_done-append e xs ys)) rest.ends }
 
 -- ---- groups
-groups_none : (f : ℕ → List Statement) → groups f 0 ≡ []
+pub groups_none : (f : ℕ → List Statement) → groups f 0 ≡ []
 unfolding groups
 groups_none f = refl
 
-groups_more : (f : ℕ → List Statement) (n : ℕ) → groups f (suc n) ≡ groups f n ++ f n
+pub groups_more : (f : ℕ → List Statement) (n : ℕ) → groups f (suc n) ≡ groups f n ++ f n
 unfolding groups
 groups_more f n = refl
 

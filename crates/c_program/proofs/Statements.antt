@@ -103,7 +103,7 @@ kind_in (Valued form q v r) = q
 kind_in other = Wide
 
 -- ---- names
-not_digit : (c d : ℕ) → digit_value c < 10 → (digit_value d < 10 → ⊥) → (c == d) ≡ false
+pub not_digit : (c d : ℕ) → digit_value c < 10 → (digit_value d < 10 → ⊥) → (c == d) ≡ false
 not_digit c d h k = ne_eqb c d (λ e. k (subst (λ (n : ℕ). digit_value n < 10) e h))
 
 space_value : digit_value 32 < 10 → ⊥

@@ -1,8 +1,8 @@
 -- Texts that grow piece by piece.
-use Rattle.std.proofs.Common.{◌≡◌, ℕ, zero, suc, ◌+◌, ◌*◌, ◌^◌, ◌<◌, ◌≢◌, Bool, cond, true, false, ltb, ℤ, pos, ◌*ℤ◌, List, [], ◌∷◌, ◌++◌, length, map, take, get_or, unsigned_abs, refl, sym, ap, ◌∙◌, append_assoc, append-nil, add-one, arith, mul-pos, pow_pos}
+use Rattle.std.proofs.Common.{◌≡◌, ℕ, zero, suc, ◌+◌, ◌*◌, ◌^◌, ◌<◌, ◌≢◌, Bool, cond, if◌then◌else◌, true, false, ltb, ℤ, pos, ◌*ℤ◌, List, [], ◌∷◌, ◌++◌, length, map, take, get_or, unsigned_abs, refl, sym, ap, ◌∙◌, append_assoc, append-nil, add-one, arith, mul-pos, pow_pos}
 use Rattle.std.proofs.lemmas.List.{map_more}
 use Rattle.std.proofs.lemmas.Int.{ints}
-use Rattle.std.proofs.lemmas.Bool.{cond-true, lt-ltb}
+use Rattle.std.proofs.lemmas.Bool.{cond-true, cond-false, cond_both, lt-ltb}
 use Rattle.qp_model.proofs.AbsoluteLaws.{abs-shifted}
 use Rattle.std.specs.Prelude.{codes, decimal}
 use Rattle.std.specs.Fmt.{digits}
@@ -16,6 +16,9 @@ use Rattle.c_program.specs.Syntax.Statement.{Declare}
 use Rattle.c_program.specs.Syntax.Expression.{Constant, Value, Plus, Times}
 use Rattle.c_program.specs.Of.{kind_of, plus_products, partner, is_first, is_second, entry_top, row_expression, program_of}
 use Rattle.c_program.specs.Text.{variable_text, kind_text, constant_text, enclosed, expression_text, statement_text, numbered_lines}
+use Rattle.c_program.specs.Needed.{left_in}
+use Rattle.c_program.proofs.Runs.{groups_none}
+use Rattle.c_program.proofs.LeftIn.{left_in_append}
 use Rattle.c_program.specs.Terms.{joined, term_text, product_text, products_text, declared_text, given_end, block_text, row_rest}
 
 -- ---- sums of products
@@ -328,3 +331,17 @@ ended h ls t0 t1 t2 e1 e2 =
   where
     ended_pieces : (t0 h s nl r : List ℕ) → (t0 ++ h) ++ (s ++ nl ++ r) ≡ t0 ++ (h ++ s ++ nl ++ r)
     ended_pieces t0 h s nl r = simp append_assoc refl
+
+-- ---- what is needed
+-- groups of which some are left out
+pub needed_none : (c : Numbers) (indent : List ℕ) (needed : Variable → Bool) (f : ℕ → List Statement) (old : List ℕ) → old ≡ old ++ block_text c indent (left_in needed (groups f 0))
+needed_none c indent needed f old = sym (ap (λ (ss : List Statement). old ++ block_text c indent (left_in needed ss)) (groups_none f) ∙ append-nil old)
+
+pub needed_more : (c : Numbers) (indent : List ℕ) (needed : Variable → Bool) (f : ℕ → List Statement) (b : Bool) (n : ℕ) (old now new : List ℕ) →
+    left_in needed (f n) ≡ (if b then f n else []) → now ≡ old ++ block_text c indent (left_in needed (groups f n)) → new ≡ now ++ (if b then block_text c indent (f n) else []) →
+    new ≡ old ++ block_text c indent (left_in needed (groups f (n + 1)))
+needed_more c indent needed f b n old now new part h e =
+    let text : (if b then block_text c indent (f n) else []) ≡ block_text c indent (left_in needed (f n)) =
+    cond_both b (f n) [] (λ ss. (if b then block_text c indent (f n) else []) ≡ block_text c indent ss) (λ t. cond-true b _ _ t) (λ t. cond-false b _ _ t) ∙ ap (block_text c indent) (sym part) in
+    blocks_more c indent (left_in needed (groups f n)) (left_in needed (f n)) old now new h (e ∙ ap (λ (t : List ℕ). now ++ t) text) ∙
+    ap (λ (ss : List Statement). old ++ block_text c indent ss) (sym (ap (left_in needed) (groups_suc f n) ∙ left_in_append needed (groups f n) (f n)))

@@ -7,11 +7,11 @@ use Rattle.qp_model.specs.machine.Controller.{Numbers}
 use Rattle.qp_model.specs.machine.Machine.{IsInside, IsAdmissible, averaged_plan}
 use Rattle.qp_model.specs.machine.AbsoluteSums.{IsController}
 use Rattle.qp_model.specs.machine.ValuesMet.{FitsWidth}
-use Rattle.c_program.specs.Syntax.{Variable, Kind, Expression, Statement}
+use Rattle.c_program.specs.Syntax.{Variable, Kind, Expression, Statement, CProgram}
 use Rattle.c_program.specs.Syntax.Kind.{Wide}
 use Rattle.c_program.specs.Syntax.Statement.{Declare, Assign, AtLeastZero, AtMost}
 use Rattle.c_program.specs.Syntax.Expression.{Constant, Value, Plus, Minus, Times, Quotient, Remainder, Shifted}
-use Rattle.c_program.specs.Text.{expression_text, statement_text}
+use Rattle.c_program.specs.Text.{expression_text, statement_text, program_text, IsName}
 use Rattle.c_program.specs.Meaning.{first_outside, outcome_of, IsDefinedRun, averages_of, AreAveraged}
 use Rattle.c_program.specs.Meaning.Outcome.{Refused, Solved}
 use Rattle.c_program.specs.Of.{program_of}
@@ -78,6 +78,36 @@ kind_given kind (AtMost v top) = kind v
 abbrev pub StatementTextLaw : Type 0
 StatementTextLaw =
     (kind other : Variable → Kind) (s t : Statement) → HasShortOperands s → HasShortOperands t → statement_text kind s ≡ statement_text other t → (s ≡ t) × (kind_given kind s ≡ kind_given other t)
+
+-- each number that a program's text shows is
+pub record HasShortText (p : CProgram) : Type 0 where
+  pub states : length p.low < 2 ^ 64
+  pub low : (i : ℕ) → i < length p.low → unsigned_abs (at p.low i) < 2 ^ 64
+  pub high : (i : ℕ) → i < length p.low → unsigned_abs (at p.high i) < 2 ^ 64
+  pub before : All HasShortOperands p.before
+  pub repetitions : p.repetitions < 2 ^ 64
+  pub body : All HasShortOperands p.body
+  pub sums : length p.outputs < 2 ^ 64
+  pub outputs : All (λ v. v.number < 2 ^ 64) p.outputs
+  pub inputs : length p.averages < 2 ^ 64
+  pub averages : All HasShortNumbers p.averages
+
+-- two programs are one, but for the types of variables that no statement of theirs gives a value, and for upper bounds of no state
+pub record AreOneProgram (p q : CProgram) : Type 0 where
+  pub low : p.low ≡ q.low
+  pub high : (i : ℕ) → i < length p.low → at p.high i ≡ at q.high i
+  pub before : p.before ≡ q.before
+  pub types_before : map (kind_given p.kind) p.before ≡ map (kind_given q.kind) q.before
+  pub repetitions : p.repetitions ≡ q.repetitions
+  pub body : p.body ≡ q.body
+  pub types_in_body : map (kind_given p.kind) p.body ≡ map (kind_given q.kind) q.body
+  pub outputs : p.outputs ≡ q.outputs
+  pub averages : p.averages ≡ q.averages
+
+-- two programs never have one text, nor one program under two names
+abbrev pub ProgramTextLaw : Type 0
+ProgramTextLaw =
+    (name other : List ℕ) (p q : CProgram) → IsName name → IsName other → HasShortText p → HasShortText q → program_text name p ≡ program_text other q → (name ≡ other) × AreOneProgram p q
 
 -- of each controller of at most 64 bits
 abbrev pub ProgramLaw : Type 0

@@ -1,5 +1,5 @@
 -- The program of a controller: its numbers as literals, zeros left out, and each variable as narrow as its absolute sum lets it be.
-use Rattle.std.specs.Prelude.{ℕ, zero, suc, ◌+◌, ◌-◌, ◌*◌, ◌^◌, min, Bool, true, ◌&&◌, ◌==◌, nat_lt, if◌then◌else◌, ℤ, pos, ◌+ℤ◌, ◌*ℤ◌, neg_ℤ, List, [], ◌∷◌, ◌++◌, length, map, unsigned_abs, slice_index_or, ◌/◌}
+use Rattle.std.specs.Prelude.{ℕ, zero, suc, ◌+◌, ◌-◌, ◌*◌, ◌^◌, min, Bool, true, false, ◌&&◌, ◌||◌, ◌==◌, nat_lt, if◌then◌else◌, ℤ, pos, ◌+ℤ◌, ◌*ℤ◌, neg_ℤ, List, [], ◌∷◌, ◌++◌, length, map, unsigned_abs, slice_index_or, ◌/◌}
 use Rattle.std.specs.List.{range_with_len}
 use Rattle.std.specs.Int.{w32, trailing_zeros}
 use Rattle.integer_algebra.specs.Sums.{at}
@@ -8,6 +8,7 @@ use Rattle.qp_model.specs.machine.Controller.{Numbers}
 use Rattle.qp_model.specs.machine.Machine.{exponent_of, lowering_of, top_of}
 use Rattle.qp_model.specs.machine.AbsoluteSums.{state_magnitudes, plan_magnitudes, next_magnitude, sum_magnitude}
 use Rattle.c_program.specs.Syntax.{Family, Variable, variable, Kind, Expression, Statement, groups, CProgram}
+use Rattle.c_program.specs.Needed.{needed_part}
 use Rattle.c_program.specs.Syntax.Family.{State, Loaded, EntryBase, RowBase, Multiplier, Difference, Entry, Gradient, Moved, Sum, Output}
 use Rattle.c_program.specs.Syntax.Kind.{Narrow, Wide}
 use Rattle.c_program.specs.Syntax.Expression.{Constant, Value, Plus, Minus, Times, Quotient, Remainder, Shifted}
@@ -180,9 +181,45 @@ average_expression c j =
     let k = trailing_zeros w32 c.steps in
     if c.steps == 2 ^ k then shifted_average sum c.steps k else divided_average sum c.steps
 
+-- ---- what is needed
+unfoldable pub any_below : (ℕ → Bool) → ℕ → Bool
+any_below f zero = false
+any_below f (suc n) = any_below f n || f n
+
+-- it isn't always 0
+abbrev pub is_product : (coefficient : ℤ) (top : ℕ) → Bool
+is_product c top = nat_lt 0 (unsigned_abs c * top)
+
+-- multiplier i reaches a plan entry
+unfoldable pub is_row_needed : Numbers → ℕ → Bool
+is_row_needed c i = any_below (λ j. is_product (at (row_of c.dual_gains j) i) (multiplier_top c i)) (length c.offsets)
+
+-- coordinate k of the state reaches the base of a plan entry, or that of a row that is needed
+unfoldable pub is_coordinate_needed : Numbers → ℕ → Bool
+is_coordinate_needed c k =
+    any_below (λ j. is_product (at (row_of c.state_gains j) k) (state_top c k)) (length c.offsets)
+    || any_below (λ i. is_row_needed c i && is_product (at (row_of c.state_rows i) k) (state_top c k)) (length c.bounds)
+
+abbrev pub needed_of : Numbers → Family → ℕ → Bool
+needed_of c State k = true
+needed_of c Loaded k = is_coordinate_needed c k
+needed_of c EntryBase j = true
+needed_of c RowBase i = is_row_needed c i
+needed_of c Multiplier i = is_row_needed c i
+needed_of c Difference i = is_row_needed c i
+needed_of c Entry j = true
+needed_of c Gradient i = is_row_needed c i
+needed_of c Moved i = is_row_needed c i
+needed_of c Sum j = true
+needed_of c Output j = true
+
+abbrev pub is_needed : Numbers → Variable → Bool
+is_needed c v = needed_of c v.family v.number
+
 -- ---- the whole
-abbrev pub program_of : Numbers → CProgram
-program_of c = record {
+-- with every row and coordinate
+abbrev pub whole_program : Numbers → CProgram
+whole_program c = record {
   low = c.low;
   high = c.high;
   kind = λ v. kind_of c v.family v.number;
@@ -192,3 +229,7 @@ program_of c = record {
   outputs = map (variable Sum) (range_with_len 0 (length c.offsets));
   averages = map (average_expression c) (range_with_len 0 c.inputs);
 }
+
+-- without those that reach no output
+abbrev pub program_of : Numbers → CProgram
+program_of c = needed_part (is_needed c) (whole_program c)

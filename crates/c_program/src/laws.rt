@@ -1,5 +1,5 @@
 // What the program of a controller does.
-ghost use Rattle.c_program.specs.Laws.{ExpressionTextLaw, ProgramLaw, StatementTextLaw};
+ghost use Rattle.c_program.specs.Laws.{ExpressionTextLaw, ProgramLaw, ProgramTextLaw, StatementTextLaw};
 ghost use Rattle.c_program.specs.Worked.{WorkedLines};
 
 /// The program of a controller of at most 64 bits, run from a state of its box, is defined by C throughout and puts out the averaged plan's numerators, and of these the
@@ -16,6 +16,12 @@ pub fn expression_text_law()
 /// Two statements never have one text.
 pub fn statement_text_law()
     ensures { StatementTextLaw }
+{}
+
+/// Two programs never have one text, nor one program under two names: from a text the name, the box, the statements with the types that they are written with, the repetitions,
+/// the outputs and the averages can be told.
+pub fn program_text_law()
+    ensures { ProgramTextLaw }
 {}
 
 /// The lines of a worked program.

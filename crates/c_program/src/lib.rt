@@ -6,6 +6,8 @@ mod ending;
 mod header;
 mod laws;
 mod lines;
+mod measured;
+mod needed;
 mod opposite;
 mod plan;
 mod rows;
@@ -16,5 +18,7 @@ mod words;
 mod writer;
 
 pub use header::write_header;
-pub use laws::{expression_text_law, program_law, statement_text_law, worked_lines};
+pub use laws::{
+    expression_text_law, program_law, program_text_law, statement_text_law, worked_lines,
+};
 pub use writer::write_program;

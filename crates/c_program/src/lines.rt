@@ -1,14 +1,13 @@
 // Single lines.
-ghost use Rattle.std.specs.Prelude.{◌≡◌, ◌<◌, ◌^◌, ◌++◌, [], ◌∷◌, OnOk, codes, string_bytes, unsigned_abs};
+ghost use Rattle.std.specs.Prelude.{◌≡◌, ◌<◌, ◌^◌, ◌++◌, [], ◌∷◌, OnOk, string_bytes, unsigned_abs};
 ghost use Rattle.number_text.specs.Lines.{text_of};
-ghost use Rattle.qp_model.specs.machine.Controller.{numbers};
 ghost use Rattle.c_program.specs.Syntax.Family.{Sum};
 ghost use Rattle.c_program.specs.Of.{kind_of, sum_statements};
 ghost use Rattle.c_program.specs.Text.{kind_text, refusal_text};
-ghost use Rattle.c_program.specs.Terms.{block_text};
+ghost use Rattle.c_program.specs.Measured.{measured_controller, loop_text};
 
+use crate::measured::Measured;
 use crate::words::{constant_word, push_pieces};
-use qp_model::ControllerParts;
 use std::alloc::{AllocError, Global};
 
 // The line that refuses number `i` of the state below `low` and above `high`.
@@ -53,17 +52,11 @@ pub fn push_refusal(
 }
 
 // The line that adds plan entry `j` to its sum, which has this type.
-pub fn push_sum(
-    alloc: Global,
-    text: &mut String,
-    c: &ControllerParts,
-    kind: &str,
-    j: usize,
-) -> Result<(), AllocError>
-    requires { kind.now ≡ kind_text (kind_of (numbers c.now) Sum j) }
-    ensures { OnOk result (string_bytes text.new ≡ string_bytes text.old ++ block_text (numbers c.now) (codes "        ") (sum_statements j)) }
+pub fn push_sum(from: &Measured, text: &mut String, kind: &str, j: usize) -> Result<(), AllocError>
+    requires { kind.now ≡ kind_text (kind_of (measured_controller from.now) Sum j) }
+    ensures { OnOk result (string_bytes text.new ≡ string_bytes text.old ++ loop_text from.now (sum_statements j)) }
 {
-    let number = j.to_string(alloc)?;
+    let number = j.to_string(from.alloc)?;
     push_pieces(
         text,
         &[

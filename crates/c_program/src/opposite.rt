@@ -7,7 +7,9 @@ ghost use Rattle.qp_model.specs.machine.Machine.{exponent_of};
 ghost use Rattle.qp_model.specs.machine.AbsoluteSums.{IsController};
 ghost use Rattle.c_program.specs.Of.{are_negated, are_opposed, first_opposed, partner, is_first, is_second};
 ghost use Rattle.c_program.specs.Terms.{partners_of};
+ghost use Rattle.c_program.specs.Measured.{measured_controller, row_count};
 
+use crate::measured::Measured;
 use mat_int::Mat;
 use qp_model::ControllerParts;
 use std::alloc::{AllocError, Global};
@@ -41,7 +43,7 @@ fn are_at_negated(row: &[i128], k: usize, i: usize) -> bool
 }
 
 // Whether both are so.
-fn both(a: bool, b: bool) -> bool
+pub fn both(a: bool, b: bool) -> bool
     ensures { result ≡ (a && b) }
 {
     a && b
@@ -127,13 +129,11 @@ pub fn partners(alloc: Global, c: &ControllerParts) -> Result<Vec<usize>, AllocE
 }
 
 // That of row `i`.
-pub fn partner_at(c: &ControllerParts, partners: &[usize], i: usize) -> usize
-    requires sound { IsController (numbers c.now) }
-    requires partners { partners.now ≡ partners_of (numbers c.now) }
-    requires in_range { i < length c.now.bound.items }
-    ensures { result ≡ partner (numbers c.now) i }
+pub fn partner_at(from: &Measured, i: usize) -> usize
+    requires in_range { i < row_count from.now }
+    ensures { result ≡ partner (measured_controller from.now) i }
 {
-    partners[i]
+    from.partners[i]
 }
 
 // Whether one number is below another, and two are equal.
@@ -144,30 +144,26 @@ fn is_below(i: usize, k: usize, l: usize) -> bool
 }
 
 // Whether row `i` is the first one of a pair.
-pub fn is_first_at(c: &ControllerParts, partners: &[usize], i: usize) -> bool
-    requires sound { IsController (numbers c.now) }
-    requires partners { partners.now ≡ partners_of (numbers c.now) }
-    requires in_range { i < length c.now.bound.items }
-    ensures { result ≡ is_first (numbers c.now) i }
+pub fn is_first_at(from: &Measured, i: usize) -> bool
+    requires in_range { i < row_count from.now }
+    ensures { result ≡ is_first (measured_controller from.now) i }
 {
-    let k = partner_at(c, partners, i);
-    if k < c.bound.len() {
-        is_below(i, k, partner_at(c, partners, k))
+    let k = partner_at(from, i);
+    if k < from.c.bound.len() {
+        is_below(i, k, partner_at(from, k))
     } else {
         false
     }
 }
 
 // Whether row `i` is the second one of a pair.
-pub fn is_second_at(c: &ControllerParts, partners: &[usize], i: usize) -> bool
-    requires sound { IsController (numbers c.now) }
-    requires partners { partners.now ≡ partners_of (numbers c.now) }
-    requires in_range { i < length c.now.bound.items }
-    ensures { result ≡ is_second (numbers c.now) i }
+pub fn is_second_at(from: &Measured, i: usize) -> bool
+    requires in_range { i < row_count from.now }
+    ensures { result ≡ is_second (measured_controller from.now) i }
 {
-    let k = partner_at(c, partners, i);
+    let k = partner_at(from, i);
     if k < i {
-        partner_at(c, partners, k) == i
+        partner_at(from, k) == i
     } else {
         false
     }

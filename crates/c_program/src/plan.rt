@@ -1,16 +1,19 @@
 // The plan of a step: the differences of pairs, the entries and their sums.
-ghost use Rattle.std.specs.Prelude.{◌≡◌, ◌<◌, ◌≤◌, ◌+◌, ◌^◌, ◌++◌, true, min, pos, ◌*ℤ◌, length, OnOk, codes, string_bytes, decimal};
+ghost use Rattle.std.specs.Prelude.{◌≡◌, ◌<◌, ◌≤◌, ◌+◌, ◌^◌, ◌++◌, true, min, pos, ◌*ℤ◌, OnOk, string_bytes, decimal};
 ghost use Rattle.qp_model.specs.machine.Controller.{numbers};
 ghost use Rattle.qp_model.specs.machine.Machine.{lowering_of};
-ghost use Rattle.qp_model.specs.machine.AbsoluteSums.{IsController, plan_magnitudes};
+ghost use Rattle.qp_model.specs.machine.AbsoluteSums.{IsController};
 ghost use Rattle.c_program.specs.Syntax.{variable, groups};
 ghost use Rattle.c_program.specs.Syntax.Family.{Multiplier};
 ghost use Rattle.c_program.specs.Syntax.Expression.{Value, Minus};
-ghost use Rattle.c_program.specs.Of.{multiplier_top, is_first, gain_of, gain_variable, difference_statements, entry_expression, entry_statements, sum_statements};
+ghost use Rattle.c_program.specs.Of.{is_row_needed, multiplier_top, is_first, gain_of, gain_variable, difference_statements, entry_expression, entry_statements, sum_statements};
 ghost use Rattle.c_program.specs.Text.{variable_text, expression_text};
-ghost use Rattle.c_program.specs.Terms.{partners_of, product_text, products_text, block_text};
+ghost use Rattle.c_program.specs.Terms.{product_text, products_text};
+ghost use Rattle.c_program.specs.Measured.{measured_controller, row_count, entry_count, loop_text, needed_statements, where_needed};
 
 use crate::lines::push_sum;
+use crate::measured::Measured;
+use crate::needed::is_row_needed_at;
 use crate::opposite::{is_first_at, is_second_at, partner_at};
 use crate::tops::{lowering_at, multiplier_top, sum_top};
 use crate::words::{kind_word, push_declared, push_end, push_number, push_scaled, push_value};
@@ -34,142 +37,115 @@ fn push_difference_value(
 }
 
 // The line of that of row `i`.
-fn push_difference(
-    alloc: Global,
-    text: &mut String,
-    c: &ControllerParts,
-    partners: &[usize],
-    i: usize,
-) -> Result<(), AllocError>
-    requires sound { IsController (numbers c.now) }
-    requires partners { partners.now ≡ partners_of (numbers c.now) }
-    requires in_range { i < length c.now.bound.items }
-    requires first { is_first (numbers c.now) i ≡ true }
+fn push_difference(from: &Measured, text: &mut String, i: usize) -> Result<(), AllocError>
+    requires in_range { i < row_count from.now }
+    requires first { is_first (measured_controller from.now) i ≡ true }
     ensures { OnOk result (string_bytes text.new ≡ string_bytes text.old ++
-        block_text (numbers c.now) (codes "        ") (difference_statements (numbers c.now) i)) }
+        loop_text from.now (difference_statements (measured_controller from.now) i)) }
 {
     push_declared(
-        alloc,
+        from.alloc,
         text,
         "        ",
-        kind_word(multiplier_top(c, i)),
+        kind_word(multiplier_top(from.c, i)),
         "d",
         i,
     )?;
-    push_difference_value(alloc, text, i, partner_at(c, partners, i))?;
+    push_difference_value(from.alloc, text, i, partner_at(from, i))?;
     push_end(text)?;
     Ok(())
 }
 
 // The same where row `i` is the first one of a pair.
-fn push_difference_where(
-    alloc: Global,
-    text: &mut String,
-    c: &ControllerParts,
-    partners: &[usize],
-    i: usize,
-) -> Result<(), AllocError>
-    requires sound { IsController (numbers c.now) }
-    requires partners { partners.now ≡ partners_of (numbers c.now) }
-    requires in_range { i < length c.now.bound.items }
+fn push_difference_where(from: &Measured, text: &mut String, i: usize) -> Result<(), AllocError>
+    requires in_range { i < row_count from.now }
     ensures { OnOk result (string_bytes text.new ≡ string_bytes text.old ++
-        block_text (numbers c.now) (codes "        ") (difference_statements (numbers c.now) i)) }
+        loop_text from.now (difference_statements (measured_controller from.now) i)) }
 {
-    if is_first_at(c, partners, i) {
-        push_difference(alloc, text, c, partners, i)
+    if is_first_at(from, i) {
+        push_difference(from, text, i)
+    } else {
+        Ok(())
+    }
+}
+
+// The same where the row is needed.
+fn push_needed_difference(from: &Measured, text: &mut String, i: usize) -> Result<(), AllocError>
+    requires in_range { i < row_count from.now }
+    ensures { OnOk result (string_bytes text.new ≡ string_bytes text.old ++
+        where_needed (is_row_needed (measured_controller from.now) i) (loop_text from.now (difference_statements (measured_controller from.now) i))) }
+{
+    if is_row_needed_at(from.c, i) {
+        push_difference_where(from, text, i)
     } else {
         Ok(())
     }
 }
 
 // The lines of the differences.
-pub fn push_differences(
-    alloc: Global,
-    text: &mut String,
-    c: &ControllerParts,
-    partners: &[usize],
-) -> Result<(), AllocError>
-    requires sound { IsController (numbers c.now) }
-    requires partners { partners.now ≡ partners_of (numbers c.now) }
+pub fn push_differences(from: &Measured, text: &mut String) -> Result<(), AllocError>
     ensures { OnOk result (string_bytes text.new ≡ string_bytes text.old ++
-        block_text (numbers c.now) (codes "        ") (groups (difference_statements (numbers c.now)) (length c.now.bound.items))) }
+        loop_text from.now (needed_statements from.now (groups (difference_statements (measured_controller from.now)) (row_count from.now)))) }
 {
-    for i in 0..c.bound.len() {
-        push_difference_where(alloc, text, c, partners, i)?;
+    for i in 0..from.c.bound.len() {
+        push_needed_difference(from, text, i)?;
     }
     Ok(())
 }
 
 // The gain of plan entry `j` on the multiplier of row `i`, 0 on the second one of a pair.
-fn gain_base(c: &ControllerParts, partners: &[usize], j: usize, i: usize) -> i128
-    requires sound { IsController (numbers c.now) }
-    requires partners { partners.now ≡ partners_of (numbers c.now) }
-    requires entry { j < length c.now.t.items }
-    requires row { i < length c.now.bound.items }
-    ensures { result *ℤ pos (2 ^ lowering_of (numbers c.now) i) ≡ gain_of (numbers c.now) j i }
+fn gain_base(from: &Measured, j: usize, i: usize) -> i128
+    requires entry { j < entry_count from.now }
+    requires row { i < row_count from.now }
+    ensures { result *ℤ pos (2 ^ lowering_of (measured_controller from.now) i) ≡ gain_of (measured_controller from.now) j i }
 {
-    if is_second_at(c, partners, i) {
+    if is_second_at(from, i) {
         0
     } else {
-        let row = c.w_mat.row(j);
+        let row = from.c.w_mat.row(j);
         row[i]
     }
 }
 
 // The family of what it is multiplied with.
-fn gain_family(c: &ControllerParts, partners: &[usize], i: usize) -> &'static str
-    requires sound { IsController (numbers c.now) }
-    requires partners { partners.now ≡ partners_of (numbers c.now) }
-    requires in_range { i < length c.now.bound.items }
-    ensures { result.now ++ decimal i ≡ variable_text (gain_variable (numbers c.now) i) }
+fn gain_family(from: &Measured, i: usize) -> &'static str
+    requires in_range { i < row_count from.now }
+    ensures { result.now ++ decimal i ≡ variable_text (gain_variable (measured_controller from.now) i) }
 {
-    if is_first_at(c, partners, i) {
-        "d"
-    } else {
-        "l"
-    }
+    if is_first_at(from, i) { "d" } else { "l" }
 }
 
 // That product.
-fn push_gain(
-    alloc: Global,
-    text: &mut String,
-    c: &ControllerParts,
-    partners: &[usize],
-    j: usize,
-    i: usize,
-) -> Result<(), AllocError>
-    requires sound { IsController (numbers c.now) }
-    requires partners { partners.now ≡ partners_of (numbers c.now) }
-    requires entry { j < length c.now.t.items }
-    requires row { i < length c.now.bound.items }
+fn push_gain(from: &Measured, text: &mut String, j: usize, i: usize) -> Result<(), AllocError>
+    requires entry { j < entry_count from.now }
+    requires row { i < row_count from.now }
     ensures { OnOk result (string_bytes text.new ≡ string_bytes text.old ++
-        product_text (gain_of (numbers c.now) j i) (multiplier_top (numbers c.now) i) (variable_text (gain_variable (numbers c.now) i))) }
+        product_text (gain_of (measured_controller from.now) j i) (multiplier_top (measured_controller from.now) i) (variable_text (gain_variable (measured_controller from.now) i))) }
 {
-    let gain = gain_base(c, partners, j, i);
-    let top = multiplier_top(c, i);
-    let family = gain_family(c, partners, i);
-    push_scaled(alloc, text, gain, lowering_at(c, i), top, family, i)?;
+    let gain = gain_base(from, j, i);
+    let top = multiplier_top(from.c, i);
+    let family = gain_family(from, i);
+    push_scaled(
+        from.alloc,
+        text,
+        gain,
+        lowering_at(from.c, i),
+        top,
+        family,
+        i,
+    )?;
     Ok(())
 }
 
 // All of plan entry `j`.
-fn push_gains(
-    alloc: Global,
-    text: &mut String,
-    c: &ControllerParts,
-    partners: &[usize],
-    j: usize,
-) -> Result<(), AllocError>
-    requires sound { IsController (numbers c.now) }
-    requires partners { partners.now ≡ partners_of (numbers c.now) }
-    requires entry { j < length c.now.t.items }
+fn push_gains(from: &Measured, text: &mut String, j: usize) -> Result<(), AllocError>
+    requires entry { j < entry_count from.now }
     ensures { OnOk result (string_bytes text.new ≡ string_bytes text.old ++
-        products_text (gain_of (numbers c.now) j) (multiplier_top (numbers c.now)) (λ i. variable_text (gain_variable (numbers c.now) i))
-        (length c.now.bound.items)) }
+        products_text (gain_of (measured_controller from.now) j) (multiplier_top (measured_controller from.now)) (λ i. variable_text (gain_variable (measured_controller from.now) i))
+        (row_count from.now)) }
 {
-    for i in 0..c.bound.len() {
-        push_gain(alloc, text, c, partners, j, i)?;
+    for i in 0..from.c.bound.len() {
+        push_gain(from, text, j, i)?;
     }
     Ok(())
 }
@@ -184,100 +160,63 @@ fn entry_shift(c: &ControllerParts) -> u32
 }
 
 // Plan entry `j`.
-fn push_entry_value(
-    alloc: Global,
-    text: &mut String,
-    c: &ControllerParts,
-    partners: &[usize],
-    j: usize,
-) -> Result<(), AllocError>
-    requires sound { IsController (numbers c.now) }
-    requires partners { partners.now ≡ partners_of (numbers c.now) }
-    requires entry { j < length c.now.t.items }
-    ensures { OnOk result (string_bytes text.new ≡ string_bytes text.old ++ expression_text (entry_expression (numbers c.now) j)) }
+fn push_entry_value(from: &Measured, text: &mut String, j: usize) -> Result<(), AllocError>
+    requires entry { j < entry_count from.now }
+    ensures { OnOk result (string_bytes text.new ≡ string_bytes text.old ++ expression_text (entry_expression (measured_controller from.now) j)) }
 {
     text.push_str("INT64_C(0) - ((")?;
-    push_value(alloc, text, "a", j)?;
-    push_gains(alloc, text, c, partners, j)?;
+    push_value(from.alloc, text, "a", j)?;
+    push_gains(from, text, j)?;
     text.push_str(") >> ")?;
-    push_number(alloc, text, entry_shift(c) as i128)?;
+    push_number(from.alloc, text, entry_shift(from.c) as i128)?;
     text.push_str(")")?;
     Ok(())
 }
 
 // The line of plan entry `j`.
-fn push_entry(
-    alloc: Global,
-    text: &mut String,
-    c: &ControllerParts,
-    plan: &[u128],
-    partners: &[usize],
-    j: usize,
-) -> Result<(), AllocError>
-    requires sound { IsController (numbers c.now) }
-    requires plan { plan.now ≡ plan_magnitudes (numbers c.now) }
-    requires partners { partners.now ≡ partners_of (numbers c.now) }
-    requires in_range { j < length c.now.t.items }
-    ensures { OnOk result (string_bytes text.new ≡ string_bytes text.old ++
-        block_text (numbers c.now) (codes "        ") (entry_statements (numbers c.now) j)) }
+fn push_entry(from: &Measured, text: &mut String, j: usize) -> Result<(), AllocError>
+    requires in_range { j < entry_count from.now }
+    ensures { OnOk result (string_bytes text.new ≡ string_bytes text.old ++ loop_text from.now (entry_statements (measured_controller from.now) j)) }
 {
-    push_declared(alloc, text, "        ", kind_word(plan[j]), "u", j)?;
-    push_entry_value(alloc, text, c, partners, j)?;
+    push_declared(
+        from.alloc,
+        text,
+        "        ",
+        kind_word(from.plan[j]),
+        "u",
+        j,
+    )?;
+    push_entry_value(from, text, j)?;
     push_end(text)?;
     Ok(())
 }
 
 // The lines of the plan entries.
-pub fn push_entries(
-    alloc: Global,
-    text: &mut String,
-    c: &ControllerParts,
-    plan: &[u128],
-    partners: &[usize],
-) -> Result<(), AllocError>
-    requires sound { IsController (numbers c.now) }
-    requires plan { plan.now ≡ plan_magnitudes (numbers c.now) }
-    requires partners { partners.now ≡ partners_of (numbers c.now) }
+pub fn push_entries(from: &Measured, text: &mut String) -> Result<(), AllocError>
     ensures { OnOk result (string_bytes text.new ≡ string_bytes text.old ++
-        block_text (numbers c.now) (codes "        ") (groups (entry_statements (numbers c.now)) (length c.now.t.items))) }
+        loop_text from.now (groups (entry_statements (measured_controller from.now)) (entry_count from.now))) }
 {
-    for j in 0..c.t.len() {
-        push_entry(alloc, text, c, plan, partners, j)?;
+    for j in 0..from.c.t.len() {
+        push_entry(from, text, j)?;
     }
     Ok(())
 }
 
 // The line that adds plan entry `j` to its sum.
-fn push_one_sum(
-    alloc: Global,
-    text: &mut String,
-    c: &ControllerParts,
-    plan: &[u128],
-    j: usize,
-) -> Result<(), AllocError>
-    requires sound { IsController (numbers c.now) }
-    requires plan { plan.now ≡ plan_magnitudes (numbers c.now) }
-    requires in_range { j < length c.now.t.items }
-    ensures { OnOk result (string_bytes text.new ≡ string_bytes text.old ++ block_text (numbers c.now) (codes "        ") (sum_statements j)) }
+fn push_one_sum(from: &Measured, text: &mut String, j: usize) -> Result<(), AllocError>
+    requires in_range { j < entry_count from.now }
+    ensures { OnOk result (string_bytes text.new ≡ string_bytes text.old ++ loop_text from.now (sum_statements j)) }
 {
-    push_sum(alloc, text, c, kind_word(sum_top(c, plan, j)), j)?;
+    push_sum(from, text, kind_word(sum_top(from, j)), j)?;
     Ok(())
 }
 
 // The lines that add the plan to its sums.
-pub fn push_sums(
-    alloc: Global,
-    text: &mut String,
-    c: &ControllerParts,
-    plan: &[u128],
-) -> Result<(), AllocError>
-    requires sound { IsController (numbers c.now) }
-    requires plan { plan.now ≡ plan_magnitudes (numbers c.now) }
-    ensures { OnOk result (string_bytes text.new ≡ string_bytes text.old ++
-        block_text (numbers c.now) (codes "        ") (groups sum_statements (length c.now.t.items))) }
+pub fn push_sums(from: &Measured, text: &mut String) -> Result<(), AllocError>
+    ensures { OnOk result (string_bytes text.new ≡ string_bytes text.old ++ loop_text from.now (groups sum_statements (entry_count from.now))) }
 {
-    for j in 0..c.t.len() {
-        push_one_sum(alloc, text, c, plan, j)?;
+    for j in 0..from.c.t.len() {
+        push_one_sum(from, text, j)?;
     }
     Ok(())
 }

@@ -5,7 +5,9 @@ ghost use Rattle.qp_model.specs.machine.Controller.{numbers};
 ghost use Rattle.qp_model.specs.machine.Machine.{lowering_of, top_of};
 ghost use Rattle.qp_model.specs.machine.AbsoluteSums.{IsController, state_magnitudes, plan_magnitudes, sum_magnitude};
 ghost use Rattle.c_program.specs.Of.{multiplier_top};
+ghost use Rattle.c_program.specs.Measured.{measured_controller, entry_count};
 
+use crate::measured::Measured;
 use frac_scaled::{floor_shift, scaled};
 use overflow_check::{plan_entry_magnitude, state_magnitude};
 use qp_model::ControllerParts;
@@ -65,13 +67,11 @@ pub fn state_tops(alloc: Global, c: &ControllerParts) -> Result<Vec<u128>, Alloc
 }
 
 // Of the sum of plan entry `j`.
-pub fn sum_top(c: &ControllerParts, plan: &[u128], j: usize) -> u128
-    requires sound { IsController (numbers c.now) }
-    requires plan { plan.now ≡ plan_magnitudes (numbers c.now) }
-    requires in_range { j < length c.now.t.items }
-    ensures { result ≡ sum_magnitude (numbers c.now) j }
+pub fn sum_top(from: &Measured, j: usize) -> u128
+    requires in_range { j < entry_count from.now }
+    ensures { result ≡ sum_magnitude (measured_controller from.now) j }
 {
-    u128::from(c.steps) * plan[j]
+    u128::from(from.c.steps) * from.plan[j]
 }
 
 // The offset of plan entry `j`, over `2^(2f + s)`.

@@ -2,14 +2,15 @@
 ghost use Rattle.std.specs.Prelude.{◌≡◌, ◌<◌, ◌≤◌, ◌++◌, [], ◌∷◌, length, OnOk, IfOk, codes, string_bytes};
 ghost use Rattle.number_text.specs.Lines.{text_of};
 ghost use Rattle.qp_model.specs.machine.Controller.{numbers};
-ghost use Rattle.qp_model.specs.machine.AbsoluteSums.{IsController, state_magnitudes, plan_magnitudes};
 ghost use Rattle.c_program.specs.Of.{before_of, repetition_body, program_of};
 ghost use Rattle.c_program.specs.Text.{shift_line, head_text, refusal_line, numbered_lines, program_text};
-ghost use Rattle.c_program.specs.Terms.{partners_of, block_text, opening_lines, repetition_line};
+ghost use Rattle.c_program.specs.Terms.{opening_lines, repetition_line};
+ghost use Rattle.c_program.specs.Measured.{measured_controller, start_text, loop_text, needed_statements};
 
 use crate::averages::push_second;
 use crate::ending::push_outputs;
 use crate::lines::push_refusal;
+use crate::measured::Measured;
 use crate::opposite::partners;
 use crate::plan::{push_differences, push_entries, push_sums};
 use crate::rows::push_rows;
@@ -23,70 +24,45 @@ use qp_model::ControllerParts;
 use std::alloc::{AllocError, Global};
 
 // The line that refuses number `i` of a state.
-fn push_refusal_of(
-    alloc: Global,
-    text: &mut String,
-    c: &ControllerParts,
-    i: usize,
-) -> Result<(), AllocError>
-    requires sound { IsController (numbers c.now) }
-    requires in_range { i < length c.now.lo.items }
-    ensures { OnOk result (string_bytes text.new ≡ string_bytes text.old ++ text_of (refusal_line (program_of (numbers c.now)) i ∷ [])) }
+fn push_refusal_of(from: &Measured, text: &mut String, i: usize) -> Result<(), AllocError>
+    requires in_range { i < length from.now.c.now.lo.items }
+    ensures { OnOk result (string_bytes text.new ≡ string_bytes text.old ++ text_of (refusal_line (program_of (measured_controller from.now)) i ∷ [])) }
 {
-    push_refusal(alloc, text, c.lo[i], c.hi[i], i)?;
+    push_refusal(from.alloc, text, from.c.lo[i], from.c.hi[i], i)?;
     Ok(())
 }
 
 // The lines that refuse a state.
-fn push_refusals(alloc: Global, text: &mut String, c: &ControllerParts) -> Result<(), AllocError>
-    requires sound { IsController (numbers c.now) }
+fn push_refusals(from: &Measured, text: &mut String) -> Result<(), AllocError>
     ensures { OnOk result (string_bytes text.new ≡ string_bytes text.old ++
-        text_of (numbered_lines (refusal_line (program_of (numbers c.now))) (length c.now.lo.items))) }
+        text_of (numbered_lines (refusal_line (program_of (measured_controller from.now))) (length from.now.c.now.lo.items))) }
 {
-    for i in 0..c.lo.len() {
-        push_refusal_of(alloc, text, c, i)?;
+    for i in 0..from.c.lo.len() {
+        push_refusal_of(from, text, i)?;
     }
     Ok(())
 }
 
 // The lines before the loop.
-fn push_before(
-    alloc: Global,
-    text: &mut String,
-    c: &ControllerParts,
-    states: &[u128],
-    plan: &[u128],
-) -> Result<(), AllocError>
-    requires sound { IsController (numbers c.now) }
-    requires states { states.now ≡ state_magnitudes (numbers c.now) }
-    requires plan { plan.now ≡ plan_magnitudes (numbers c.now) }
-    ensures { OnOk result (string_bytes text.new ≡ string_bytes text.old ++ block_text (numbers c.now) (codes "    ") (before_of (numbers c.now))) }
+fn push_before(from: &Measured, text: &mut String) -> Result<(), AllocError>
+    ensures { OnOk result (string_bytes text.new ≡ string_bytes text.old ++ start_text from.now (needed_statements from.now (before_of (measured_controller from.now)))) }
 {
-    push_loads(alloc, text, c, states)?;
-    push_entry_bases(alloc, text, c, states)?;
-    push_row_bases(alloc, text, c, states)?;
-    push_multipliers(alloc, text, c)?;
-    push_start_sums(alloc, text, c, plan)?;
+    push_loads(from, text)?;
+    push_entry_bases(from, text)?;
+    push_row_bases(from, text)?;
+    push_multipliers(from, text)?;
+    push_start_sums(from, text)?;
     Ok(())
 }
 
 // The lines of the loop.
-fn push_body(
-    alloc: Global,
-    text: &mut String,
-    c: &ControllerParts,
-    plan: &[u128],
-    partners: &[usize],
-) -> Result<(), AllocError>
-    requires sound { IsController (numbers c.now) }
-    requires plan { plan.now ≡ plan_magnitudes (numbers c.now) }
-    requires partners { partners.now ≡ partners_of (numbers c.now) }
-    ensures { OnOk result (string_bytes text.new ≡ string_bytes text.old ++ block_text (numbers c.now) (codes "        ") (repetition_body (numbers c.now))) }
+fn push_body(from: &Measured, text: &mut String) -> Result<(), AllocError>
+    ensures { OnOk result (string_bytes text.new ≡ string_bytes text.old ++ loop_text from.now (needed_statements from.now (repetition_body (measured_controller from.now)))) }
 {
-    push_differences(alloc, text, c, partners)?;
-    push_entries(alloc, text, c, plan, partners)?;
-    push_sums(alloc, text, c, plan)?;
-    push_rows(alloc, text, c, plan, partners)?;
+    push_differences(from, text)?;
+    push_entries(from, text)?;
+    push_sums(from, text)?;
+    push_rows(from, text)?;
     Ok(())
 }
 
@@ -172,30 +148,18 @@ fn push_loop(alloc: Global, text: &mut String, c: &ControllerParts) -> Result<()
 }
 
 // The whole text.
-fn push_program(
-    alloc: Global,
-    text: &mut String,
-    c: &ControllerParts,
-    states: &[u128],
-    plan: &[u128],
-    partners: &[usize],
-    name: &str,
-) -> Result<(), AllocError>
-    requires sound { IsController (numbers c.now) }
-    requires states { states.now ≡ state_magnitudes (numbers c.now) }
-    requires plan { plan.now ≡ plan_magnitudes (numbers c.now) }
-    requires partners { partners.now ≡ partners_of (numbers c.now) }
-    ensures { OnOk result (string_bytes text.new ≡ string_bytes text.old ++ program_text name.now (program_of (numbers c.now))) }
+fn push_program(from: &Measured, text: &mut String, name: &str) -> Result<(), AllocError>
+    ensures { OnOk result (string_bytes text.new ≡ string_bytes text.old ++ program_text name.now (program_of (measured_controller from.now))) }
 {
-    push_opening(alloc, text, c, name)?;
-    push_refusals(alloc, text, c)?;
-    push_before(alloc, text, c, states, plan)?;
-    push_loop(alloc, text, c)?;
-    push_body(alloc, text, c, plan, partners)?;
+    push_opening(from.alloc, text, from.c, name)?;
+    push_refusals(from, text)?;
+    push_before(from, text)?;
+    push_loop(from.alloc, text, from.c)?;
+    push_body(from, text)?;
     text.push_str("    }\n")?;
-    push_outputs(alloc, text, c.t.len())?;
+    push_outputs(from.alloc, text, from.c.t.len())?;
     text.push_str("    return 0;\n}\n\n")?;
-    push_second(alloc, text, c, name)?;
+    push_second(from.alloc, text, from.c, name)?;
     Ok(())
 }
 
@@ -208,7 +172,14 @@ pub fn write_program(alloc: Global, c: &Controller, name: &str) -> Result<String
     let states = state_tops(alloc, parts)?;
     let plan = plan_tops(alloc, parts)?;
     let partners = partners(alloc, parts)?;
+    let from = Measured {
+        alloc,
+        c: parts,
+        states: &states,
+        plan: &plan,
+        partners: &partners,
+    };
     let mut text = String::new(alloc);
-    push_program(alloc, &mut text, parts, &states, &plan, &partners, name)?;
+    push_program(&from, &mut text, name)?;
     Ok(text)
 }

@@ -12,7 +12,7 @@ use Rattle.c_program.proofs.plan.push_difference.Goals as goal
 
 pub returns : goal.returns
 returns c =
-    let n = numbers c.args.c.now in
+    let n = numbers c.args.from.now.c.now in
     let difference = λ (k : ℕ). Minus (Value (variable Multiplier c.args.i)) (Value (variable Multiplier k)) in
     let value = difference (partner n c.args.i) in
     declared_line n (variable Difference c.args.i) value (codes "        ") c.kind_word.result.now (string_bytes c.args.text.now) (string_bytes c.push_declared.new.text)

@@ -6,10 +6,10 @@ use Rattle.c_program.proofs.plan.push_entries.Goals as goal
 
 pub loop-j-init : goal.loop-j-init
 loop-j-init c =
-    let n = numbers c.args.c.now in
+    let n = numbers c.args.from.now.c.now in
     block_none n (codes "        ") (entry_statements n) (string_bytes c.args.text.now)
 
 pub loop-j-preserved : goal.loop-j-preserved
 loop-j-preserved c =
-    let n = numbers c.args.c.now in
+    let n = numbers c.args.from.now.c.now in
     block_more n (codes "        ") (entry_statements n) c.loop-j.j (string_bytes c.args.text.now) (string_bytes c.loop-j.text) (string_bytes c.push_entry.new.text) c.loop-j.invariant c.in_ok-push_entry.ensures

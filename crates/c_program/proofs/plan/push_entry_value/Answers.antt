@@ -14,7 +14,7 @@ use Rattle.c_program.proofs.plan.push_entry_value.Goals as goal
 
 pub returns : goal.returns
 returns c =
-    let n = numbers c.args.c.now in
+    let n = numbers c.args.from.now.c.now in
     let v = codes "(int64_t)" ++ (codes "a" ++ decimal c.args.j) in
     let g = products_text (gain_of n c.args.j) (multiplier_top n) (λ i. variable_text (gain_variable n i)) (length n.bounds) in
     let k = min (n.fraction_bits + n.step_exponent) 63 in

@@ -9,13 +9,13 @@ use Rattle.c_program.proofs.plan.push_gain.Goals as goal
 
 pub push_scaled-requires-clause-room : goal.push_scaled-requires-clause-room
 push_scaled-requires-clause-room c =
-    let n = numbers c.args.c.now in
+    let n = numbers c.args.from.now.c.now in
     let f : FitsSigned w128 c.gain_base-gain.result = search rules in
-    rw (to_z-of_z w128 _ f, c.lowering_at.ensures.value, c.gain_base-gain.ensures, c.multiplier_top-top.ensures) (gain_room n c.args.j c.args.i c.requires.sound c.requires.entry c.requires.row)
+    rw (to_z-of_z w128 _ f, c.lowering_at.ensures.value, c.gain_base-gain.ensures, c.multiplier_top-top.ensures) (gain_room n c.args.j c.args.i c.args.from.now.sound c.requires.entry c.requires.row)
 
 pub returns : goal.returns
 returns c =
-    let n = numbers c.args.c.now in
+    let n = numbers c.args.from.now.c.now in
     let f : FitsSigned w128 c.gain_base-gain.result = search rules in
     let e : to_z w128 (of_z w128 c.gain_base-gain.result) *ℤ pos (2 ^ c.lowering_at.result) ≡ gain_of n c.args.j c.args.i =
     rw (to_z-of_z w128 _ f, c.lowering_at.ensures.value) c.gain_base-gain.ensures in

@@ -8,4 +8,4 @@ use Rattle.c_program.proofs.plan.push_gains.Given as goal
 abbrev pub invariant-loop-i : goal.invariant-loop-i
 invariant-loop-i l =
     string_bytes l.text ≡ string_bytes l.fn.text ++
-    products_text (gain_of (numbers l.c) l.j) (multiplier_top (numbers l.c)) (λ i. variable_text (gain_variable (numbers l.c) i)) l.i
+    products_text (gain_of (numbers l.from.c.now) l.j) (multiplier_top (numbers l.from.c.now)) (λ i. variable_text (gain_variable (numbers l.from.c.now) i)) l.i

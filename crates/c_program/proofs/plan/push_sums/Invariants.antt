@@ -6,4 +6,4 @@ use Rattle.c_program.specs.Terms.{block_text}
 use Rattle.c_program.proofs.plan.push_sums.Given as goal
 
 abbrev pub invariant-loop-j : goal.invariant-loop-j
-invariant-loop-j l = string_bytes l.text ≡ string_bytes l.fn.text ++ block_text (numbers l.c) (codes "        ") (groups (sum_statements) l.j)
+invariant-loop-j l = string_bytes l.text ≡ string_bytes l.fn.text ++ block_text (numbers l.from.c.now) (codes "        ") (groups (sum_statements) l.j)

@@ -10,20 +10,20 @@ use Rattle.c_program.proofs.rows.push_alone_rest.Goals as goal
 
 pub push_row-requires-clause-long : goal.push_row-requires-clause-long
 push_row-requires-clause-long c =
-    let n = numbers c.args.c.now in
-    rw c.requires.plan (omega (arith, c.row.ensures.len, c.requires.sound.form.sized.shaped.plan_rows.cols, c.requires.sound.form.sized.shaped.offsets, length-plan_reach n))
+    let n = numbers c.args.from.now.c.now in
+    rw c.args.from.now.plan_tops (omega (arith, c.row.ensures.len, c.args.from.now.sound.form.sized.shaped.plan_rows.cols, c.args.from.now.sound.form.sized.shaped.offsets, length-plan_reach n))
 
 pub push_row-requires-clause-room : goal.push_row-requires-clause-room
 push_row-requires-clause-room c =
-    let n = numbers c.args.c.now in
-    let long : length c.row.result.now ≡ length c.args.plan.now =
-    rw c.requires.plan (omega (arith, c.row.ensures.len, c.requires.sound.form.sized.shaped.plan_rows.cols, c.requires.sound.form.sized.shaped.offsets, length-plan_reach n)) in
-    products_fit c.row.result.now c.args.plan.now long (rw (c.row.ensures.value, c.requires.plan) ((row_room n c.args.i c.requires.sound c.requires.in_range).1))
+    let n = numbers c.args.from.now.c.now in
+    let long : length c.row.result.now ≡ length c.args.from.now.plan.now =
+    rw c.args.from.now.plan_tops (omega (arith, c.row.ensures.len, c.args.from.now.sound.form.sized.shaped.plan_rows.cols, c.args.from.now.sound.form.sized.shaped.offsets, length-plan_reach n)) in
+    products_fit c.row.result.now c.args.from.now.plan.now long (rw (c.row.ensures.value, c.args.from.now.plan_tops) ((row_room n c.args.i c.args.from.now.sound c.requires.in_range).1))
 
 pub returns : goal.returns
 returns c =
-    let n = numbers c.args.c.now in
+    let n = numbers c.args.from.now.c.now in
     c.in_ok-push_row.ensures ∙ ap (λ (t : List ℕ). string_bytes c.args.text.now ++ t)
-    (row_same _ (row_of n.plan_rows c.args.i) _ (plan_magnitudes n) (λ k. codes "u" ++ decimal k) (length n.offsets) c.row.ensures.value c.requires.plan
-    (omega (arith, c.row.ensures.len, c.requires.sound.form.sized.shaped.plan_rows.cols, c.requires.sound.form.sized.shaped.offsets)) ∙
+    (row_same _ (row_of n.plan_rows c.args.i) _ (plan_magnitudes n) (λ k. codes "u" ++ decimal k) (length n.offsets) c.row.ensures.value c.args.from.now.plan_tops
+    (omega (arith, c.row.ensures.len, c.args.from.now.sound.form.sized.shaped.plan_rows.cols, c.args.from.now.sound.form.sized.shaped.offsets)) ∙
     sym (cond-false _ _ _ c.requires.alone ∙ cond-false _ _ _ c.requires.other))

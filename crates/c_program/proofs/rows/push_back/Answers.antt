@@ -7,7 +7,7 @@ use Rattle.c_program.proofs.rows.push_back.Goals as goal
 
 pub returns : goal.returns
 returns c =
-    let n = numbers c.args.c.now in
+    let n = numbers c.args.from.now.c.now in
     let k : c.kind_word-kind.result.now ≡ kind_text (kind_for (multiplier_top n c.args.i)) = c.kind_word-kind.ensures ∙ ap (λ (top : ℕ). kind_text (kind_for top)) c.multiplier_top.ensures in
     let a : c.as_str.result.now ≡ decimal c.args.i = search rules in
     let b : c.as_str-2.result.now ≡ decimal c.args.i = search rules in

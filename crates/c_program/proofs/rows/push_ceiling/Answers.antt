@@ -9,7 +9,7 @@ use Rattle.c_program.proofs.rows.push_ceiling.Goals as goal
 
 pub returns : goal.returns
 returns c =
-    let n = numbers c.args.c.now in
+    let n = numbers c.args.from.now.c.now in
     let f : FitsSigned w128 c.top_at.result = search rules in
     let top = c.in_ok-top.ensures ∙ ap constant_text (to_z-of_z w128 _ f ∙ c.top_at.ensures.value) in
     let a : c.as_str.result.now ≡ decimal c.args.i = search rules in

@@ -18,7 +18,7 @@ push_ceiling-requires-clause-kind c = c.kind_word-kind.ensures ∙ ap (λ (top :
 
 pub returns : goal.returns
 returns c =
-    let n = numbers c.args.c.now in
+    let n = numbers c.args.from.now.c.now in
     let i = c.args.i in
     let old = string_bytes c.args.text.now in
     let one = Declare (variable Moved i) (moved_expression n i) in

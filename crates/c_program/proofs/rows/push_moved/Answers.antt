@@ -8,6 +8,6 @@ use Rattle.c_program.proofs.rows.push_moved.Goals as goal
 
 pub returns : goal.returns
 returns c =
-    let n = numbers c.args.c.now in
+    let n = numbers c.args.from.now.c.now in
     declared_line n (variable Moved c.args.i) (moved_expression n c.args.i) (codes "        ") c.args.kind.now (string_bytes c.args.text.now) (string_bytes c.push_declared.new.text)
     (string_bytes c.push_moved_value.new.text) (string_bytes c.push_end.new.text) c.requires.kind c.in_ok-push_declared.ensures c.in_ok-push_moved_value.ensures c.in_ok-push_end.ensures

@@ -10,8 +10,8 @@ use Rattle.c_program.proofs.rows.push_moved_value.Goals as goal
 
 pub returns : goal.returns
 returns c =
-    let n = numbers c.args.c.now in
-    let shift : to_z w128 c.args.c.now.f ≡ pos n.fraction_bits = omega (arith, ints, c.requires.sound.form.sized.fraction_bits.1) in
+    let n = numbers c.args.from.now.c.now in
+    let shift : to_z w128 c.args.from.now.c.now.f ≡ pos n.fraction_bits = omega (arith, ints, c.args.from.now.sound.form.sized.fraction_bits.1) in
     moved_text (codes "(int64_t)" ++ (codes "l" ++ decimal c.args.i)) (expression_text (row_expression n c.args.i)) (decimal n.fraction_bits) (string_bytes c.args.text.now)
     (string_bytes c.push_value.new.text) (string_bytes c.push_str.new.self) (string_bytes c.push_row_value.new.text) (string_bytes c.push_str-2.new.self) (string_bytes c.push_number.new.text)
     (string_bytes c.push_str-3.new.self) c.in_ok-push_value.ensures c.in_ok-push_str.ensures.bytes c.in_ok-push_row_value.ensures c.in_ok-push_str-2.ensures.bytes

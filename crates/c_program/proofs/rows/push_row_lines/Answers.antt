@@ -6,6 +6,6 @@ use Rattle.c_program.proofs.rows.push_row_lines.Goals as goal
 
 pub returns : goal.returns
 returns c =
-    let n = numbers c.args.c.now in
+    let n = numbers c.args.from.now.c.now in
     blocks_more n (codes "        ") (gradient_statements n c.args.i) (move_statements n c.args.i) (string_bytes c.args.text.now) (string_bytes c.push_gradient_where.new.text) (string_bytes c.push_move.new.text)
     c.in_ok-push_gradient_where.ensures c.in_ok-push_move.ensures

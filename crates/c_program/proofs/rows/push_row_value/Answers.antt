@@ -6,6 +6,6 @@ use Rattle.c_program.proofs.rows.push_row_value.Goals as goal
 
 pub returns : goal.returns
 returns c =
-    let n = numbers c.args.c.now in
+    let n = numbers c.args.from.now.c.now in
     two_more (string_bytes c.args.text.now) (string_bytes c.push_value.new.text) (string_bytes c.push_rest.new.text) (codes "(int64_t)" ++ (codes "r" ++ decimal c.args.i)) (row_rest n c.args.i)
     c.in_ok-push_value.ensures c.in_ok-push_rest.ensures ∙ ap (λ (t : List ℕ). string_bytes c.args.text.now ++ t) (sym (row_read n c.args.i))

@@ -7,7 +7,7 @@ use Rattle.c_program.proofs.rows.push_second_rest.Goals as goal
 
 pub returns : goal.returns
 returns c =
-    let k = partner (numbers c.args.c.now) c.args.i in
+    let k = partner (numbers c.args.from.now.c.now) c.args.i in
     two_more (string_bytes c.args.text.now) (string_bytes c.push_str.new.self) (string_bytes c.push_value.new.text) (codes " - ") (codes "(int64_t)" ++ (codes "g" ++ decimal k))
     c.in_ok-push_str.ensures.bytes
     (c.in_ok-push_value.ensures ∙ ap (λ (n : ℕ). string_bytes c.push_str.new.self ++ (codes "(int64_t)" ++ (codes "g" ++ decimal n))) c.partner_at.ensures) ∙

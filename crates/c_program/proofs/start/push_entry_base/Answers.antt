@@ -17,19 +17,19 @@ use Rattle.c_program.proofs.start.push_entry_base.Goals as goal
 
 pub push_scaled_row-requires-clause-long : goal.push_scaled_row-requires-clause-long
 push_scaled_row-requires-clause-long c =
-    let n = numbers c.args.c.now in
-    rw c.requires.tops (omega (arith, c.row.ensures.len, c.requires.sound.form.sized.shaped.state_gains.cols, length-state_reach n c.requires.sound.form.sized))
+    let n = numbers c.args.from.now.c.now in
+    rw c.args.from.now.state_tops (omega (arith, c.row.ensures.len, c.args.from.now.sound.form.sized.shaped.state_gains.cols, length-state_reach n c.args.from.now.sound.form.sized))
 
 pub push_scaled_row-requires-clause-room : goal.push_scaled_row-requires-clause-room
 push_scaled_row-requires-clause-room c =
-    let n = numbers c.args.c.now in
-    let long : length c.row.result.now ≡ length c.args.tops.now =
-    rw c.requires.tops (omega (arith, c.row.ensures.len, c.requires.sound.form.sized.shaped.state_gains.cols, length-state_reach n c.requires.sound.form.sized)) in
-    scaled_fit c.row.result.now c.args.tops.now n.step_exponent long (rw (c.row.ensures.value, c.requires.tops) (own_room n c.args.j c.requires.sound c.requires.in_range))
+    let n = numbers c.args.from.now.c.now in
+    let long : length c.row.result.now ≡ length c.args.from.now.states.now =
+    rw c.args.from.now.state_tops (omega (arith, c.row.ensures.len, c.args.from.now.sound.form.sized.shaped.state_gains.cols, length-state_reach n c.args.from.now.sound.form.sized)) in
+    scaled_fit c.row.result.now c.args.from.now.states.now n.step_exponent long (rw (c.row.ensures.value, c.args.from.now.state_tops) (own_room n c.args.j c.args.from.now.sound c.requires.in_range))
 
 pub returns : goal.returns
 returns c =
-    let n = numbers c.args.c.now in
+    let n = numbers c.args.from.now.c.now in
     let f : FitsSigned w128 c.offset_at.result = search rules in
     let constant = at n.offsets c.args.j *ℤ pos (2 ^ n.fraction_bits) *ℤ pos (2 ^ n.step_exponent) in
     sum_line n (variable EntryBase c.args.j) (Constant constant) (λ k. at (row_of n.state_gains c.args.j) k *ℤ pos (2 ^ n.step_exponent)) (state_top n) (variable Loaded) n.states
@@ -37,6 +37,6 @@ returns c =
     (string_bytes c.push_end.new.text) refl c.in_ok-push_declared.ensures
     (c.in_ok-push_constant.ensures ∙ ap (λ (z : ℤ). string_bytes c.push_declared.new.text ++ constant_text z) (to_z-of_z w128 _ f ∙ c.offset_at.ensures.value))
     (c.in_ok-push_scaled_row.ensures ∙ ap (λ (t : List ℕ). string_bytes c.push_constant.new.text ++ t)
-    (scaled_same _ (row_of n.state_gains c.args.j) n.step_exponent _ (state_magnitudes n) (λ k. codes "x" ++ decimal k) n.states c.row.ensures.value c.requires.tops
-    (omega (arith, c.row.ensures.len, c.requires.sound.form.sized.shaped.state_gains.cols))))
+    (scaled_same _ (row_of n.state_gains c.args.j) n.step_exponent _ (state_magnitudes n) (λ k. codes "x" ++ decimal k) n.states c.row.ensures.value c.args.from.now.state_tops
+    (omega (arith, c.row.ensures.len, c.args.from.now.sound.form.sized.shaped.state_gains.cols))))
     c.in_ok-push_end.ensures

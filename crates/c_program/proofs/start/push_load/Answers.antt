@@ -8,7 +8,7 @@ use Rattle.c_program.proofs.start.push_load.Goals as goal
 
 pub returns : goal.returns
 returns c =
-    let step = pos (2 ^ (c.args.c.now.f - c.args.c.now.g)) in
+    let step = pos (2 ^ (c.args.from.now.c.now.f - c.args.from.now.c.now.g)) in
     let f : FitsSigned w128 c.grid_step.result = search rules in
     let k : to_z w128 c.args.k ≡ pos c.args.k = omega (arith, ints) in
     load_text (constant_text step) (decimal c.args.k) (string_bytes c.args.text.now) (string_bytes c.push_str.new.self) (string_bytes c.push_constant.new.text) (string_bytes c.push_str-2.new.self)

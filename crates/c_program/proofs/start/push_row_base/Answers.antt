@@ -17,25 +17,25 @@ use Rattle.c_program.proofs.start.push_row_base.Goals as goal
 
 pub push_row-requires-clause-long : goal.push_row-requires-clause-long
 push_row-requires-clause-long c =
-    let n = numbers c.args.c.now in
-    rw c.requires.tops (omega (arith, c.row.ensures.len, c.requires.sound.form.sized.shaped.state_rows.cols, length-state_reach n c.requires.sound.form.sized))
+    let n = numbers c.args.from.now.c.now in
+    rw c.args.from.now.state_tops (omega (arith, c.row.ensures.len, c.args.from.now.sound.form.sized.shaped.state_rows.cols, length-state_reach n c.args.from.now.sound.form.sized))
 
 pub push_row-requires-clause-room : goal.push_row-requires-clause-room
 push_row-requires-clause-room c =
-    let n = numbers c.args.c.now in
-    let long : length c.row.result.now ≡ length c.args.tops.now =
-    rw c.requires.tops (omega (arith, c.row.ensures.len, c.requires.sound.form.sized.shaped.state_rows.cols, length-state_reach n c.requires.sound.form.sized)) in
-    products_fit c.row.result.now c.args.tops.now long (rw (c.row.ensures.value, c.requires.tops) ((row_room n c.args.i c.requires.sound c.requires.in_range).0))
+    let n = numbers c.args.from.now.c.now in
+    let long : length c.row.result.now ≡ length c.args.from.now.states.now =
+    rw c.args.from.now.state_tops (omega (arith, c.row.ensures.len, c.args.from.now.sound.form.sized.shaped.state_rows.cols, length-state_reach n c.args.from.now.sound.form.sized)) in
+    products_fit c.row.result.now c.args.from.now.states.now long (rw (c.row.ensures.value, c.args.from.now.state_tops) ((row_room n c.args.i c.args.from.now.sound c.requires.in_range).0))
 
 pub returns : goal.returns
 returns c =
-    let n = numbers c.args.c.now in
+    let n = numbers c.args.from.now.c.now in
     let f : FitsSigned w128 c.bound_at.result = search rules in
     sum_line n (variable RowBase c.args.i) (Constant (neg_ℤ (at n.bounds c.args.i *ℤ pos (2 ^ n.fraction_bits)))) (at (row_of n.state_rows c.args.i)) (state_top n) (variable Loaded) n.states
     (codes "    ") (codes "int64_t") (string_bytes c.args.text.now) (string_bytes c.push_declared.new.text) (string_bytes c.push_constant.new.text) (string_bytes c.push_row.new.text)
     (string_bytes c.push_end.new.text) refl c.in_ok-push_declared.ensures
     (c.in_ok-push_constant.ensures ∙ ap (λ (z : ℤ). string_bytes c.push_declared.new.text ++ constant_text z) (to_z-of_z w128 _ f ∙ c.bound_at.ensures.value))
     (c.in_ok-push_row.ensures ∙ ap (λ (t : List ℕ). string_bytes c.push_constant.new.text ++ t)
-    (row_same _ (row_of n.state_rows c.args.i) _ (state_magnitudes n) (λ k. codes "x" ++ decimal k) n.states c.row.ensures.value c.requires.tops
-    (omega (arith, c.row.ensures.len, c.requires.sound.form.sized.shaped.state_rows.cols))))
+    (row_same _ (row_of n.state_rows c.args.i) _ (state_magnitudes n) (λ k. codes "x" ++ decimal k) n.states c.row.ensures.value c.args.from.now.state_tops
+    (omega (arith, c.row.ensures.len, c.args.from.now.sound.form.sized.shaped.state_rows.cols))))
     c.in_ok-push_end.ensures

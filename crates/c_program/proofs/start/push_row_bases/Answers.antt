@@ -1,15 +1,17 @@
-use Rattle.std.proofs.Common.{string_bytes, codes}
+use Rattle.std.proofs.Common.{refl, string_bytes, codes}
 use Rattle.qp_model.specs.machine.Controller.{numbers}
-use Rattle.c_program.specs.Of.{row_base_statements}
-use Rattle.c_program.proofs.Texts.{block_none, block_more}
+use Rattle.c_program.specs.Of.{row_base_statements, is_row_needed, is_needed}
+use Rattle.c_program.proofs.Texts.{needed_none, needed_more}
 use Rattle.c_program.proofs.start.push_row_bases.Goals as goal
 
 pub loop-i-init : goal.loop-i-init
 loop-i-init c =
-    let n = numbers c.args.c.now in
-    block_none n (codes "    ") (row_base_statements n) (string_bytes c.args.text.now)
+    let n = numbers c.args.from.now.c.now in
+    needed_none n (codes "    ") (is_needed n) (row_base_statements n) (string_bytes c.args.text.now)
 
 pub loop-i-preserved : goal.loop-i-preserved
 loop-i-preserved c =
-    let n = numbers c.args.c.now in
-    block_more n (codes "    ") (row_base_statements n) c.loop-i.i (string_bytes c.args.text.now) (string_bytes c.loop-i.text) (string_bytes c.push_row_base.new.text) c.loop-i.invariant c.in_ok-push_row_base.ensures
+    let n = numbers c.args.from.now.c.now in
+    let i = c.loop-i.i in
+    needed_more n (codes "    ") (is_needed n) (row_base_statements n) (is_row_needed n i) i (string_bytes c.args.text.now) (string_bytes c.loop-i.text) (string_bytes c.push_needed_row_base.new.text)
+    refl c.loop-i.invariant c.in_ok-push_needed_row_base.ensures

@@ -7,10 +7,10 @@ use Rattle.c_program.proofs.start.push_start_sums.Goals as goal
 
 pub loop-j-init : goal.loop-j-init
 loop-j-init c =
-    let n = numbers c.args.c.now in
+    let n = numbers c.args.from.now.c.now in
     block_none n (codes "    ") (zero_statements Sum) (string_bytes c.args.text.now)
 
 pub loop-j-preserved : goal.loop-j-preserved
 loop-j-preserved c =
-    let n = numbers c.args.c.now in
+    let n = numbers c.args.from.now.c.now in
     block_more n (codes "    ") (zero_statements Sum) c.loop-j.j (string_bytes c.args.text.now) (string_bytes c.loop-j.text) (string_bytes c.push_start_sum.new.text) c.loop-j.invariant c.in_ok-push_start_sum.ensures

@@ -4,15 +4,15 @@ use Rattle.overflow_check.proofs.Sizes.{length-plan_reach}
 use Rattle.c_program.proofs.Rooms.{fit_of}
 use Rattle.c_program.proofs.tops.sum_top.Goals as goal
 
-pub bounds-plan-j : goal.bounds-plan-j
-bounds-plan-j c = rw c.requires.plan (omega (arith, length-plan_reach (numbers c.args.c.now), c.requires.in_range))
+pub bounds-from-j : goal.bounds-from-j
+bounds-from-j c = rw c.args.from.now.plan_tops (omega (arith, length-plan_reach (numbers c.args.from.now.c.now), c.requires.in_range))
 
 pub overflow_mul-result : goal.overflow_mul-result
 overflow_mul-result c =
-    let s : c.from.result ≡ c.args.c.now.steps = search rules in
-    rw (s, c.requires.plan) (omega (arith, (fit_of (numbers c.args.c.now) c.requires.sound).sums c.args.j c.requires.in_range))
+    let s : c.from.result ≡ c.args.from.now.c.now.steps = search rules in
+    rw (s, c.args.from.now.plan_tops) (omega (arith, (fit_of (numbers c.args.from.now.c.now) c.args.from.now.sound).sums c.args.j c.requires.in_range))
 
 pub returns : goal.returns
 returns c =
-    let s : c.from.result ≡ c.args.c.now.steps = search rules in
-    rw (s, c.requires.plan) refl
+    let s : c.from.result ≡ c.args.from.now.c.now.steps = search rules in
+    rw (s, c.args.from.now.plan_tops) refl

@@ -12,27 +12,27 @@ use Rattle.c_program.proofs.writer.push_refusal_of.Goals as goal
 
 pub push_refusal-requires-clause-low : goal.push_refusal-requires-clause-low
 push_refusal-requires-clause-low c =
-    let s = c.requires.sound.form.sized in
+    let s = c.args.from.now.sound.form.sized in
     let f : FitsSigned w128 c.index.result.now = search rules in
-    rw (to_z-of_z w128 _ f) (omega (arith, numerator_read c.args.c.now.lo.items c.args.i c.index.result.now s.low c.requires.in_range c.index.ensures))
+    rw (to_z-of_z w128 _ f) (omega (arith, numerator_read c.args.from.now.c.now.lo.items c.args.i c.index.result.now s.low c.requires.in_range c.index.ensures))
 
 pub push_refusal-requires-clause-high : goal.push_refusal-requires-clause-high
 push_refusal-requires-clause-high c =
-    let s = c.requires.sound.form.sized in
+    let s = c.args.from.now.sound.form.sized in
     let f : FitsSigned w128 c.index-2.result.now = search rules in
-    rw (to_z-of_z w128 _ f) (omega (arith, numerator_read c.args.c.now.hi.items c.args.i c.index-2.result.now s.high (omega (arith, c.requires.in_range, s.shaped.low, s.shaped.high)) c.index-2.ensures))
+    rw (to_z-of_z w128 _ f) (omega (arith, numerator_read c.args.from.now.c.now.hi.items c.args.i c.index-2.result.now s.high (omega (arith, c.requires.in_range, s.shaped.low, s.shaped.high)) c.index-2.ensures))
 
 pub push_refusal-requires-clause-short : goal.push_refusal-requires-clause-short
 push_refusal-requires-clause-short c =
-    let s = c.requires.sound.form.sized in
-    omega (arith, c.requires.in_range, s.shaped.low, s.states.1, states_le (numbers c.args.c.now) s)
+    let s = c.args.from.now.sound.form.sized in
+    omega (arith, c.requires.in_range, s.shaped.low, s.states.1, states_le (numbers c.args.from.now.c.now) s)
 
 pub returns : goal.returns
 returns c =
-    let s = c.requires.sound.form.sized in
+    let s = c.args.from.now.sound.form.sized in
     let f : FitsSigned w128 c.index.result.now = search rules in
     let g : FitsSigned w128 c.index-2.result.now = search rules in
-    let low = to_z-of_z w128 _ f ∙ at_any c.args.c.now.lo.items c.args.i c.index.result.now c.requires.in_range c.index.ensures in
-    let high = to_z-of_z w128 _ g ∙ at_any c.args.c.now.hi.items c.args.i c.index-2.result.now (omega (arith, c.requires.in_range, s.shaped.low, s.shaped.high)) c.index-2.ensures in
+    let low = to_z-of_z w128 _ f ∙ at_any c.args.from.now.c.now.lo.items c.args.i c.index.result.now c.requires.in_range c.index.ensures in
+    let high = to_z-of_z w128 _ g ∙ at_any c.args.from.now.c.now.hi.items c.args.i c.index-2.result.now (omega (arith, c.requires.in_range, s.shaped.low, s.shaped.high)) c.index-2.ensures in
     c.in_ok-push_refusal.ensures ∙ ap (λ (z : ℤ). string_bytes c.args.text.now ++ text_of (refusal_text z (to_z w128 (of_z w128 c.index-2.result.now)) c.args.i ∷ [])) low ∙
-    ap (λ (z : ℤ). string_bytes c.args.text.now ++ text_of (refusal_text (at c.args.c.now.lo.items c.args.i) z c.args.i ∷ [])) high
+    ap (λ (z : ℤ). string_bytes c.args.text.now ++ text_of (refusal_text (at c.args.from.now.c.now.lo.items c.args.i) z c.args.i ∷ [])) high

@@ -6,4 +6,4 @@ use Rattle.c_program.specs.Text.{refusal_line, numbered_lines}
 use Rattle.c_program.proofs.writer.push_refusals.Given as goal
 
 abbrev pub invariant-loop-i : goal.invariant-loop-i
-invariant-loop-i l = string_bytes l.text ≡ string_bytes l.fn.text ++ text_of (numbered_lines (refusal_line (program_of (numbers l.c))) l.i)
+invariant-loop-i l = string_bytes l.text ≡ string_bytes l.fn.text ++ text_of (numbered_lines (refusal_line (program_of (numbers l.from.c.now))) l.i)

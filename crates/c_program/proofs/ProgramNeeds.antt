@@ -1,0 +1,249 @@
+-- The needed statements of a controller's program read only needed variables.
+use Rattle.std.proofs.Common.{◌≡◌, ℕ, zero, suc, ◌*◌, ◌^◌, ◌<◌, Bool, true, false, true≢false, ◌&&◌, ◌||◌, if◌then◌else◌, ltb, ℤ, pos, ◌*ℤ◌, neg_ℤ, List, [], ◌∷◌, ◌++◌, length, map, unsigned_abs, refl, sym, ap, subst, ◌∙◌, arith, mul-pos, inl, inr}
+use Rattle.std.proofs.lemmas.Bool.{cond_both, cases_lt, ltb-true, lt-ltb}
+use Rattle.integer_algebra.specs.Sums.{at}
+use Rattle.mat_int.specs.Matrix.{row_of}
+use Rattle.qp_model.specs.machine.Controller.{Numbers}
+use Rattle.qp_model.specs.machine.Machine.{lowering_of}
+use Rattle.qp_model.proofs.AbsoluteLaws.{abs-neg, abs-shifted}
+use Rattle.c_program.specs.Syntax.{Variable, variable, Expression, Statement, groups}
+use Rattle.c_program.specs.Syntax.Family.{Loaded, EntryBase, RowBase, Multiplier, Difference, Entry, Gradient, Sum}
+use Rattle.c_program.specs.Syntax.Expression.{Constant, Value, Plus, Minus, Times}
+use Rattle.c_program.specs.Syntax.Statement.{Declare}
+use Rattle.c_program.specs.Meaning.{variable_of}
+use Rattle.c_program.specs.Needed.{left_in}
+use Rattle.c_program.specs.Of.{state_top, multiplier_top, entry_top, plus_products, partner, is_first, is_second, loaded_statements, entry_base_statements, row_base_statements, zero_statements, before_of, difference_statements, gain_of, gain_variable, entry_statements, sum_statements, plus_plan, gradient_statements, row_expression, move_statements, row_statements, repetition_body, any_below, is_product, is_row_needed, is_coordinate_needed, is_needed, whole_program}
+use Rattle.c_program.proofs.Lists.{row_needed, coordinate_needed}
+use Rattle.c_program.proofs.Pairs.{IsPair, pair_there, later_there, same_top}
+use Rattle.c_program.proofs.LeftIn.{ReadsNeeded, AreClosed, IsClosed, AreNeeded, closed_append, closed_groups, left_in_append, whole_groups}
+
+-- ---- one of many
+or_first : (a b : Bool) → a ≡ true → (a || b) ≡ true
+or_first true b h = refl
+or_first false b h = absurd (true≢false (sym h))
+
+or_second : (a b : Bool) → b ≡ true → (a || b) ≡ true
+or_second true b h = refl
+or_second false b h = h
+
+and_both : (a b : Bool) → a ≡ true → b ≡ true → (a && b) ≡ true
+and_both true b h k = k
+and_both false b h k = absurd (true≢false (sym h))
+
+any_there : (f : ℕ → Bool) (n i : ℕ) → i < n → f i ≡ true → any_below f n ≡ true
+unfolding any_below
+any_there f zero i l h = absurd (omega (arith, l))
+any_there f (suc n) i l h = elim (cases_lt i n) [
+  | inl less ↦ or_first (any_below f n) (f n) (any_there f n i less h)
+  | inr more ↦ (let e : i ≡ n = omega (arith, l, more) in or_second (any_below f n) (f n) (subst (λ (k : ℕ). f k ≡ true) e h))
+]
+
+any_same : (f g : ℕ → Bool) (n : ℕ) → ((i : ℕ) → i < n → f i ≡ g i) → any_below f n ≡ any_below g n
+unfolding any_below
+any_same f g zero h = refl
+any_same f g (suc n) h =
+    let rest = any_same f g n (λ i l. h i (omega (arith, l))) in
+    let last = h n (omega arith) in
+    (λ i. rest i || last i)
+
+-- ---- what is needed
+-- a pair's rows both are
+pair_needed : (c : Numbers) (i k : ℕ) → IsPair c i k → is_row_needed c i ≡ is_row_needed c k
+pair_needed c i k p =
+    row_needed c i ∙ any_same (λ j. is_product (at (row_of c.dual_gains j) i) (multiplier_top c i)) (λ j. is_product (at (row_of c.dual_gains j) k) (multiplier_top c k)) (length c.offsets) (λ j l.
+    let size : unsigned_abs (at (row_of c.dual_gains j) i) ≡ unsigned_abs (at (row_of c.dual_gains j) k) =
+    sym (abs-neg (at (row_of c.dual_gains j) i)) ∙ ap unsigned_abs (sym (p.gains j l)) in
+    let top : multiplier_top c i ≡ multiplier_top c k = ap unsigned_abs (sym (same_top c i k p)) in
+    (λ n. ltb 0 (size n * top n))) ∙ sym (row_needed c k)
+
+-- a product stays one without its power of two
+positive_product : (a p t : ℕ) → 0 < a * p * t → 0 < a * t
+positive_product zero p t h = absurd (omega (arith, h))
+positive_product (suc a) p zero h = absurd (omega (arith, h))
+positive_product (suc a) p (suc t) h = let x : 0 < suc a = omega arith in let y : 0 < suc t = omega arith in mul-pos x y
+
+product_shifted : (x : ℤ) (s top : ℕ) → ltb 0 (unsigned_abs (x *ℤ pos (2 ^ s)) * top) ≡ true → is_product x top ≡ true
+product_shifted x s top h =
+    let some : 0 < unsigned_abs x * 2 ^ s * top = subst (λ (a : ℕ). 0 < a * top) (abs-shifted x s) (ltb-true 0 (unsigned_abs (x *ℤ pos (2 ^ s)) * top) h) in
+    lt-ltb 0 (unsigned_abs x * top) (positive_product (unsigned_abs x) (2 ^ s) top some)
+
+gain_needed : (c : Numbers) (i j : ℕ) → j < length c.offsets → is_product (at (row_of c.dual_gains j) i) (multiplier_top c i) ≡ true → is_row_needed c i ≡ true
+gain_needed c i j l h = row_needed c i ∙ any_there (λ m. is_product (at (row_of c.dual_gains m) i) (multiplier_top c i)) (length c.offsets) j l h
+
+-- what a coordinate reaches
+in_entries : Numbers → ℕ → Bool
+in_entries c k = any_below (λ j. is_product (at (row_of c.state_gains j) k) (state_top c k)) (length c.offsets)
+
+in_rows : Numbers → ℕ → Bool
+in_rows c k = any_below (λ i. is_row_needed c i && is_product (at (row_of c.state_rows i) k) (state_top c k)) (length c.bounds)
+
+entry_needs : (c : Numbers) (j k : ℕ) → j < length c.offsets → is_product (at (row_of c.state_gains j) k) (state_top c k) ≡ true → is_coordinate_needed c k ≡ true
+unfolding in_entries in_rows
+entry_needs c j k l h =
+    coordinate_needed c k ∙ or_first (in_entries c k) (in_rows c k) (any_there (λ m. is_product (at (row_of c.state_gains m) k) (state_top c k)) (length c.offsets) j l h)
+
+row_needs : (c : Numbers) (i k : ℕ) → i < length c.bounds → is_row_needed c i ≡ true → is_product (at (row_of c.state_rows i) k) (state_top c k) ≡ true → is_coordinate_needed c k ≡ true
+unfolding in_entries in_rows
+row_needs c i k l n h =
+    coordinate_needed c k ∙
+    or_second (in_entries c k) (in_rows c k) (any_there (λ m. is_row_needed c m && is_product (at (row_of c.state_rows m) k) (state_top c k)) (length c.bounds) i l
+    (and_both (is_row_needed c i) (is_product (at (row_of c.state_rows i) k) (state_top c k)) n h))
+
+-- ---- sums of products
+products_need : (needed : Variable → Bool) (a : Expression) (c : ℕ → ℤ) (top : ℕ → ℕ) (v : ℕ → Variable) (n : ℕ) → ReadsNeeded needed a →
+    ((i : ℕ) → i < n → ltb 0 (unsigned_abs (c i) * top i) ≡ true → needed (v i) ≡ true) → ReadsNeeded needed (plus_products a c top v n)
+products_need needed a c top v zero r h = r
+products_need needed a c top v (suc n) r h =
+    let rest = products_need needed a c top v n r (λ i l. h i (omega (arith, l))) in
+    cond_both (ltb 0 (unsigned_abs (c n) * top n)) (Plus (plus_products a c top v n) (Times (Constant (c n)) (Value (v n)))) (plus_products a c top v n) (ReadsNeeded needed)
+    (λ t. (rest, (tt, h n (omega arith) t))) (λ f. rest)
+
+-- ---- before the loop
+entry_base_needs : (c : Numbers) (j : ℕ) → j < length c.offsets → AreClosed (is_needed c) (entry_base_statements c j)
+entry_base_needs c j l = (
+  (λ t. products_need (is_needed c) (Constant (at c.offsets j *ℤ pos (2 ^ c.fraction_bits) *ℤ pos (2 ^ c.step_exponent))) (λ k. at (row_of c.state_gains j) k *ℤ pos (2 ^ c.step_exponent)) (state_top c) (variable Loaded) c.states tt
+      (λ k m some. entry_needs c j k l (product_shifted (at (row_of c.state_gains j) k) c.step_exponent (state_top c k) some))),
+  tt,
+)
+
+row_base_needs : (c : Numbers) (i : ℕ) → i < length c.bounds → AreClosed (is_needed c) (row_base_statements c i)
+row_base_needs c i l =
+    ((λ t. products_need (is_needed c) (Constant (neg_ℤ (at c.bounds i *ℤ pos (2 ^ c.fraction_bits)))) (at (row_of c.state_rows i)) (state_top c) (variable Loaded) c.states tt (λ k m some. row_needs c i k l t some)), tt)
+
+before_needs : (c : Numbers) → AreClosed (is_needed c) (before_of c)
+before_needs c =
+    let b = is_needed c in
+    let n = groups (loaded_statements c) c.states in
+    let a = groups (entry_base_statements c) (length c.offsets) in
+    let r = groups (row_base_statements c) (length c.bounds) in
+    let l = groups (zero_statements Multiplier) (length c.bounds) in
+    let s = groups (zero_statements Sum) (length c.offsets) in
+    closed_append b (n ++ a ++ r ++ l) s
+    (closed_append b (n ++ a ++ r) l
+    (closed_append b (n ++ a) r
+    (closed_append b n a (closed_groups b (loaded_statements c) c.states (λ k m. ((λ t. (tt, refl)), tt))) (closed_groups b (entry_base_statements c) (length c.offsets) (entry_base_needs c)))
+    (closed_groups b (row_base_statements c) (length c.bounds) (row_base_needs c)))
+    (closed_groups b (zero_statements Multiplier) (length c.bounds) (λ i m. ((λ t. tt), tt))))
+    (closed_groups b (zero_statements Sum) (length c.offsets) (λ j m. ((λ t. tt), tt)))
+
+-- ---- one step
+difference_needs : (c : Numbers) (i : ℕ) → AreClosed (is_needed c) (difference_statements c i)
+difference_needs c i =
+    cond_both (is_first c i) (Declare (variable Difference i) (Minus (Value (variable Multiplier i)) (Value (variable Multiplier (partner c i)))) ∷ []) [] (AreClosed (is_needed c))
+    (λ t. ((λ n. (n, sym (pair_needed c i (partner c i) (pair_there c i t)) ∙ n)), tt)) (λ f. tt)
+
+gain_variable_needed : (c : Numbers) (i : ℕ) → is_row_needed c i ≡ true → is_needed c (gain_variable c i) ≡ true
+gain_variable_needed c i h = cond_both (is_first c i) Difference Multiplier (λ f. is_needed c (variable f i) ≡ true) (λ t. h) (λ f. h)
+
+-- a gain that is left in
+gain_left : (b : Bool) (x : ℤ) (s top : ℕ) → ltb 0 (unsigned_abs (if b then pos 0 else x *ℤ pos (2 ^ s)) * top) ≡ true → is_product x top ≡ true
+gain_left true x s top h = absurd (omega (arith, ltb-true 0 (0 * top) h))
+gain_left false x s top h = product_shifted x s top h
+
+entry_closed : (c : Numbers) (j : ℕ) → j < length c.offsets → AreClosed (is_needed c) (entry_statements c j)
+entry_closed c j l = (
+  (λ t. (
+    tt,
+    products_need (is_needed c) (Value (variable EntryBase j)) (gain_of c j) (multiplier_top c) (gain_variable c) (length c.bounds) refl
+        (λ i m some. gain_variable_needed c i (gain_needed c i j l (gain_left (is_second c i) (at (row_of c.dual_gains j) i) (lowering_of c i) (multiplier_top c i) some))),
+  )),
+  tt,
+)
+
+plan_needs : (c : Numbers) (i : ℕ) (a : Expression) → ReadsNeeded (is_needed c) a → ReadsNeeded (is_needed c) (plus_plan c i a)
+plan_needs c i a r = products_need (is_needed c) a (at (row_of c.plan_rows i)) (entry_top c) (variable Entry) (length c.offsets) r (λ j m some. refl)
+
+gradient_needs : (c : Numbers) (i : ℕ) → AreClosed (is_needed c) (gradient_statements c i)
+gradient_needs c i =
+    cond_both (is_first c i) (Declare (variable Gradient i) (plus_plan c i (Constant (pos 0))) ∷ []) [] (AreClosed (is_needed c))
+    (λ t. ((λ n. plan_needs c i (Constant (pos 0)) tt), tt)) (λ f. tt)
+
+row_expression_needs : (c : Numbers) (i : ℕ) → i < length c.bounds → is_row_needed c i ≡ true → ReadsNeeded (is_needed c) (row_expression c i)
+row_expression_needs c i l n =
+    let R = λ (a : Expression). ReadsNeeded (is_needed c) a in
+    cond_both (is_first c i) _ _ R (λ t. (n, n)) (λ f. cond_both (is_second c i) _ _ R
+    (λ t. (n, pair_needed c (partner c i) i (later_there c i l t).pair ∙ n)) (λ g. plan_needs c i (Value (variable RowBase i)) n))
+
+move_needs : (c : Numbers) (i : ℕ) → i < length c.bounds → AreClosed (is_needed c) (move_statements c i)
+move_needs c i l = ((λ n. (n, row_expression_needs c i l n)), ((λ n. n), ((λ n. n), ((λ n. n), tt))))
+
+body_needs : (c : Numbers) → AreClosed (is_needed c) (repetition_body c)
+body_needs c =
+    let b = is_needed c in
+    let d = groups (difference_statements c) (length c.bounds) in
+    let u = groups (entry_statements c) (length c.offsets) in
+    let s = groups sum_statements (length c.offsets) in
+    let r = groups (row_statements c) (length c.bounds) in
+    closed_append b (d ++ u ++ s) r
+    (closed_append b (d ++ u) s
+    (closed_append b d u (closed_groups b (difference_statements c) (length c.bounds) (λ i m. difference_needs c i)) (closed_groups b (entry_statements c) (length c.offsets) (entry_closed c)))
+    (closed_groups b sum_statements (length c.offsets) (λ j m. ((λ t. (refl, refl)), tt))))
+    (closed_groups b (row_statements c) (length c.bounds) (λ i m. closed_append b (gradient_statements c i) (move_statements c i) (gradient_needs c i) (move_needs c i m)))
+
+pub program_closed : (c : Numbers) → IsClosed (is_needed c) (whole_program c)
+program_closed c = record { before = before_needs c; body = body_needs c }
+
+pub outputs_needed : (c : Numbers) (js : List ℕ) → AreNeeded (is_needed c) (map (variable Sum) js)
+outputs_needed c [] = tt
+outputs_needed c (j ∷ js) = (refl, outputs_needed c js)
+
+-- ---- what is left in
+constant_part : (b : Bool) (ss : List Statement) → left_in (λ v. b) ss ≡ (if b then ss else [])
+constant_part true [] = refl
+constant_part true (s ∷ ss) = ap (λ (ts : List Statement). s ∷ ts) (constant_part true ss)
+constant_part false [] = refl
+constant_part false (s ∷ ss) = constant_part false ss
+
+none_part : (b : Bool) (ss : List Statement) → ss ≡ [] → ss ≡ (if b then ss else [])
+none_part true ss e = refl
+none_part false ss e = e
+
+both_parts : (b : Bool) (xs ys : List Statement) → (if b then xs else []) ++ (if b then ys else []) ≡ (if b then xs ++ ys else [])
+both_parts true xs ys = refl
+both_parts false xs ys = refl
+
+-- statements of a pair's first row alone
+first_part : (c : Numbers) (i : ℕ) (needed : Variable → Bool) (s : Statement) → needed (variable_of s) ≡ is_row_needed c i →
+    left_in needed (if is_first c i then s ∷ [] else []) ≡ (if is_row_needed c i then (if is_first c i then s ∷ [] else []) else [])
+first_part c i needed s e =
+    cond_both (is_first c i) (s ∷ []) [] (λ ss. left_in needed ss ≡ (if is_row_needed c i then ss else []))
+    (λ t. ap (λ (b : Bool). if b then s ∷ [] else []) e) (λ f. none_part (is_row_needed c i) [] refl)
+
+pub difference_part : (c : Numbers) (i : ℕ) → left_in (is_needed c) (difference_statements c i) ≡ (if is_row_needed c i then difference_statements c i else [])
+difference_part c i = first_part c i (is_needed c) (Declare (variable Difference i) (Minus (Value (variable Multiplier i)) (Value (variable Multiplier (partner c i))))) refl
+
+pub row_part : (c : Numbers) (i : ℕ) → left_in (is_needed c) (row_statements c i) ≡ (if is_row_needed c i then row_statements c i else [])
+row_part c i =
+    let gradient = first_part c i (is_needed c) (Declare (variable Gradient i) (plus_plan c i (Constant (pos 0)))) refl in
+    let move = constant_part (is_row_needed c i) (move_statements c i) in
+    left_in_append (is_needed c) (gradient_statements c i) (move_statements c i) ∙ (λ k. gradient k ++ move k) ∙ both_parts (is_row_needed c i) (gradient_statements c i) (move_statements c i)
+
+pub before_part : (c : Numbers) → left_in (is_needed c) (before_of c) ≡
+    left_in (is_needed c) (groups (loaded_statements c) c.states) ++ groups (entry_base_statements c) (length c.offsets) ++ left_in (is_needed c) (groups (row_base_statements c) (length c.bounds))
+    ++ left_in (is_needed c) (groups (zero_statements Multiplier) (length c.bounds)) ++ groups (zero_statements Sum) (length c.offsets)
+before_part c =
+    let b = is_needed c in
+    let n = groups (loaded_statements c) c.states in
+    let a = groups (entry_base_statements c) (length c.offsets) in
+    let r = groups (row_base_statements c) (length c.bounds) in
+    let l = groups (zero_statements Multiplier) (length c.bounds) in
+    let s = groups (zero_statements Sum) (length c.offsets) in
+    let one = left_in_append b n a ∙ ap (λ (ss : List Statement). left_in b n ++ ss) (whole_groups b (entry_base_statements c) (length c.offsets) (λ j. refl)) in
+    let two = left_in_append b (n ++ a) r ∙ ap (λ (ss : List Statement). ss ++ left_in b r) one in
+    let three = left_in_append b (n ++ a ++ r) l ∙ ap (λ (ss : List Statement). ss ++ left_in b l) two in
+    let last = whole_groups b (zero_statements Sum) (length c.offsets) (λ j. refl) in
+    left_in_append b (n ++ a ++ r ++ l) s ∙ (λ k. three k ++ last k)
+
+pub body_part : (c : Numbers) → left_in (is_needed c) (repetition_body c) ≡
+    left_in (is_needed c) (groups (difference_statements c) (length c.bounds)) ++ groups (entry_statements c) (length c.offsets) ++ groups sum_statements (length c.offsets)
+    ++ left_in (is_needed c) (groups (row_statements c) (length c.bounds))
+body_part c =
+    let b = is_needed c in
+    let d = groups (difference_statements c) (length c.bounds) in
+    let u = groups (entry_statements c) (length c.offsets) in
+    let s = groups sum_statements (length c.offsets) in
+    let r = groups (row_statements c) (length c.bounds) in
+    let one = left_in_append b d u ∙ ap (λ (ss : List Statement). left_in b d ++ ss) (whole_groups b (entry_statements c) (length c.offsets) (λ j. refl)) in
+    let sums = whole_groups b sum_statements (length c.offsets) (λ j. refl) in
+    let two = left_in_append b (d ++ u) s ∙ (λ k. one k ++ sums k) in
+    left_in_append b (d ++ u ++ s) r ∙ ap (λ (ss : List Statement). ss ++ left_in b r) two
