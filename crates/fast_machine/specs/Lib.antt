@@ -1,0 +1,5 @@
+pub mod FastMachine
+pub mod FastController
+pub mod FastReady
+pub mod FastValues
+pub mod FastErrors
