@@ -16,7 +16,7 @@ use Rattle.c_program.specs.Syntax.Family.{State, Loaded, EntryBase, RowBase, Mul
 use Rattle.c_program.specs.Syntax.Kind.{Narrow, Wide}
 use Rattle.c_program.specs.Syntax.Expression.{Constant, Value, Plus, Minus, Times, Quotient, Remainder, Shifted}
 use Rattle.c_program.specs.Syntax.Statement.{Declare, Assign, AtLeastZero, AtMost}
-use Rattle.c_program.specs.Text.{name_of, variable_text, kind_text, constant_text, enclosed, closed, expression_text, cast_text, statement_text, statement_lines, numbered_lines, refusal_text, refusal_line, output_line, head_text, average_line, average_head_text, shift_line, second_lines, program_lines, IsNameByte, IsName}
+use Rattle.c_program.specs.Text.{name_of, variable_text, kind_text, constant_text, enclosed, closed, expression_text, cast_text, statement_text, statement_lines, numbered_lines, refusal_text, refusal_line, output_line, head_text, average_line, average_head_text, shift_line, second_lines, program_lines, HasNoLineFeed}
 use Rattle.c_program.specs.Terms.{opening_lines, repetition_line}
 use Rattle.c_program.specs.Laws.{HasShortNumbers, HasShortOperands, kind_given, HasShortText, AreOneProgram, ProgramTextLaw}
 use Rattle.c_program.proofs.Reading.{expression_text_law}
@@ -74,13 +74,8 @@ digits_piece (c ∷ cs) d (suc k) e lt = digits_piece cs d.1 k e (omega (arith, 
 decimal_plain : (n : ℕ) → n < 2 ^ 64 → Plain (decimal n)
 decimal_plain n h = record { piece = digits_piece (decimal n) (decimal_is_IsNumeral n h).0.1 }
 
-byte_other : (b : ℕ) → IsNameByte b → eqb b 10 ≡ false
-byte_other b (inl h) = ne_eqb b 10 (λ e. omega (arith, h.0, e))
-byte_other b (inr (inl h)) = ne_eqb b 10 (λ e. omega (arith, h.0, e))
-byte_other b (inr (inr h)) = ne_eqb b 10 (λ e. omega (arith, h, e))
-
-own_name_plain : (name : List ℕ) → IsName name → Plain name
-own_name_plain name h = record { piece = λ k e lt. byte_other (get_or name k e) (h.each k e lt) }
+own_name_plain : (name : List ℕ) → HasNoLineFeed name → Plain name
+own_name_plain name h = record { piece = λ k e lt. ne_eqb (get_or name k e) 10 (h k e lt) }
 
 -- ---- expressions and statements
 constant_plain : (z : ℤ) → unsigned_abs z < 2 ^ 64 → Plain (constant_text z)
@@ -255,7 +250,7 @@ second_plain name p h s =
     lines_append ((average_head_text name p ∷ codes "{" ∷ []) ++ averages_lines p) (codes "}" ∷ [])
     (lines_append (average_head_text name p ∷ codes "{" ∷ []) (averages_lines p) front (averages_plain p s)) back
 
-program_plain : (name : List ℕ) (p : CProgram) → IsName name → HasShortText p → ArePieces 10 (program_lines name p)
+program_plain : (name : List ℕ) (p : CProgram) → HasNoLineFeed name → HasShortText p → ArePieces 10 (program_lines name p)
 program_plain name p n s =
     let h = own_name_plain name n in
     let a = opening_lines name p in

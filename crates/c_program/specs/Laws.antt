@@ -11,7 +11,7 @@ use Rattle.c_program.specs.Syntax.{Variable, Kind, Expression, Statement, CProgr
 use Rattle.c_program.specs.Syntax.Kind.{Wide}
 use Rattle.c_program.specs.Syntax.Statement.{Declare, Assign, AtLeastZero, AtMost}
 use Rattle.c_program.specs.Syntax.Expression.{Constant, Value, Plus, Minus, Times, Quotient, Remainder, Shifted}
-use Rattle.c_program.specs.Text.{expression_text, statement_text, program_text, IsName}
+use Rattle.c_program.specs.Text.{expression_text, statement_text, program_text, HasNoLineFeed}
 use Rattle.c_program.specs.Meaning.{first_outside, outcome_of, IsDefinedRun, averages_of, AreAveraged}
 use Rattle.c_program.specs.Meaning.Outcome.{Refused, Solved}
 use Rattle.c_program.specs.Of.{program_of}
@@ -104,10 +104,10 @@ pub record AreOneProgram (p q : CProgram) : Type 0 where
   pub outputs : p.outputs ≡ q.outputs
   pub averages : p.averages ≡ q.averages
 
--- two programs never have one text, nor one program under two names
+-- two programs never have one text, nor one program under two names; a name is any bytes of one line
 abbrev pub ProgramTextLaw : Type 0
 ProgramTextLaw =
-    (name other : List ℕ) (p q : CProgram) → IsName name → IsName other → HasShortText p → HasShortText q → program_text name p ≡ program_text other q → (name ≡ other) × AreOneProgram p q
+    (name other : List ℕ) (p q : CProgram) → HasNoLineFeed name → HasNoLineFeed other → HasShortText p → HasShortText q → program_text name p ≡ program_text other q → (name ≡ other) × AreOneProgram p q
 
 -- of each controller of at most 64 bits
 abbrev pub ProgramLaw : Type 0

@@ -1,5 +1,5 @@
 -- The texts of a program: a C99 source with two functions, one statement a line, and its header.
-use Rattle.std.specs.Prelude.{ℕ, zero, suc, ℤ, pos, negsuc, List, [], ◌∷◌, ◌++◌, length, map, codes, decimal, slice_index_or}
+use Rattle.std.specs.Prelude.{ℕ, zero, suc, ℤ, pos, negsuc, List, [], ◌∷◌, ◌++◌, length, map, codes, decimal, slice_index_or, All, ◌≢◌}
 use Rattle.integer_algebra.specs.Sums.{at}
 use Rattle.number_text.specs.Lines.{text_of}
 use Rattle.qp_model.specs.machine.Controller.{Numbers}
@@ -112,6 +112,10 @@ program_lines name p =
     ++ numbered_lines (λ j. output_line j (slice_index_or p.outputs j (record { family = State; number = 0 }))) (length p.outputs)
     ++ codes "    return 0;" ∷ codes "}" ∷ [] ∷ []
     ++ second_lines name p
+
+-- no line feed is among these bytes
+abbrev pub HasNoLineFeed : List ℕ → Type 0
+HasNoLineFeed = All (λ b. b ≢ 10)
 
 abbrev pub program_text : List ℕ → CProgram → List ℕ
 program_text name p = text_of (program_lines name p)
