@@ -12,6 +12,7 @@ import sys
 from dataclasses import dataclass, field
 
 sys.path.insert(0, os.path.dirname(os.path.abspath(__file__)))
+import compiled
 import control
 import listing
 import model
@@ -20,10 +21,12 @@ import split_boxes
 from model import LIMIT, Refused
 
 NAMES = {1: "memory", 2: "usage", 3: "read-fault", 4: "write-fault", 5: "text", 6: "no-margin", 7: "curvature", 8: "too-many-steps", 9: "too-fine", 10: "too-wide",
-         11: "controller", 12: "outside-box", 13: "long", 14: "mismatch", 16: "unequal", 17: "no-stay", 18: "cell", 20: "listing", 21: "trap"}
+         11: "controller", 12: "outside-box", 13: "long", 14: "mismatch", 16: "unequal", 17: "no-stay", 18: "cell", 20: "listing", 21: "trap", 22: "too-wide-c", 23: "moves", 24: "unsettled",
+         25: "no-return"}
 # how many words follow each command, and which of them are written
-COUNTS = {"generate": [4], "lean": [5, 6, 7], "stay": [5, 6], "solve": [2], "loop": [4, 5], "demo": [1], "list": [2], "play": [2], "split": [5], "serve": [2]}
-OUTPUTS = {"generate": [3, 4], "lean": [4, 5], "stay": [3, 4], "list": [2], "split": [4, 5]}
+COUNTS = {"generate": [4], "lean": [5, 6, 7], "stay": [5, 6], "solve": [2], "loop": [4, 5], "demo": [1], "list": [2], "play": [2], "split": [5], "serve": [2],
+          "settle": [3, 4], "c": [4]}
+OUTPUTS = {"generate": [3, 4], "lean": [4, 5], "stay": [3, 4], "list": [2], "split": [4, 5], "c": [3, 4]}
 OVER = 2**40
 
 
@@ -186,7 +189,10 @@ class Program:
         if not words or len(words) - 1 not in COUNTS.get(words[0], []):
             raise Refused(2)
         names = words[1:]
-        if any(names.count(words[at]) > 1 for at in OUTPUTS.get(words[0], [])):
+        files = names[:1] + names[2:] if words[0] == "c" else names
+        if any(files.count(words[at]) > 1 for at in OUTPUTS.get(words[0], [])):
+            raise Refused(2)
+        if words[0] == "c" and not compiled.is_name(names[1]):
             raise Refused(2)
         if words[0] == "loop" and decimal(names[3], 1000000) is None or words[0] == "demo" and decimal(names[0], 2**32 - 1) is None:
             raise Refused(2)
@@ -282,6 +288,12 @@ class Program:
             raise Refused(12, entry + 1, 0, control.outside(cells[0], rows[entry]))
         for cell, row in zip(serving, rows):
             self.put(control.plan_line(cell, row, self.run))
+
+    def c(self):
+        c = self.text(1, control.read_controller)
+        if c.w > compiled.MOST_WIDTH:
+            raise Refused(22, c.w)
+        self.write_texts(*zip(OUTPUTS["c"], compiled.texts_of(self.words[2], c)))
 
     def list(self):
         c = self.text(1, control.read_controller)
