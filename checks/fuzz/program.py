@@ -12,6 +12,7 @@ import sys
 from dataclasses import dataclass, field
 
 sys.path.insert(0, os.path.dirname(os.path.abspath(__file__)))
+import compiled
 import control
 import listing
 import model
@@ -186,7 +187,10 @@ class Program:
         if not words or len(words) - 1 not in COUNTS.get(words[0], []):
             raise Refused(2)
         names = words[1:]
-        if any(names.count(words[at]) > 1 for at in OUTPUTS.get(words[0], [])):
+        files = names[:1] + names[2:] if words[0] == "c" else names
+        if any(files.count(words[at]) > 1 for at in OUTPUTS.get(words[0], [])):
+            raise Refused(2)
+        if words[0] == "c" and not compiled.is_name(names[1]):
             raise Refused(2)
         if words[0] == "loop" and decimal(names[3], 1000000) is None or words[0] == "demo" and decimal(names[0], 2**32 - 1) is None:
             raise Refused(2)
@@ -282,6 +286,12 @@ class Program:
             raise Refused(12, entry + 1, 0, control.outside(cells[0], rows[entry]))
         for cell, row in zip(serving, rows):
             self.put(control.plan_line(cell, row, self.run))
+
+    def c(self):
+        c = self.text(1, control.read_controller)
+        if c.w > compiled.MOST_WIDTH:
+            raise Refused(22, c.w)
+        self.write_texts(*zip(OUTPUTS["c"], compiled.texts_of(self.words[2], c)))
 
     def list(self):
         c = self.text(1, control.read_controller)

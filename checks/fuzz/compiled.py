@@ -1,0 +1,178 @@
+"""An independent model of the program that `c` writes: the source and the header of a controller of at most 64 bits, in C99.
+
+All in exact whole numbers, by the definitions of crates/c_program/specs (`Of` and `Text`), and with no code of the program's. An expression is a pair of its text and of
+whether it is a sum, which stands in parentheses where it is an operand of a product or the second of a sum.
+"""
+import re
+
+from control import absolute_sums
+
+MOST_WIDTH = 64
+
+
+def is_name(word):
+    """Whether a program can have this name."""
+    return re.fullmatch("[a-z][a-z0-9_]{0,30}", word) is not None
+
+
+def constant(v):
+    return (f"INT64_C({v})" if v >= 0 else f"(-INT64_C({-v}))"), False
+
+
+def value(name):
+    return f"(int64_t){name}", False
+
+
+def closed(a):
+    return f"({a[0]})" if a[1] else a[0]
+
+
+def plus(a, b):
+    return f"{a[0]} + {closed(b)}", True
+
+
+def minus(a, b):
+    return f"{a[0]} - {closed(b)}", True
+
+
+def times(a, b):
+    return f"({closed(a)} * {closed(b)})", False
+
+
+def divided(a, sign, k):
+    return f"({closed(a)} {sign} {constant(k)[0]})", False
+
+
+def shifted(a, k):
+    return f"(({a[0]}) >> {k})", False
+
+
+class Program:
+    """The statements of a controller's program, each with the narrowest type that holds its variable."""
+
+    def __init__(self, c):
+        self.c = c
+        self.state_tops, _, self.entry_tops, _, self.row_tops, self.sum_tops = absolute_sums(c)
+        self.lowering = [c.s - exponent for exponent in c.exps]
+        self.tops = [c.clamp >> k for k in self.lowering]
+        self.partners = [next((k for k in range(c.m) if self.are_opposite(k, i)), c.m) for i in range(c.m)]
+        self.is_second = [k < i and self.partners[k] == i for i, k in enumerate(self.partners)]
+        self.is_first = [i < k < c.m and self.partners[k] == i for i, k in enumerate(self.partners)]
+
+    def are_opposite(self, k, i):
+        c = self.c
+        negated = lambda one, two: all(a + b == 0 for a, b in zip(one, two))
+        return c.exps[k] == c.exps[i] and negated(c.g_mat[k], c.g_mat[i]) and all(row[k] + row[i] == 0 for row in c.w_mat)
+
+    @staticmethod
+    def kind(top):
+        return "int32_t" if top < 2**31 else "int64_t"
+
+    @staticmethod
+    def with_products(a, factors, tops, names):
+        """A sum, and the products of these factors with these variables that aren't always 0."""
+        for factor, top, name in zip(factors, tops, names):
+            if factor * top:
+                a = plus(a, times(constant(factor), value(name)))
+        return a
+
+    @staticmethod
+    def declared(kind, name, a):
+        return f"{kind} {name} = ({kind})({a[0]});"
+
+    @staticmethod
+    def assigned(kind, name, a):
+        return f"{name} = ({kind})({a[0]});"
+
+    def before(self):
+        c = self.c
+        of_state = lambda a, factors: self.with_products(a, factors, self.state_tops, [f"x{k}" for k in range(c.n)])
+        for k in range(c.n):
+            yield self.declared(self.kind(self.state_tops[k]), f"x{k}", times(constant(1 << (c.f - c.g)), value(f"state[{k}]")))
+        for j in range(c.nu):
+            yield self.declared("int64_t", f"a{j}", of_state(constant(c.t[j] << (c.f + c.s)), [a << c.s for a in c.p_mat[j]]))
+        for i in range(c.m):
+            yield self.declared("int64_t", f"r{i}", of_state(constant(-c.bound[i] << c.f), c.e_mat[i]))
+        for i in range(c.m):
+            yield self.declared(self.kind(self.tops[i]), f"l{i}", constant(0))
+        for j in range(c.nu):
+            yield self.declared(self.kind(self.sum_tops[j]), f"s{j}", constant(0))
+
+    def of_plan(self, a, i):
+        return self.with_products(a, self.c.g_mat[i], self.entry_tops, [f"u{j}" for j in range(self.c.nu)])
+
+    def row(self, i):
+        if self.is_first[i]:
+            return plus(value(f"r{i}"), value(f"g{i}"))
+        return minus(value(f"r{i}"), value(f"g{self.partners[i]}")) if self.is_second[i] else self.of_plan(value(f"r{i}"), i)
+
+    def body(self):
+        c = self.c
+        for i in range(c.m):
+            if self.is_first[i]:
+                yield self.declared(self.kind(self.tops[i]), f"d{i}", minus(value(f"l{i}"), value(f"l{self.partners[i]}")))
+        names = [f"{'d' if self.is_first[i] else 'l'}{i}" for i in range(c.m)]
+        for j in range(c.nu):
+            gains = [0 if self.is_second[i] else c.w_mat[j][i] << self.lowering[i] for i in range(c.m)]
+            moved = shifted(self.with_products(value(f"a{j}"), gains, self.tops, names), min(c.f + c.s, 63))
+            yield self.declared(self.kind(self.entry_tops[j]), f"u{j}", minus(constant(0), moved))
+        for j in range(c.nu):
+            yield self.assigned(self.kind(self.sum_tops[j]), f"s{j}", plus(value(f"s{j}"), value(f"u{j}")))
+        for i in range(c.m):
+            if self.is_first[i]:
+                yield self.declared("int64_t", f"g{i}", self.of_plan(constant(0), i))
+            kind, top = self.kind(self.row_tops[i]), constant(self.tops[i])
+            yield self.declared(kind, f"t{i}", plus(value(f"l{i}"), shifted(self.row(i), c.f)))
+            yield f"if (t{i} < 0) {{ t{i} = 0; }}"
+            yield f"if (t{i} > {top[0]}) {{ {self.assigned(kind, f't{i}', top)} }}"
+            yield self.assigned(self.kind(self.tops[i]), f"l{i}", value(f"t{i}"))
+
+    def average(self, j):
+        steps, total = self.c.steps, value(f"sums[{j}]")
+        if steps & (steps - 1) == 0:
+            return shifted(plus(total, constant(steps // 2)), steps.bit_length() - 1)
+        rest = times(constant(2), divided(total, "%", steps))
+        raised = plus(divided(total, "/", steps), shifted(plus(rest, constant(steps)), 63))
+        return minus(raised, shifted(minus(constant(steps - 1), rest), 63))
+
+
+def heads(name, c):
+    return (
+        f"int {name}_solve(const int32_t state[{c.n}], int64_t sums[{c.nu}])",
+        f"void {name}_first_inputs(const int64_t sums[{c.nu}], int64_t inputs[{c.p}])",
+    )
+
+
+def source_lines(name, c):
+    program, (solve, first_inputs) = Program(c), heads(name, c)
+    yield from (f'#include "{name}.h"', "", f"typedef char {name}_shifts_round_down[((-INT64_C(3)) >> 1) == (-INT64_C(2)) ? 1 : -1];", "", solve, "{")
+    for i, (low, high) in enumerate(zip(c.lo, c.hi)):
+        yield f"    if (state[{i}] < {constant(low)[0]} || state[{i}] > {constant(high)[0]}) {{ return {i + 1}; }}"
+    yield from (f"    {line}" for line in program.before())
+    yield f"    for (int32_t step = 0; step < {c.steps}; step++) {{"
+    yield from (f"        {line}" for line in program.body())
+    yield "    }"
+    yield from (f"    sums[{j}] = (int64_t)s{j};" for j in range(c.nu))
+    yield from ("    return 0;", "}", "", first_inputs, "{")
+    yield from (f"    inputs[{j}] = {program.average(j)[0]};" for j in range(c.p))
+    yield "}"
+
+
+def header_lines(name, c):
+    solve, first_inputs = heads(name, c)
+    yield from (f"#ifndef {name}_H", f"#define {name}_H", "", "#include <stdint.h>", "")
+    sizes = {"STATES": c.n, "INPUTS": c.p, "STAGES": c.stages, "STEPS": c.steps, "BITS": c.f, "GRID": c.g}
+    yield from (f"#define {name}_{word} {number}" for word, number in sizes.items())
+    yield from ("", "#ifdef __cplusplus", 'extern "C" {', "#endif", "")
+    yield "/* From a state over 2^GRID: 0, and the sums of the plans of all steps; or the first number, from 1, outside the box, and nothing is written. */"
+    yield from (solve + ";", "", "/* From these sums: the averaged first inputs over 2^BITS, to the nearest, ties upward. */", first_inputs + ";")
+    yield from ("", "#ifdef __cplusplus", "}", "#endif", "", "#endif")
+
+
+def text(lines):
+    return "".join(line + "\n" for line in lines).encode()
+
+
+def texts_of(name, c):
+    """The source and the header."""
+    return text(source_lines(name, c)), text(header_lines(name, c))
