@@ -15,6 +15,7 @@ import subprocess
 import sys
 import tempfile
 
+import c_rows
 import lean_rows
 import limit_rows
 import listing_rows
@@ -28,7 +29,7 @@ VALGRIND = "--valgrind" in sys.argv[2:]
 AT_LIMITS = "--limits" in sys.argv[2:]
 ONLY = sys.argv[sys.argv.index("--only") + 1] if "--only" in sys.argv[2:-1] else None
 # where the words name the files that a command writes
-OUTPUTS = {"generate": (3, 4), "lean": (4, 5), "stay": (3, 4), "list": (2,), "split": (4, 5)}
+OUTPUTS = {"generate": (3, 4), "lean": (4, 5), "stay": (3, 4), "list": (2,), "split": (4, 5), "c": (3, 4)}
 
 
 def rows():
@@ -349,7 +350,7 @@ def wrong(words, files, status, out, line, whole, lines, output=None):
 
 def main():
     failed = count = 0
-    own = itertools.chain(rows(), fine_rows(), corner_rows(), version_rows(), second_rows(), lean_rows.rows(), stay_rows.rows(), listing_rows.rows(), split_rows.rows(),
+    own = itertools.chain(rows(), fine_rows(), corner_rows(), version_rows(), second_rows(), lean_rows.rows(), stay_rows.rows(), listing_rows.rows(), split_rows.rows(), c_rows.rows(),
                           limit_rows.rows() if AT_LIMITS else ())
     for name, row, output in itertools.chain(((name, row, None) for name, row in own), full_rows(), split_rows.full_rows()):
         words, files = row[0], row[1]

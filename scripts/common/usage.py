@@ -5,7 +5,7 @@ import re
 TOP = os.path.dirname(os.path.dirname(os.path.dirname(os.path.realpath(__file__))))
 LISTED = re.compile(r"  mpc ([a-z]+)((?: [A-Z]+)*)((?: \[[A-Z]+\])*)(?:  |$)")
 # what isn't the name of a file
-NUMBERS = ("NUMBER", "TURNS")
+NUMBERS = ("NUMBER", "TURNS", "NAME")
 # the commands of the launcher, in Python
 OWN = ("explain", "design")
 
