@@ -77,6 +77,13 @@ TEXTS = {
     "trap": "The run of {file} from state {entry} stops in repetition {step} at instruction {place}{instruction}: a value needs more bits than its words have. A listing that `list` wrote "
     "never does so from a state of its box: the listing was changed.",
     "trap-input": "State {entry}, shifted up, needs more bits than the words of {file} have. A listing that `list` wrote never does so from a state of its box: the listing was changed.",
+    "too-wide-c": "{file} is of a controller of {width} bits, and programs in C are of at most 64: `./mpc c {path} --name NAME --out FOLDER` writes it with tables, which is tested and not "
+    "proved. Larger targets make fewer bits.",
+    "moves": "In the box of {file} where no multiplier may move, that of row {row} of the controller may: {left} isn't below {right}. That box should be smaller.",
+    "unsettled": "After turn {turn} a loop from the start box of {file} may be as far as at {bound} over 2^grid in {name}: beyond the box where no multiplier moves, or at the last turn beyond "
+    "the box of rest. A smaller start box or more turns.",
+    "no-return": "After turn {turn} a loop from the box of rest of {file} may be as far as at {bound} over 2^grid in {name}: beyond the box where no multiplier moves, or at the last turn beyond "
+    "the box of rest itself. A larger box of rest, or more turns.",
     "no-text": "The argument {word} is no UTF-8 text, and the program reads no other: give the file another name.",
     "no-arguments": "The system gave the program no arguments: the machine may have no memory left.",
     "unbuilt": "The launcher could not build the program: crates/mpc_cli/build.log, or for generate crates/mpc_generate/build.log, has the reason.",
@@ -88,6 +95,8 @@ LEFT = {
     "listing": "Nothing stands in it, or the first part of the text.",
     "cells": "Nothing stands in it, or the first part of the text.",
     "reports": "The cells file stands whole.",
+    "source": "Nothing stands in it, or the first part of the text.",
+    "header": "The source file stands whole.",
     "output": "The lines before it were printed whole.",
 }
 
@@ -233,9 +242,11 @@ def usage(call: Call) -> str:
         return f"`{command}` takes {counts} arguments, {named}, and {len(words) - 1} were given."
     if command in COUNTS:
         return one_file_twice(call)
+    if command == "c":
+        return program_fault(call)
     if command == "list":
         return f"The listing file {call.path('listing')} is the controller file {call.path('controller')}: it needs a file of its own."
-    if command in ("solve", "play", "serve") or command == "loop" and number_of(words[4], MOST_TURNS):
+    if command in ("solve", "play", "serve", "settle") or command == "loop" and number_of(words[4], MOST_TURNS):
         return "Standard output is one of the files that are read: what is printed needs a file of its own."
     if command == "loop":
         return f"The turns `{words[4]}` are no number from 0 to 1000000 without sign or leading zero."
@@ -251,6 +262,17 @@ def one_file_twice(call: Call) -> str:
                 return f"The {output} file {call.path(output)} is the {kind} file {call.path(kind)}: each of the {count} needs a file of its own."
     first = "cells'" if call.command == "split" else "controller's"
     return f"The {first} or the report's name is that of another file of the {count}: each needs a file of its own."
+
+
+def program_fault(call: Call) -> str:
+    """What `c` is refused for: the name, or two files that are one."""
+    if not re.fullmatch("[a-z][a-z0-9_]{0,30}", call.words[2]):
+        return f"`{call.words[2]}` is no name of a program: a small letter and up to 30 small letters, digits and _ are one."
+    for output, others in (("source", ["controller"]), ("header", ["controller", "source"])):
+        for kind in others:
+            if same(call.path(output), call.path(kind)) or call.path(output) == call.path(kind):
+                return f"The {output} file {call.path(output)} is the {kind} file {call.path(kind)}: it needs a file of its own."
+    return "The source's or the header's name is that of another file: each needs a file of its own."
 
 
 def without_arguments(call: Call) -> str:
@@ -635,6 +657,20 @@ def no_stay(call: Call, entry: int, bound: int) -> str:
     return TEXTS["no-stay"].format(entry=entry, file=call.named(5), face=face, bound=bound, end=end)
 
 
+def too_wide_for_c(call: Call, width: int) -> str:
+    return TEXTS["too-wide-c"].format(file=call.named(1), path=call.path("controller"), width=width)
+
+
+def moves(call: Call, row: int, left: int, right: int) -> str:
+    return TEXTS["moves"].format(file=call.named(3), row=row, left=left, right=right)
+
+
+def beyond(call: Call, name: str, turn: int, coordinate: int, bound: int) -> str:
+    """Statuses 24 and 25: how far a loop may go."""
+    design = call.design()
+    return TEXTS[name].format(file=call.named(3), turn=turn, name=design.name("state", coordinate).word if design else f"x{coordinate}", bound=bound)
+
+
 def explanation(status: int, line: str, words: list[str]) -> str:
     """The sentences for a status, the program's line and its words; empty where there is nothing to say."""
     call, fields = Call(words), line.split()
@@ -666,9 +702,11 @@ def explanation(status: int, line: str, words: list[str]) -> str:
         return TEXTS[name].format(field=rest[0] if rest[0] != "grid" else "grid bits", design=rest[1], controller=rest[2])
     if name == "outside-box" and call.command == "serve":
         return outside_cells(call, numbers[0], numbers[2])
+    if name in ("unsettled", "no-return"):
+        return beyond(call, name, *numbers)
     if name == "cell":
         return cell_refused(call, numbers[0], rest[1], rest[2:])
-    fill = {"listing": listing_fault, "trap": trap, "outside-box": outside_box, "unequal": unequal, "no-stay": no_stay}
+    fill = {"listing": listing_fault, "trap": trap, "outside-box": outside_box, "unequal": unequal, "no-stay": no_stay, "too-wide-c": too_wide_for_c, "moves": moves}
     return fill[name](call, *numbers) if name in fill else refused(call, name, rest)
 
 
@@ -708,6 +746,10 @@ STATUSES = [
     (18, "cell CELL NAME ..", ["cell"]),
     (20, "listing FILE LINE", ["listing"]),
     (21, "trap ENTRY STEP PLACE", ["trap", "trap-input"]),
+    (22, "too-wide-c WIDTH", ["too-wide-c"]),
+    (23, "moves ROW LEFT RIGHT", ["moves"]),
+    (24, "unsettled TURN COORDINATE BOUND", ["unsettled"]),
+    (25, "no-return TURN COORDINATE BOUND", ["no-return"]),
     (98, "", ["unbuilt"]),
     (99, "", ["no-text", "no-arguments"]),
 ]

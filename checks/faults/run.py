@@ -36,10 +36,10 @@ MEMORY = b"error 1 memory\n"
 SHOWN = 20
 # with --short, each so many bytes
 SHORT_STEP = 211
-OLD = {"c": b"an old controller\n", "r": b"an old report\n", "r.json": b"an old report\n", "l": b"an old listing\n"}
+OLD = {"c": b"an old controller\n", "r": b"an old report\n", "r.json": b"an old report\n", "l": b"an old listing\n", "t": b"an old source\n", "h": b"an old header\n"}
 # where the words name what is read
 READS = {"generate": (1, 2), "lean": (1, 2, 3, 6, 7), "stay": (1, 2, 5, 6), "solve": (1, 2), "loop": (1, 2, 3, 5), "demo": (), "list": (1,), "play": (1, 2),
-         "split": (1, 2, 3), "serve": (1, 2), "settle": (1, 2, 3, 4)}
+         "split": (1, 2, 3), "serve": (1, 2), "settle": (1, 2, 3, 4), "c": (1,)}
 
 
 def example(name, file):
@@ -180,6 +180,8 @@ def all_commands(executable):
     yield Command(executable, "settle, a loop that isn't back", [*settle, "w"], {**SETTLED, "f": b"1,0,0\n0,-31,32\n1,-1,1\n"})
     yield Command(executable, "list", ["list", "k", "l"], FIRST)
     yield Command(executable, "list, version 2", ["list", "k", "l"], {**FIRST, "k": SECOND_CONTROLLER})
+    yield Command(executable, "c", ["c", "k", "motor", "t", "h"], FIRST)
+    yield Command(executable, "c, version 2", ["c", "k", "motor", "t", "h"], {**FIRST, "k": SECOND_CONTROLLER})
     split, first = ["split", "d", "l", "p", "c", "r"], control.read_controller(FIRST["k"])
     yield Command(executable, "split", split, CUT)
     yield Command(executable, "split, version 2", split, CUT_TWICE)

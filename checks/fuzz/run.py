@@ -52,7 +52,7 @@ import split_boxes
 import split_cases
 
 KINDS = ["generate"] * 22 + ["lean"] * 12 + ["border"] * 4 + ["stay"] * 14 + ["lean_stay"] * 6 + ["solve"] * 26 + ["controller"] * 18 + ["loop"] * 22 + ["list"] * 6 + ["play"] * 16
-KINDS += ["split"] * 12 + ["serve"] * 16 + ["usage"] * 4
+KINDS += ["split"] * 12 + ["serve"] * 16 + ["c"] * 8 + ["usage"] * 4
 KINDS += ["settle"] * 14
 DEMO_EVERY = 2500
 # the most products that the model makes in a case, and the most in a run whose every value it traces
@@ -98,7 +98,7 @@ class Maker:
         if self.kind == "lean_stay" and number < len(self.held):
             return self.lean_stay_case(pick, "r", self.held[number])
         made = getattr(self, kind)(pick)
-        if kind in ("generate", "lean", "stay", "lean_stay", "solve", "loop", "list", "play", "split", "serve") and pick.random() < 0.03:
+        if kind in ("generate", "lean", "stay", "lean_stay", "solve", "loop", "list", "play", "split", "serve", "c") and pick.random() < 0.03:
             self.rename(pick, made)
         return made
 
@@ -194,6 +194,12 @@ class Maker:
             files["l"] = b"an old listing\n" * pick.choice([1, 1000])
         return Case("list", ["list", "c", "l"], files)
 
+    def c(self, pick):
+        text = listing_cases.controller(pick, self.texts)[1]
+        name = pick.choice(["motor", "a", "x_1", "abcdefghijklmnopqrstuvwxyz_1234"] * 4 + ["", "1a", "_a", "A", "a-b", "a.c", "abcdefghijklmnopqrstuvwxyz_12345"])
+        files = {"c": cases.changed(pick, text) if pick.random() < 0.3 else text, **{old: b"an old text\n" for old in "th" if pick.random() < 0.2}}
+        return Case("c", ["c", "c", name, "t", "h"], files)
+
     def play(self, pick):
         text, states, of = listing_cases.listing_texts(pick, self.texts, MOST_PLAYED)
         files = {"l": text, "s": states, **({"c": of} if of else {})}
@@ -215,7 +221,7 @@ class Maker:
         text = self.controllers[0][1]
         words = pick.choice([["generate", "d", "p", "c", "r"], ["solve", "c", "s"], ["loop", "d", "c", "s", "1"], ["demo", "1"], ["lean", "d", "p", "p2", "c", "r"], ["lean", "d", "p", "p2", "c", "r", "f", "w"], ["stay", "d", "p", "c", "r", "f"],
                              ["stay", "d", "p", "c", "r", "f", "w"], ["loop", "d", "c", "s", "1", "w"], ["list", "c", "l"], ["play", "l", "s"], ["split", "d", "t", "b", "c", "r"],
-                             ["serve", "e", "s"], []])
+                             ["serve", "e", "s"], ["c", "c", "n", "t", "h"], []])
         words = list(words)
         how = pick.randrange(4)
         if how == 0 and words:

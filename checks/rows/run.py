@@ -16,6 +16,7 @@ import sys
 import tempfile
 
 sys.path.insert(0, os.path.join(os.path.dirname(os.path.abspath(__file__)), "..", "fuzz"))
+import c_rows
 import lean_rows
 import limit_rows
 import listing_rows
@@ -349,7 +350,7 @@ def wrong(words, files, status, out, line, whole, lines, output=None):
 
 def main():
     failed = count = 0
-    own = itertools.chain(rows(), fine_rows(), corner_rows(), version_rows(), second_rows(), lean_rows.rows(), stay_rows.rows(), listing_rows.rows(), split_rows.rows(),
+    own = itertools.chain(rows(), fine_rows(), corner_rows(), version_rows(), second_rows(), lean_rows.rows(), stay_rows.rows(), listing_rows.rows(), split_rows.rows(), c_rows.rows(),
                           limit_rows.rows() if AT_LIMITS else ())
     for name, row, output in itertools.chain(((name, row, None) for name, row in own), full_rows(), split_rows.full_rows()):
         words, files = row[0], row[1]

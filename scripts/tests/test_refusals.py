@@ -343,6 +343,19 @@ class Explained(unittest.TestCase):
         self.assertIn("is in no cell of", told)
         self.assertIn("outside the first one's box in coordinate x1 (7, and it is 0 to 1)", told)
 
+    def test_program(self):
+        """Of `c`: what its name and its files are, and the width of the controller."""
+        self.assertIn("`Motor` is no name of a program", refusals.explanation(2, "error 2 usage", ["c", "k", "Motor", "t", "h"]))
+        self.assertIn("The header file t is the source file t", refusals.explanation(2, "error 2 usage", ["c", "k", "motor", "t", "t"]))
+        self.assertIn("is of a controller of 78 bits", refusals.explanation(22, "error 22 too-wide-c 78", ["c", "k", "motor", "t", "h"]))
+        self.assertIn("The source file stands whole", refusals.explanation(4, "error 4 write-fault 4", ["c", "k", "motor", "t", "h"]))
+
+    def test_settling(self):
+        words = ["settle", "d", "c", "z"]
+        self.assertIn("that of row 2 of the controller may: 7 isn't below 5", refusals.explanation(23, "error 23 moves 2 7 5", words))
+        self.assertIn("After turn 3 a loop from the start box of the certificate file z may be as far as at -9 over 2^grid in x1", refusals.explanation(24, "error 24 unsettled 3 1 -9", words))
+        self.assertIn("the box of rest itself", refusals.explanation(25, "error 25 no-return 3 1 -9", words))
+
     def test_no_line(self):
         self.assertEqual(refusals.explanation(12, "", ["solve", "c", "s"]), "")
 
@@ -513,6 +526,11 @@ mkdir -p crates/mpc_generate/out; printf '#!/bin/bash\necho built\n' >crates/mpc
             ("split d p s c ./p", "The report file ./p is the cuts file p"),
             ("split d p s here/s r", "The cells file here/s is the policies file s"),
             ("split d p s new ./new", "The report file ./new is the cells file new"),
+            ("c d d ./d h", "The source file ./d is the controller file d"),
+            ("c p motor t hard", "The header file hard is the controller file p"),
+            ("c d motor new ./new", "The header file ./new is the source file new"),
+            ("settle d p s >> s", "Standard output is one of the files that are read"),
+            ("settle d p c s >> s", "Standard output is one of the files that are read"),
             ("serve c s >> s", "Standard output is one of the files that are read"),
             ("solve c s >> s", "Standard output is one of the files that are read"),
             ("loop d c s 3 >> ./here/s", "Standard output is one of the files that are read"),
@@ -521,8 +539,15 @@ mkdir -p crates/mpc_generate/out; printf '#!/bin/bash\necho built\n' >crates/mpc
             self.assertEqual((got.returncode, got.stdout, got.stderr.split("\n")[0]), (2, "", "error 2 usage"), words)
             self.assertIn(told, got.stderr)
         self.assertEqual(self.run_in(folder, "cat d p s").stdout, "dps")
-        for words in ("generate d p c r", "generate d p /dev/null /dev/null", "solve c s > out", "loop d c s 3 | cat"):
+        for words in ("generate d p c r", "c d d t h", "generate d p /dev/null /dev/null", "solve c s > out", "loop d c s 3 | cat"):
             self.assertEqual(self.run_in(folder, "./mpc " + words + " && cat out 2>/dev/null; true").stderr, "", words)
+
+    def test_tables_are_the_script_s(self):
+        """`c` with an option is the script's, which needs no program; without one it is the program's."""
+        folder = self.folder('echo "$# $1"')
+        self.assertIn("there is no such folder", self.run_in(folder, "./mpc c k --name motor --out none").stderr)
+        self.assertEqual(self.run_in(folder, "./mpc c k motor t h").stdout, "5 c\n")
+        self.assertEqual(self.run_in(folder, "./mpc c --help").stdout.split("\n")[0], "  mpc c CONTROLLER NAME SOURCE HEADER")
 
     CALLS = [
         (words, told)
@@ -538,6 +563,8 @@ mkdir -p crates/mpc_generate/out; printf '#!/bin/bash\necho built\n' >crates/mpc
             ("loop d c s 3 w w", "`loop` takes 4 or 5 arguments"),
             ("lean d p q c", "`lean` takes 5, 6 or 7 arguments"),
             ("stay d p c r f w w", "`stay` takes 5 or 6 arguments"),
+            ("c c motor t", "`c` takes 4 arguments, CONTROLLER NAME SOURCE HEADER, and 3 were given"),
+            ("settle d c", "`settle` takes 3 or 4 arguments"),
         )
     ]
 
@@ -551,7 +578,7 @@ mkdir -p crates/mpc_generate/out; printf '#!/bin/bash\necho built\n' >crates/mpc
             self.assertEqual((got.returncode, got.stdout, got.stderr.split("\n")[0]), (2, "", "error 2 usage"), words)
             self.assertIn(told, got.stderr.split("\n")[1])
             self.assertFalse(os.path.exists(os.path.join(folder, "crates/mpc_cli/build.log")), words)
-        for words in ("demo 7", "solve c s", "loop d c s 3 w", "lean d p q c r f w", "stay d p c r f", "serve c s"):
+        for words in ("demo 7", "solve c s", "loop d c s 3 w", "lean d p q c r f w", "stay d p c r f", "serve c s", "c c motor t h", "settle d c z w"):
             self.assertEqual(self.run_in(folder, "PATH=$PWD/bin:$PATH ./mpc " + words).returncode, 98, words)
 
     @unittest.skipUnless(os.path.exists(os.path.join(TOP, "crates/mpc_cli/out/mpc_cli")), "missing: the program, which ./mpc builds")
@@ -696,6 +723,9 @@ mkdir -p crates/mpc_generate/out; printf '#!/bin/bash\necho built\n' >crates/mpc
     def test_usage_stands_once(self):
         self.assertEqual(usage.files_of("loop"), ["design", "controller", "states", "disturbances"])
         self.assertEqual(usage.places_of("loop"), ["design", "controller", "states", "turns", "disturbances"])
+        self.assertEqual(usage.places_of("c"), ["controller", "name", "source", "header"])
+        self.assertEqual(usage.files_of("c"), ["controller", "source", "header"])
+        self.assertEqual(usage.files_of("settle"), ["design", "controller", "certificate", "disturbances"])
         self.assertEqual(usage.files_of("lean"), ["design", "policy", "reference", "controller", "report", "faces", "disturbances"])
         self.assertEqual(usage.files_of("stay"), ["design", "policy", "controller", "report", "faces", "disturbances"])
 

@@ -3,7 +3,7 @@ ghost use Rattle.std.specs.Prelude.{◌≡◌, ◌≢◌, ◌⊎◌, ◌↔◌, 
 ghost use Rattle.io_edge.specs.Faults.{Rose, NoneFalls};
 ghost use Rattle.number_text.specs.declared.text_fault.TextFault.TheVariants.{Memory as no_room};
 ghost use Rattle.controller_text.specs.declared.bad_controller.BadController.TheVariants.{Memory as no_space};
-ghost use Rattle.command_line.specs.Words.{word_of, IsGenerate, IsStay, IsPlay, IsLean, IsLeanStay, IsSplit, IsServe};
+ghost use Rattle.command_line.specs.Words.{word_of, IsGenerate, IsStay, IsPlay, IsLean, IsLeanStay, IsSplit, IsServe, IsC};
 ghost use Rattle.command_line.specs.Commands.{AreOf, IsUsage};
 ghost use Rattle.command_line.specs.Answers.{ForContents, IsAnswer, IsCaused};
 ghost use Rattle.command_line.specs.Does.{Does};
@@ -15,8 +15,10 @@ ghost use Rattle.command_lean.specs.Lean.{IsLeanWritten};
 ghost use Rattle.command_lean_stay.specs.LeanStay.{IsLeanStayed};
 ghost use Rattle.command_split.specs.Split.{IsSplitWritten};
 ghost use Rattle.command_serve.specs.Held.{ServesHeld};
+ghost use Rattle.command_c.specs.Compiled.{IsCompiled};
 ghost use Rattle.command_run.specs.Table.{deeds_of};
 
+use command_c::write_c;
 use command_demo::demo;
 use command_generate::generate;
 use command_lean::lean;
@@ -55,6 +57,7 @@ fn answer<S: Store, O: Sink>(
         Command::LeanStay { disturbed } => lean_stay(alloc, words, disturbed, store),
         Command::Split => split(alloc, words, store),
         Command::Serve => serve(alloc, words, store, out),
+        Command::C => write_c(alloc, words, store),
     }
 }
 
@@ -71,7 +74,8 @@ fn answer<S: Store, O: Sink>(
 /// fewest steps that the reference plans show to be enough; with a file of faces, and one of a range of disturbances or none, where these show that the
 /// closed loop stays in the box. `split`, a design file, a file of cuts, a file of policies, a file of cells and a report file: does what `generate` does
 /// for each cell of the design's box that the cuts make. `serve`, a file of cells and a states file: prints a line for each state, the averaged plan of
-/// the first cell's controller whose box holds it.
+/// the first cell's controller whose box holds it. `c`, a controller file, a name, a source file and a header file: writes the controller's program in C,
+/// whose functions have that name.
 pub fn run<S: Store, O: Sink>(alloc: Global, words: &Words, store: &mut S, out: &mut O) -> Status
     // Where `generate` answers `Done`, the controller's file holds the text of one controller and the report's file the report of its bounds, both
     // built of the design and the policy in the files. Run from any grid state of the box, the controller keeps every product and partial sum
@@ -108,6 +112,12 @@ pub fn run<S: Store, O: Sink>(alloc: Global, words: &Words, store: &mut S, out: 
     // value of the runs leaves the controller's width, and the output gets the bytes that `solve` prints of the controller and these states: the lines of
     // its averaged plans.
     ensures played { IsPlay words.now → PlaysAsSolved words.now (S.held store.old) result (O.got out.old) (O.got out.new) }
+
+    // Where `c` answers `Done`, its third file holds the source of the program of the controller in the first, and its fourth the header, with the name that the
+    // second word is. Run from any grid state of the box, C defines each statement of the program; it answers 0, and puts out the numerators of the averaged plan,
+    // which `solve` prints, and of these the averaged first inputs. From any other state it answers the first coordinate outside the box, and puts out nothing.
+    ensures compiled { IsC words.now → result ≡ Status.Done
+        → IfSome (S.held store.old) (λ files. IsSomeAnd (S.held store.new) (IsCompiled words.now files)) }
 
     // `Usage` is the answer exactly where the arguments are those of no command, and then nothing is used.
     ensures usage { (result ≡ Status.Usage) ↔ IsUsage words.now }

@@ -1,10 +1,11 @@
 // The text of a worked controller's program, line by line.
 use c_program::{write_header, write_program};
-use std::alloc::Global;
+use std::alloc::{AllocError, Global};
 use std::test::Fail;
 use trials_worked_controllers::controller;
 
-static LINES: [&str; 42] = [
+/// The lines of the worked source.
+pub static LINES: [&str; 42] = [
     "#include \"first.h\"",
     "",
     "typedef char first_shifts_round_down[((-INT64_C(3)) >> 1) == (-INT64_C(2)) ? 1 : -1];",
@@ -49,7 +50,8 @@ static LINES: [&str; 42] = [
     "}",
 ];
 
-static HEADER: [&str; 27] = [
+/// The lines of its header.
+pub static HEADER: [&str; 27] = [
     "#ifndef first_H",
     "#define first_H",
     "",
@@ -79,13 +81,19 @@ static HEADER: [&str; 27] = [
     "#endif",
 ];
 
-// Whether a text has these lines.
-fn has_lines(alloc: Global, text: &str, lines: &[&str]) -> Result<bool, Fail> {
+/// The text of these lines.
+pub fn text_of(alloc: Global, lines: &[&str]) -> Result<String, AllocError> {
     let mut whole = String::new(alloc);
     for line in lines {
         whole.push_str(line)?;
         whole.push_str("\n")?;
     }
+    Ok(whole)
+}
+
+// Whether a text has these lines.
+fn has_lines(alloc: Global, text: &str, lines: &[&str]) -> Result<bool, AllocError> {
+    let whole = text_of(alloc, lines)?;
     Ok(whole.as_str() == text)
 }
 

@@ -12,6 +12,7 @@ use Rattle.command_stay.specs.Deeds.{stay_deeds}
 use Rattle.command_lean.specs.Deeds.{lean_deeds}
 use Rattle.command_lean_stay.specs.Deeds.{lean_stay_deeds}
 use Rattle.command_split.specs.Deeds.{split_deeds}
+use Rattle.command_c.specs.Deeds.{compile_deeds}
 use Rattle.command_run.proofs.command.answer.Goals as goal
 
 -- ---- those that have no output
@@ -44,6 +45,11 @@ pub returns-in-Split : goal.returns-in-Split
 returns-in-Split g c =
     rw c.in-Split.is
     (beside_output g.S.Store g.O.Sink c.args.words.now split_deeds (λ never. never) (λ contents s old. refl) c.args.store.now c.split.new.store c.args.out.now c.split.result c.split.ensures)
+
+pub returns-in-C : goal.returns-in-C
+returns-in-C g c =
+    rw c.in-C.is
+    (beside_output g.S.Store g.O.Sink c.args.words.now compile_deeds (λ never. never) (λ contents s old. refl) c.args.store.now c.write_c.new.store c.args.out.now c.write_c.result c.write_c.ensures)
 
 -- ---- `demo`, which uses no file
 pub returns-in-Demo : goal.returns-in-Demo
