@@ -1,5 +1,5 @@
 -- The texts of a program: a C99 source with two functions, one statement a line, and its header.
-use Rattle.std.specs.Prelude.{ℕ, zero, suc, ◌≤◌, ◌⊎◌, ◌≡◌, ℤ, pos, negsuc, List, [], ◌∷◌, ◌++◌, length, map, codes, decimal, slice_index_or, All}
+use Rattle.std.specs.Prelude.{ℕ, zero, suc, ℤ, pos, negsuc, List, [], ◌∷◌, ◌++◌, length, map, codes, decimal, slice_index_or}
 use Rattle.integer_algebra.specs.Sums.{at}
 use Rattle.number_text.specs.Lines.{text_of}
 use Rattle.qp_model.specs.machine.Controller.{Numbers}
@@ -142,16 +142,3 @@ function_lines name p =
 
 abbrev pub header_text : List ℕ → Numbers → CProgram → List ℕ
 header_text name c p = text_of (guard_lines name ++ size_lines name c ++ function_lines name p)
-
--- ---- names
--- a lower-case letter, then such letters, digits and `_`, of at most 31 bytes in all
-abbrev pub IsLetter : ℕ → Type 0
-IsLetter b = (97 ≤ b) × (b ≤ 122)
-
-abbrev pub IsNameByte : ℕ → Type 0
-IsNameByte b = IsLetter b ⊎ (((48 ≤ b) × (b ≤ 57)) ⊎ (b ≡ 95))
-
-pub record IsName (name : List ℕ) : Type 0 where
-  pub first : IsLetter (slice_index_or name 0 0)
-  pub each : All IsNameByte name
-  pub short : length name ≤ 31

@@ -6,7 +6,6 @@ mod ending;
 mod header;
 mod laws;
 mod lines;
-mod name;
 mod opposite;
 mod plan;
 mod rows;
@@ -18,5 +17,4 @@ mod writer;
 
 pub use header::write_header;
 pub use laws::{expression_text_law, program_law, statement_text_law, worked_lines};
-pub use name::is_name;
 pub use writer::write_program;

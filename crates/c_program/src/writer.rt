@@ -199,7 +199,7 @@ fn push_program(
     Ok(())
 }
 
-/// The text of the program of a controller of at most 64 bits, whose function has this name. The text is C where the name is one (`IsName`).
+/// The text of the program of a controller of at most 64 bits, whose functions have this name. The text is C where the name is an identifier.
 pub fn write_program(alloc: Global, c: &Controller, name: &str) -> Result<String, AllocError>
     requires { c.now.width ≤ 64 }
     ensures { IfOk result (λ text. string_bytes text ≡ program_text name.now (program_of c.now)) }

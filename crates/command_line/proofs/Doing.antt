@@ -10,7 +10,7 @@ use Rattle.command_line.specs.Deeds.{Deeds, IsCalledFor, UsesNoFile, IsUnwritten
 use Rattle.command_line.specs.Does.{IsTelling, Does, DoesInStore}
 use Rattle.command_line.proofs.Composing.{some_contents}
 use Rattle.command_line.specs.declared.status.Status.{Status}
-use Rattle.command_line.specs.declared.status.Status.TheVariants.{Done, Memory, Usage, ReadFault, WriteFault, Text, Refused, Controller, OutsideBox, Long, Mismatch, Unequal, NoStay, Cell, Listing, Trap}
+use Rattle.command_line.specs.declared.status.Status.TheVariants.{Done, Memory, Usage, ReadFault, WriteFault, Text, Refused, Controller, OutsideBox, Long, Mismatch, Unequal, NoStay, Cell, Listing, Trap, TooWideForC, Moves, Unsettled, NoReturn}
 
 -- ---- what an answer is
 pub data Cause : Status → Type 0 where
@@ -36,6 +36,10 @@ cause (NoStay entry bound) = caused (NoStay entry bound) (record { memory = λ e
 cause (Cell cell refusal) = caused (Cell cell refusal) (record { memory = λ e. cc; read = λ file e. cc; write = λ file e. cc })
 cause (Listing file line) = caused (Listing file line) (record { memory = λ e. cc; read = λ at e. cc; write = λ at e. cc })
 cause (Trap entry step place) = caused (Trap entry step place) (record { memory = λ e. cc; read = λ file e. cc; write = λ file e. cc })
+cause (TooWideForC width) = caused (TooWideForC width) (record { memory = λ e. cc; read = λ file e. cc; write = λ file e. cc })
+cause (Moves row left right) = caused (Moves row left right) (record { memory = λ e. cc; read = λ file e. cc; write = λ file e. cc })
+cause (Unsettled turn coordinate bound) = caused (Unsettled turn coordinate bound) (record { memory = λ e. cc; read = λ file e. cc; write = λ file e. cc })
+cause (NoReturn turn coordinate bound) = caused (NoReturn turn coordinate bound) (record { memory = λ e. cc; read = λ file e. cc; write = λ file e. cc })
 
 -- ---- what tells
 pub done_telling : (s : Status) → s ≡ Done → IsTelling s

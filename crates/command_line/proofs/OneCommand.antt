@@ -1,4 +1,5 @@
--- The arguments are those of one command at most, with one number. The first two letters of a command's name and the number of the arguments tell it.
+-- The arguments are those of one command at most, with one number. The first two letters of a command's name, of which `c` has one, and the number of
+-- the arguments tell it.
 use Rattle.std.proofs.Common.{◌≡◌, ℕ, Bool, ◌+◌, ◌*◌, ◌^◌, ◌<◌, pos, List, ◌∷◌, length, true, false, refl, ap, sym, ◌∙◌, subst, arith}
 use Rattle.std.specs.Prelude.{codes, nat_eq, if◌then◌else◌}
 use Rattle.std.proofs.lemmas.Fmt.{signed_decimal_injective}
@@ -20,6 +21,8 @@ data Kind : Type 0 where
   keeping : Bool → Kind
   splitting : Kind
   serving : Kind
+  compiling : Kind
+  settling : Bool → Kind
 
 abbrev kind : Command → Kind
 kind commands.Generate = making
@@ -33,6 +36,8 @@ kind commands.Lean = leaning
 kind (commands.LeanStay disturbed) = keeping disturbed
 kind commands.Split = splitting
 kind commands.Serve = serving
+kind commands.C = compiling
+kind (commands.Settle disturbed) = settling disturbed
 
 abbrev count_in : Command → ℕ
 count_in (commands.Loop turns disturbed) = turns
@@ -51,6 +56,8 @@ of_kind leaning n = commands.Lean
 of_kind (keeping disturbed) n = commands.LeanStay disturbed
 of_kind splitting n = commands.Split
 of_kind serving n = commands.Serve
+of_kind compiling n = commands.C
+of_kind (settling disturbed) n = commands.Settle disturbed
 
 rebuilt : (command : Command) → of_kind (kind command) (count_in command) ≡ command
 rebuilt commands.Generate = refl
@@ -64,6 +71,8 @@ rebuilt commands.Lean = refl
 rebuilt (commands.LeanStay disturbed) = refl
 rebuilt commands.Split = refl
 rebuilt commands.Serve = refl
+rebuilt commands.C = refl
+rebuilt (commands.Settle disturbed) = refl
 
 -- ---- the name and the number of arguments tell the kind
 abbrev mark : List ℕ → ℕ
@@ -74,13 +83,17 @@ mark letters = 0
 abbrev lean_kind : ℕ → Kind
 lean_kind count = if nat_eq count 6 then leaning else keeping (nat_eq count 8)
 
+-- a command whose name begins as `serve` does, by how many arguments there are
+abbrev serve_kind : ℕ → Kind
+serve_kind count = if nat_eq count 3 then serving else settling (nat_eq count 5)
+
 abbrev kind_marked : ℕ → ℕ → Kind
 kind_marked m count =
     if nat_eq m (mark (codes "generate")) then making else (if nat_eq m (mark (codes "solve")) then solving else
     (if nat_eq m (mark (codes "loop")) then looping (nat_eq count 6) else (if nat_eq m (mark (codes "list")) then listing else
     (if nat_eq m (mark (codes "stay")) then staying (nat_eq count 7) else (if nat_eq m (mark (codes "play")) then playing else
     (if nat_eq m (mark (codes "lean")) then lean_kind count else (if nat_eq m (mark (codes "split")) then splitting else
-    (if nat_eq m (mark (codes "serve")) then serving else showing))))))))
+    (if nat_eq m (mark (codes "serve")) then serve_kind count else (if nat_eq m (mark (codes "c")) then compiling else showing)))))))))
 
 -- arguments with this name, so many, are of this kind
 of_name : (words : List (List ℕ)) (name : List ℕ) (count : ℕ) → word_of words 0 ≡ name → length words ≡ count →
@@ -102,6 +115,9 @@ named (commands.LeanStay true) words is = of_name words (codes "lean") 8 is.comm
 named (commands.LeanStay false) words is = of_name words (codes "lean") 7 is.command is.count
 named commands.Split words is = of_name words (codes "split") 6 is.command is.count
 named commands.Serve words is = of_name words (codes "serve") 3 is.command is.count
+named commands.C words is = of_name words (codes "c") 5 is.command is.count
+named (commands.Settle true) words is = of_name words (codes "settle") 5 is.command is.count
+named (commands.Settle false) words is = of_name words (codes "settle") 4 is.command is.count
 
 -- ---- a word tells the number
 abbrev IsNumber : Kind → List (List ℕ) → ℕ → Type 0
@@ -121,6 +137,8 @@ counted commands.Lean words is = refl
 counted (commands.LeanStay disturbed) words is = refl
 counted commands.Split words is = refl
 counted commands.Serve words is = refl
+counted commands.C words is = refl
+counted (commands.Settle disturbed) words is = refl
 
 one_count : (most : ℕ) (word : List ℕ) (a b : ℕ) → most < 2 ^ 63 → IsCount most word a → IsCount most word b → a ≡ b
 one_count most word a b small x y =
@@ -139,6 +157,8 @@ one_number leaning words a b x y = x ∙ sym y
 one_number (keeping disturbed) words a b x y = x ∙ sym y
 one_number splitting words a b x y = x ∙ sym y
 one_number serving words a b x y = x ∙ sym y
+one_number compiling words a b x y = x ∙ sym y
+one_number (settling disturbed) words a b x y = x ∙ sym y
 
 -- ---- so the arguments tell the command
 pub one_command : (words : List (List ℕ)) (command other : Command) → AreOf command words → AreOf other words → command ≡ other

@@ -1,8 +1,8 @@
 -- Which command the arguments are those of.
-use Rattle.std.specs.Prelude.{◌≡◌, ℕ, List}
-use Rattle.command_line.specs.Words.{IsSolve, IsGenerate, IsLoop, IsDemo, IsList, IsStay, IsPlay, IsLean, IsLeanStay, IsSplit, IsServe}
+use Rattle.std.specs.Prelude.{◌≡◌, ℕ, List, Bool}
+use Rattle.command_line.specs.Words.{IsSolve, IsGenerate, IsLoop, IsDemo, IsList, IsStay, IsPlay, IsLean, IsLeanStay, IsSplit, IsServe, IsC, IsSettle}
 use Rattle.command_line.specs.declared.words.Command.{Command}
-use Rattle.command_line.specs.declared.words.Command.TheVariants.{Generate, Solve, Loop, Demo, List as Listing, Stay, Play, Lean, LeanStay, Split, Serve}
+use Rattle.command_line.specs.declared.words.Command.TheVariants.{Generate, Solve, Loop, Demo, List as Listing, Stay, Play, Lean, LeanStay, Split, Serve, C, Settle}
 
 -- the arguments are those of this command
 abbrev pub AreOf : Command → List (List ℕ) → Type 0
@@ -17,9 +17,21 @@ AreOf Lean words = IsLean words
 AreOf (LeanStay disturbed) words = IsLeanStay words disturbed
 AreOf Split words = IsSplit words
 AreOf Serve words = IsServe words
+AreOf C words = IsC words
+AreOf (Settle disturbed) words = IsSettle words disturbed
 
--- The arguments are those of no command: there is none, the first is no command's, there are too many or too few, a name that is written is another's, or a
--- number is none or out of its range.
+-- the arguments are those of no command that writes files
+pub record IsNoWriter (words : List (List ℕ)) : Type 0 where
+  pub generate : ¬ IsGenerate words
+  pub list : ¬ IsList words
+  pub stay : (disturbed : Bool) → ¬ IsStay words disturbed
+  pub lean : ¬ IsLean words
+  pub lean_stay : (disturbed : Bool) → ¬ IsLeanStay words disturbed
+  pub split : ¬ IsSplit words
+  pub c : ¬ IsC words
+
+-- The arguments are those of no command: there is none, the first is no command's, there are too many or too few, a name that is written is another's, a
+-- number is none or out of its range, or a program can't have its name.
 abbrev pub IsUsage : List (List ℕ) → Type 0
 IsUsage words = (command : Command) → ¬ AreOf command words
 

@@ -1,3 +1,4 @@
+pub mod ProgramName
 pub mod Words
 pub mod Commands
 pub mod Limit

@@ -1,7 +1,7 @@
 -- The exit status of each answer.
 use Rattle.std.specs.Prelude.{ℕ}
 use Rattle.command_line.specs.declared.status.Status.{Status}
-use Rattle.command_line.specs.declared.status.Status.TheVariants.{Done, Memory, Usage, ReadFault, WriteFault, Text, Refused, Controller, OutsideBox, Long, Mismatch, Unequal, NoStay, Cell, Listing, Trap}
+use Rattle.command_line.specs.declared.status.Status.TheVariants.{Done, Memory, Usage, ReadFault, WriteFault, Text, Refused, Controller, OutsideBox, Long, Mismatch, Unequal, NoStay, Cell, Listing, Trap, TooWideForC, Moves, Unsettled, NoReturn}
 use Rattle.qp_model.specs.declared.refusal.Refusal.{Refusal}
 use Rattle.qp_model.specs.declared.refusal.Refusal.TheVariants as refusals
 
@@ -36,3 +36,7 @@ status_number (NoStay entry bound) = 17
 status_number (Cell cell refusal) = 18
 status_number (Listing file line) = 20
 status_number (Trap entry step place) = 21
+status_number (TooWideForC width) = 22
+status_number (Moves row left right) = 23
+status_number (Unsettled turn coordinate bound) = 24
+status_number (NoReturn turn coordinate bound) = 25

@@ -9,7 +9,7 @@ use Rattle.controller_text.specs.declared.bad_controller.BadController.{BadContr
 use Rattle.controller_text.specs.declared.bad_controller.BadController.TheVariants.{Line, Unsafe, Memory as NoSpace}
 use Rattle.command_line.specs.Status.{status_number}
 use Rattle.command_line.specs.declared.status.Status.{Status}
-use Rattle.command_line.specs.declared.status.Status.TheVariants.{Done, Memory, Usage, ReadFault, WriteFault, Text, Refused, Controller, OutsideBox, Long, Mismatch, Unequal, NoStay, Cell, Listing, Trap}
+use Rattle.command_line.specs.declared.status.Status.TheVariants.{Done, Memory, Usage, ReadFault, WriteFault, Text, Refused, Controller, OutsideBox, Long, Mismatch, Unequal, NoStay, Cell, Listing, Trap, TooWideForC, Moves, Unsettled, NoReturn}
 use Rattle.command_line.specs.declared.status.Field.{Field}
 use Rattle.command_line.specs.declared.status.Field.TheVariants.{States, Inputs, Grid}
 
@@ -54,6 +54,10 @@ status_words (NoStay entry bound) = codes "no-stay" ∷ decimal entry ∷ signed
 status_words (Cell cell refusal) = codes "cell" ∷ decimal cell ∷ refusal_words refusal
 status_words (Listing file line) = codes "listing" ∷ decimal file ∷ decimal line ∷ []
 status_words (Trap entry step place) = codes "trap" ∷ decimal entry ∷ decimal step ∷ decimal place ∷ []
+status_words (TooWideForC width) = codes "too-wide-c" ∷ decimal width ∷ []
+status_words (Moves row left right) = codes "moves" ∷ decimal row ∷ signed_decimal left ∷ signed_decimal right ∷ []
+status_words (Unsettled turn coordinate bound) = codes "unsettled" ∷ decimal turn ∷ decimal coordinate ∷ signed_decimal bound ∷ []
+status_words (NoReturn turn coordinate bound) = codes "no-return" ∷ decimal turn ∷ decimal coordinate ∷ signed_decimal bound ∷ []
 
 -- `error`, the exit status, the name and the numbers, one space between two, and a line feed; nothing where all was done
 abbrev pub status_line : Status → List ℕ

@@ -1,6 +1,7 @@
 -- The words of a command line.
 use Rattle.std.specs.Prelude.{◌≡◌, ◌≢◌, ℕ, ◌≤◌, ◌<◌, Bool, if◌then◌else◌, pos, List, [], ◌++◌, length, codes, slice_index_or}
 use Rattle.std.specs.Fmt.{signed_decimal}
+use Rattle.command_line.specs.ProgramName.{IsName}
 
 -- word i, counted from 0
 abbrev pub word_of : List (List ℕ) → ℕ → List ℕ
@@ -72,6 +73,21 @@ pub record IsSplit (words : List (List ℕ)) : Type 0 where
 pub record IsServe (words : List (List ℕ)) : Type 0 where
   pub count : length words ≡ 3
   pub command : word_of words 0 ≡ codes "serve"
+
+-- the words are `c`, the name of a controller file, one of a program, and the names of a source file and of a header file; neither of the last two is another
+-- file's
+pub record IsC (words : List (List ℕ)) : Type 0 where
+  pub count : length words ≡ 5
+  pub command : word_of words 0 ≡ codes "c"
+  pub name : IsName (word_of words 2)
+  pub source_controller : word_of words 3 ≢ word_of words 1
+  pub header_controller : word_of words 4 ≢ word_of words 1
+  pub header_source : word_of words 4 ≢ word_of words 3
+
+-- the words are `settle` and the names of a design file, a controller file and a certificate file, and of one of disturbances where there are any
+pub record IsSettle (words : List (List ℕ)) (disturbed : Bool) : Type 0 where
+  pub count : length words ≡ (if disturbed then 5 else 4)
+  pub command : word_of words 0 ≡ codes "settle"
 
 -- a name that asks for another form of the report
 abbrev pub IsJson : List ℕ → Type 0

@@ -87,6 +87,20 @@ fn cell_words(alloc: Global, cell: u32, refusal: &Refusal) -> Result<String, All
     format!(in alloc; "cell {cell} {refusal}")
 }
 
+// How far loops may go, below the name of what that breaks.
+fn reach_words(
+    alloc: Global,
+    name: &str,
+    turn: u32,
+    coordinate: u32,
+    bound: i128,
+) -> Result<String, AllocError>
+    ensures { IfOk result (λ text. string_bytes text
+        ≡ join_with_byte 32 (name.now ∷ decimal turn ∷ decimal coordinate ∷ signed_decimal bound ∷ [])) }
+{
+    format!(in alloc; "{name} {turn} {coordinate} {bound}")
+}
+
 // The name of an answer, and its numbers.
 fn status_words(alloc: Global, status: &Status) -> Result<String, AllocError>
     ensures { IfOk result (λ text. string_bytes text ≡ join_with_byte 32 (status_words status.now)) }
@@ -121,6 +135,18 @@ fn status_words(alloc: Global, status: &Status) -> Result<String, AllocError>
         Status::Cell { cell, refusal } => cell_words(alloc, *cell, refusal),
         Status::Listing { file, line } => format!(in alloc; "listing {file} {line}"),
         Status::Trap { entry, step, place } => format!(in alloc; "trap {entry} {step} {place}"),
+        Status::TooWideForC { width } => format!(in alloc; "too-wide-c {width}"),
+        Status::Moves { row, left, right } => format!(in alloc; "moves {row} {left} {right}"),
+        Status::Unsettled {
+            turn,
+            coordinate,
+            bound,
+        } => reach_words(alloc, "unsettled", *turn, *coordinate, *bound),
+        Status::NoReturn {
+            turn,
+            coordinate,
+            bound,
+        } => reach_words(alloc, "no-return", *turn, *coordinate, *bound),
     }
 }
 

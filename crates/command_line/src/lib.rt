@@ -2,6 +2,7 @@
 #![tactic(auto)]
 
 mod error_line;
+mod program_name;
 mod status;
 mod words;
 

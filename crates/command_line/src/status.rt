@@ -95,6 +95,29 @@ pub enum Status {
         step: u32,
         place: u32,
     },
+    /// A controller of this width has no program in C: values of more than 64 bits.
+    TooWideForC {
+        width: u32,
+    },
+    /// In the box where no multiplier is to move that of this row may: what it must stay below, `right`, isn't above `left`; it is the first.
+    Moves {
+        row: u32,
+        left: i128,
+        right: i128,
+    },
+    /// After this turn a loop from the start box may have gone in this coordinate as far as to `bound` over `2^grid`: beyond the box where no multiplier moves, or, at
+    /// the last turn, beyond the box of rest; it is the first.
+    Unsettled {
+        turn: u32,
+        coordinate: u32,
+        bound: i128,
+    },
+    /// The same of a loop from the box of rest.
+    NoReturn {
+        turn: u32,
+        coordinate: u32,
+        bound: i128,
+    },
 }
 
 impl From<AllocError> for Status {
@@ -151,5 +174,9 @@ pub fn status_number(status: &Status) -> u8
         Status::Cell { .. } => 18,
         Status::Listing { .. } => 20,
         Status::Trap { .. } => 21,
+        Status::TooWideForC { .. } => 22,
+        Status::Moves { .. } => 23,
+        Status::Unsettled { .. } => 24,
+        Status::NoReturn { .. } => 25,
     }
 }

@@ -1,8 +1,9 @@
 // Which command the arguments are.
 ghost use Rattle.std.specs.Prelude.{ℕ, IsTrue, MatchOption, ◌↔◌, ◌≢◌, ◌<◌, Bool, length};
-ghost use Rattle.command_line.specs.Words.{word_of, IsSolve, IsGenerate, IsLoop, IsDemo, IsList, IsJson, IsCount, IsStay, IsOwnName, IsPlay, IsLean, IsLeanStay, IsSplit, IsServe};
-ghost use Rattle.command_line.specs.Commands.{IsUsage, AreOf, OneCommandLaw};
+ghost use Rattle.command_line.specs.Words.{word_of, IsSolve, IsGenerate, IsLoop, IsDemo, IsList, IsJson, IsCount, IsStay, IsOwnName, IsPlay, IsLean, IsLeanStay, IsSplit, IsServe, IsC, IsSettle};
+ghost use Rattle.command_line.specs.Commands.{IsUsage, IsNoWriter, AreOf, OneCommandLaw};
 
+use crate::program_name::is_name;
 use io_edge::Words;
 use number_text::number_word;
 
@@ -23,6 +24,9 @@ pub enum Command {
     LeanStay { disturbed: bool },
     Split,
     Serve,
+    C,
+    /// With a file of disturbances, or without.
+    Settle { disturbed: bool },
 }
 
 /// The most turns of a `loop`.
@@ -35,8 +39,8 @@ const GREATEST_NUMBER: u32 = 4294967295;
 pub fn command_of(words: &Words) -> Option<Command>
     ensures { MatchOption result (IsUsage words.now) (λ command. AreOf command words.now) }
 {
-    if is_generate(words) {
-        return Some(Command::Generate);
+    if let Some(command) = writer_of(words) {
+        return Some(command);
     }
     if is_solve(words) {
         return Some(Command::Solve);
@@ -56,14 +60,30 @@ pub fn command_of(words: &Words) -> Option<Command>
     if let Some(number) = number_of(words) {
         return Some(Command::Demo { number });
     }
+    if is_play(words) {
+        return Some(Command::Play);
+    }
+    if is_serve(words) {
+        return Some(Command::Serve);
+    }
+    if let Some(disturbed) = settle_disturbed_of(words) {
+        return Some(Command::Settle { disturbed });
+    }
+    None
+}
+
+// The command that writes files whose arguments these are; none where they are those of no such command.
+fn writer_of(words: &Words) -> Option<Command>
+    ensures { MatchOption result (IsNoWriter words.now) (λ command. AreOf command words.now) }
+{
+    if is_generate(words) {
+        return Some(Command::Generate);
+    }
     if is_list(words) {
         return Some(Command::List);
     }
     if let Some(disturbed) = disturbed_of(words) {
         return Some(Command::Stay { disturbed });
-    }
-    if is_play(words) {
-        return Some(Command::Play);
     }
     if is_lean(words) {
         return Some(Command::Lean);
@@ -74,8 +94,8 @@ pub fn command_of(words: &Words) -> Option<Command>
     if is_split(words) {
         return Some(Command::Split);
     }
-    if is_serve(words) {
-        return Some(Command::Serve);
+    if is_c(words) {
+        return Some(Command::C);
     }
     None
 }
@@ -194,6 +214,28 @@ fn is_split(words: &Words) -> bool
         return false;
     }
     is_own_name(words, 4) && is_own_name(words, 5)
+}
+
+// Whether they are those that `c` needs.
+fn is_c(words: &Words) -> bool
+    ensures { IsTrue result ↔ IsC words.now }
+{
+    if words.count() != 5 || words.at(0) != "c" || !is_name(words.at(2)) {
+        return false;
+    }
+    let (controller, source, header) = (words.at(1), words.at(3), words.at(4));
+    source != controller && is_other(header, controller, source)
+}
+
+// Whether a `settle` has a file of disturbances; none where the arguments are those of no `settle`.
+fn settle_disturbed_of(words: &Words) -> Option<bool>
+    ensures { MatchOption result ((disturbed : Bool) → ¬ IsSettle words.now disturbed) (λ disturbed. IsSettle words.now disturbed) }
+{
+    let count = words.count();
+    if count < 4 || count > 5 || words.at(0) != "settle" {
+        return None;
+    }
+    Some(count == 5)
 }
 
 // Whether the name at a position stands at no other.

@@ -1,5 +1,5 @@
 // The text of a worked controller's program, line by line.
-use c_program::{is_name, write_header, write_program};
+use c_program::{write_header, write_program};
 use std::alloc::Global;
 use std::test::Fail;
 use trials_worked_controllers::controller;
@@ -107,22 +107,5 @@ fn first_header(rt: HostRuntime) -> Result<(), Fail> {
     let c = controller(alloc, 1, 32768, 26, [1, 1, 1])?;
     let text = write_header(alloc, &c, "first")?;
     assert!(rt; has_lines(alloc, text.as_str(), &HEADER)?);
-    Ok(())
-}
-
-static NAMES: [&str; 3] = ["a", "motor_2", "abcdefghijklmnopqrstuvwxyz_1234"];
-
-static OTHERS: [&str; 6] = [
-    "",
-    "2motor",
-    "_motor",
-    "Motor",
-    "mo-tor",
-    "abcdefghijklmnopqrstuvwxyz_12345",
-];
-
-#[test]
-fn names(rt: HostRuntime) -> Result<(), Fail> {
-    assert!(rt; NAMES.iter().all(|name| is_name(name)) && !OTHERS.iter().any(|name| is_name(name)));
     Ok(())
 }

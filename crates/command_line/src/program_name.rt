@@ -1,6 +1,6 @@
 // The names of programs.
 ghost use Rattle.std.specs.Prelude.{◌↔◌, All, IsTrue, slice_index_or};
-ghost use Rattle.c_program.specs.Text.{IsLetter, IsNameByte, IsName};
+ghost use Rattle.command_line.specs.ProgramName.{IsLetter, IsNameByte, IsName};
 
 // Whether a byte is a lower-case letter.
 fn is_letter(byte: u8) -> bool
@@ -33,7 +33,7 @@ fn are_name_bytes(bytes: &[u8]) -> bool
     bytes.iter().all(|byte| is_name_byte(*byte))
 }
 
-/// Whether a program can have this name: a lower-case letter, and then such letters, digits and `_`, of at most 31 bytes in all.
+// Whether a program can have this name: a lower-case letter, and then such letters, digits and `_`, of at most 31 bytes in all.
 pub fn is_name(name: &str) -> bool
     ensures { IsTrue result ↔ IsName name.now }
 {
