@@ -3,7 +3,7 @@ ghost use Rattle.std.specs.Prelude.{◌≡◌, ◌≢◌, ◌⊎◌, ◌↔◌, 
 ghost use Rattle.io_edge.specs.Faults.{Rose, NoneFalls};
 ghost use Rattle.number_text.specs.declared.text_fault.TextFault.TheVariants.{Memory as no_room};
 ghost use Rattle.controller_text.specs.declared.bad_controller.BadController.TheVariants.{Memory as no_space};
-ghost use Rattle.command_line.specs.Words.{word_of, IsGenerate, IsStay, IsPlay, IsLean, IsLeanStay, IsSplit, IsServe};
+ghost use Rattle.command_line.specs.Words.{word_of, IsGenerate, IsStay, IsPlay, IsLean, IsLeanStay, IsSplit, IsServe, IsSettle};
 ghost use Rattle.command_line.specs.Commands.{AreOf, IsUsage};
 ghost use Rattle.command_line.specs.Answers.{ForContents, IsAnswer, IsCaused};
 ghost use Rattle.command_line.specs.Does.{Does};
@@ -15,6 +15,7 @@ ghost use Rattle.command_lean.specs.Lean.{IsLeanWritten};
 ghost use Rattle.command_lean_stay.specs.LeanStay.{IsLeanStayed};
 ghost use Rattle.command_split.specs.Split.{IsSplitWritten};
 ghost use Rattle.command_serve.specs.Held.{ServesHeld};
+ghost use Rattle.command_settle.specs.Settled.{AreLoopsSettled};
 ghost use Rattle.command_run.specs.Table.{deeds_of};
 
 use command_demo::demo;
@@ -26,6 +27,7 @@ use command_list::list;
 use command_loop::run_loops;
 use command_play::play;
 use command_serve::serve;
+use command_settle::settle;
 use command_solve::solve;
 use command_split::split;
 use command_stay::stay;
@@ -55,6 +57,7 @@ fn answer<S: Store, O: Sink>(
         Command::LeanStay { disturbed } => lean_stay(alloc, words, disturbed, store),
         Command::Split => split(alloc, words, store),
         Command::Serve => serve(alloc, words, store, out),
+        Command::Settle { disturbed } => settle(alloc, words, disturbed, store, out),
     }
 }
 
@@ -71,7 +74,8 @@ fn answer<S: Store, O: Sink>(
 /// fewest steps that the reference plans show to be enough; with a file of faces, and one of a range of disturbances or none, where these show that the
 /// closed loop stays in the box. `split`, a design file, a file of cuts, a file of policies, a file of cells and a report file: does what `generate` does
 /// for each cell of the design's box that the cuts make. `serve`, a file of cells and a states file: prints a line for each state, the averaged plan of
-/// the first cell's controller whose box holds it.
+/// the first cell's controller whose box holds it. `settle`, a design file, a controller file and a certificate file, and one of a range of disturbances or
+/// none: prints the turn from which every closed loop from the certificate's start box lies in a small box for good, and that box.
 pub fn run<S: Store, O: Sink>(alloc: Global, words: &Words, store: &mut S, out: &mut O) -> Status
     // Where `generate` answers `Done`, the controller's file holds the text of one controller and the report's file the report of its bounds, both
     // built of the design and the policy in the files. Run from any grid state of the box, the controller keeps every product and partial sum
@@ -108,6 +112,12 @@ pub fn run<S: Store, O: Sink>(alloc: Global, words: &Words, store: &mut S, out: 
     // value of the runs leaves the controller's width, and the output gets the bytes that `solve` prints of the controller and these states: the lines of
     // its averaged plans.
     ensures played { IsPlay words.now → PlaysAsSolved words.now (S.held store.old) result (O.got out.old) (O.got out.new) }
+
+    // Where `settle` answers `Done`, every closed loop of the plant of the design and the controller in the first two files from the start box of the
+    // certificate in the third, under every list of disturbances within the range in the fourth, and without disturbances where there is no such file, lies
+    // at each turn in the certificate's box where no multiplier moves, and from the printed turn on in the printed box, for every number of turns.
+    ensures settled { (disturbed : Bool) → IsSettle words.now disturbed → result ≡ Status.Done
+        → AreLoopsSettled disturbed words.now (S.held store.old) (O.got out.old) (O.got out.new) }
 
     // `Usage` is the answer exactly where the arguments are those of no command, and then nothing is used.
     ensures usage { (result ≡ Status.Usage) ↔ IsUsage words.now }

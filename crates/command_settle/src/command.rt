@@ -32,7 +32,13 @@ fn print_settled<O: Sink>(alloc: Global, s: &Settling, out: &mut O) -> Status
     ensures no_fewer { O.faults out.old ≤ O.faults out.new }
 {
     let under = &s.under;
-    match text_settled(alloc, &s.design, &s.controller, &under.certificate, &under.range) {
+    match text_settled(
+        alloc,
+        &s.design,
+        &s.controller,
+        &under.certificate,
+        &under.range,
+    ) {
         Ok(text) => match out.put(&text) {
             Ok(()) => Status::Done,
             Err(_) => Status::WriteFault { file: 0 },

@@ -1,5 +1,5 @@
 // The text that tells where loops settle.
-ghost use Rattle.std.specs.Prelude.{◌≡◌, ◌++◌, ◌<◌, ◌≤◌, ◌^◌, length, IfOk, OnOk, string_bytes};
+ghost use Rattle.std.specs.Prelude.{◌≡◌, ◌++◌, ◌<◌, length, IfOk, OnOk, string_bytes};
 ghost use Rattle.settle_check.specs.Certificates.{state_box};
 ghost use Rattle.command_settle.specs.SettledText.{coordinate_line, settled_text};
 
@@ -16,7 +16,6 @@ fn push_coordinate(
 ) -> Result<(), AllocError>
     requires coordinate { i < length rest.now.low.items }
     requires high { length rest.now.high.items ≡ length rest.now.low.items }
-    requires few { length rest.now.low.items < 2 ^ 32 }
     ensures { OnOk result (string_bytes text.new ≡ string_bytes text.old ++ coordinate_line (state_box rest.now) i) }
 {
     push_line(
@@ -31,7 +30,6 @@ fn push_coordinate(
 /// its greatest.
 pub fn settled_text(alloc: Global, turn: u32, rest: &StateBox) -> Result<Vec<u8>, AllocError>
     requires high { length rest.now.high.items ≡ length rest.now.low.items }
-    requires few { length rest.now.low.items < 2 ^ 32 }
     ensures { IfOk result (λ v. v.items ≡ settled_text turn (length rest.now.low.items) (state_box rest.now)) }
 {
     let mut text = String::new(alloc);
