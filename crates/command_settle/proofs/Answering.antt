@@ -1,7 +1,7 @@
 -- What files that are right make of the answer, and of what the output got.
 use Rattle.std.proofs.Common.{◌≡◌, ◌≢◌, ◌⊎◌, inl, inr, ℕ, Bool, List, Option, Some, None, refl, subst}
 use Rattle.std.specs.Prelude.{IfSome, IsSomeAnd}
-use Rattle.io_edge.specs.Faults.{Files, Rose, GrowsByPart}
+use Rattle.io_edge.specs.Faults.{Files, GrowsByPart}
 use Rattle.mat_int.specs.Matrix.{Matrix}
 use Rattle.qp_model.specs.problem.Design.{Design}
 use Rattle.qp_model.specs.problem.Parts.{design_of}
@@ -14,18 +14,17 @@ use Rattle.command_line.specs.Answers.{Contents, ForContents, IsAnswer, IsCaused
 use Rattle.command_line.proofs.Composing.{some_contents}
 use Rattle.command_line.specs.declared.status.Status.{Status}
 use Rattle.command_line.specs.declared.status.Status.TheVariants.{Done, ReadFault, WriteFault}
-use Rattle.command_stay.proofs.Generating.Ending.{stop_not_done, stop_no_write}
 use Rattle.command_settle.specs.Settle.{CertificateCalls, SettleStarts, OfCertificate, SettlePrints, range_box, told_text, IsToldSettled}
-use Rattle.command_settle.specs.Files.{settle_calls, settle_reaches, EndsSettling, AreSettlingRead, SettlingEnds, SettlingPrints}
-use Rattle.command_settle.proofs.Calling.{fault_faultless}
+use Rattle.command_settle.specs.Files.{settle_calls, EndsUnprinted, AreSettlingRead, SettlingEnds, SettlingPrints}
+use Rattle.command_settle.proofs.Calling.{fault_uncut}
 use Rattle.command_settle.proofs.Opening.{first_four, three_hold, three_right, with_certificate, AreRangeContents, range_contents}
 
 -- ---- a file ended it: the output got nothing
-module _ (disturbed : Bool) (words : List (List ℕ)) (held : Option Files) (before now : List ℕ → ℕ) (s : Status) (ends : EndsSettling disturbed words held before now s) where
+module _ (disturbed : Bool) (words : List (List ℕ)) (held : Option Files) (before now : List ℕ → ℕ) (s : Status) (ends : EndsUnprinted disturbed words held before now s) where
   plain : (k : Contents) (old : List ℕ) → SettlePrints disturbed k s old old
   plain k old = record {
-    done = λ is. absurd (stop_not_done (settle_calls disturbed) (settle_reaches disturbed) words held before now s ends is);
-    fault = λ is. absurd (stop_no_write (settle_calls disturbed) (settle_reaches disturbed) words held before now s ends 0 is);
+    done = λ is. absurd (ends.done is);
+    fault = λ is. absurd (ends.write 0 is);
     other = λ a b. refl;
   }
 
@@ -74,7 +73,7 @@ module _ (disturbed : Bool) (words : List (List ℕ)) (held : Option Files) (p :
     no_fault : (file : ℕ) → CertificateCalls (design_of p) c f range s → (s ≡ ReadFault file → ⊥) × (s ≡ WriteFault file → ⊥)
     no_fault file (inl done) = let e = done.0 in (λ is. cc, λ is. cc)
     no_fault file (inr fault) =
-        let plain = fault_faultless (design_of p) c f range fault.0 fault.1 in
+        let plain = fault_uncut (design_of p) c f range fault.0 fault.1 in
         (λ is. plain.read file (subst (λ (t : Status). t ≡ ReadFault file) fault.2 is), λ is. plain.write file (subst (λ (t : Status). t ≡ WriteFault file) fault.2 is))
 
     pub settle_no_read : Ends → (file : ℕ) → s ≡ ReadFault file → ⊥

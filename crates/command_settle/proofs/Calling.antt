@@ -12,9 +12,8 @@ use Rattle.command_line.specs.Does.{IsTelling}
 use Rattle.command_line.proofs.Doing.{done_telling}
 use Rattle.command_line.specs.declared.status.Status.{Status}
 use Rattle.command_line.specs.declared.status.Status.TheVariants.{Done, Memory}
-use Rattle.command_stay.specs.Generating.Ending.{IsFaultless}
 use Rattle.command_settle.specs.Settle.{settle_status, range_box, CertificateCalls}
-use Rattle.command_settle.specs.Files.{IsUntold}
+use Rattle.command_settle.specs.Files.{IsUncut, IsUntold}
 
 module _ (d : Design) (c : Numbers) (f : CertificateNumbers) (range : Matrix) where
   abbrev Passes : Type 0
@@ -24,12 +23,12 @@ module _ (d : Design) (c : Numbers) (f : CertificateNumbers) (range : Matrix) wh
   IsFault = IsSettleFault d c (range_box range) (certificate_in f)
 
   -- ---- the status of a fault
-  pub fault_faultless : (fault : SettleFault) → IsFault fault → IsFaultless (settle_status fault)
-  fault_faultless faults.Memory why = absurd why
-  fault_faultless faults.TooWide why = record { done = λ e. cc; memory = λ e. cc; read = λ file e. cc; write = λ file e. cc }
-  fault_faultless (faults.Moves row left right) why = record { done = λ e. cc; memory = λ e. cc; read = λ file e. cc; write = λ file e. cc }
-  fault_faultless (faults.Unsettled turn coordinate bound) why = record { done = λ e. cc; memory = λ e. cc; read = λ file e. cc; write = λ file e. cc }
-  fault_faultless (faults.NoReturn turn coordinate bound) why = record { done = λ e. cc; memory = λ e. cc; read = λ file e. cc; write = λ file e. cc }
+  pub fault_uncut : (fault : SettleFault) → IsFault fault → IsUncut (settle_status fault)
+  fault_uncut faults.Memory why = absurd why
+  fault_uncut faults.TooWide why = record { done = λ e. cc; read = λ file e. cc; write = λ file e. cc }
+  fault_uncut (faults.Moves row left right) why = record { done = λ e. cc; read = λ file e. cc; write = λ file e. cc }
+  fault_uncut (faults.Unsettled turn coordinate bound) why = record { done = λ e. cc; read = λ file e. cc; write = λ file e. cc }
+  fault_uncut (faults.NoReturn turn coordinate bound) why = record { done = λ e. cc; read = λ file e. cc; write = λ file e. cc }
 
   fault_telling : (fault : SettleFault) → IsFault fault → IsTelling (settle_status fault)
   fault_telling faults.Memory why = absurd why
@@ -45,7 +44,7 @@ module _ (d : Design) (c : Numbers) (f : CertificateNumbers) (range : Matrix) wh
   -- where all loops settle, the certificate passed every test
   pub done_passes : CertificateCalls d c f range Done → Passes
   done_passes (inl done) = done.1
-  done_passes (inr fault) = absurd ((fault_faultless fault.0 fault.1).done (sym fault.2))
+  done_passes (inr fault) = absurd ((fault_uncut fault.0 fault.1).done (sym fault.2))
 
   -- ---- the answer
   -- it passes every test
@@ -69,7 +68,7 @@ module _ (d : Design) (c : Numbers) (f : CertificateNumbers) (range : Matrix) wh
   failing fault s is (inl memory) right first = inl (is ∙ ap settle_status memory)
   failing fault s is (inr why) right first = inr (
     record { called = inr (fault, why, is); only = go },
-    subst IsFaultless (sym is) (fault_faultless fault why),
+    subst IsUncut (sym is) (fault_uncut fault why),
   )
     where
       same : (told : SettleFault) → (fault ≡ told) ⊎ (fault ≡ faults.Memory) → fault ≡ told

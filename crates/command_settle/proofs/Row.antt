@@ -5,30 +5,27 @@ use Rattle.qp_model.specs.problem.Parts.{design_of}
 use Rattle.qp_model.specs.machine.Controller.{Numbers}
 use Rattle.settle_check.specs.CertificateText.{CertificateNumbers}
 use Rattle.command_line.specs.Limit.{file_limit}
-use Rattle.command_line.specs.Answers.{Contents, IsFileRefused}
+use Rattle.command_line.specs.Answers.{Contents}
 use Rattle.command_line.specs.Does.{IsTelling}
 use Rattle.command_line.proofs.Doing.{IsRow}
 use Rattle.command_line.specs.declared.status.Status.{Status}
-use Rattle.command_loop.proofs.Files.Stopping.{controller_refused, range_refused}
+use Rattle.command_loop.proofs.CommandFiles.Stopping.{controller_refused, range_refused}
 use Rattle.command_loop.proofs.Refusals.{mismatch_refusal}
-use Rattle.command_stay.specs.Stay.{no_shifts}
-use Rattle.command_stay.specs.DesignFiles.Texts.{DesignRight, DesignWrong}
-use Rattle.command_stay.specs.Files.Texts.{ControllerRight, ControllerWrong, RangeRight, RangeWrong}
-use Rattle.command_stay.proofs.DesignFiles.Stopping.{IsRefusal, text_refused, design_refused, then_telling}
+use Rattle.command_loop.specs.DesignFiles.Texts.{DesignRight, DesignWrong}
+use Rattle.command_loop.specs.CommandFiles.Texts.{ControllerRight, ControllerWrong, RangeRight, RangeWrong}
+use Rattle.command_loop.proofs.DesignFiles.Stopping.{design_refused, then_telling}
+use Rattle.command_settle.specs.Disturbances.{no_disturbances}
 use Rattle.command_settle.specs.CertificateFile.{CertificateRight, CertificateWrong}
 use Rattle.command_settle.specs.Settle.{CertificateCalls, SettleCalls, SettleReaches}
 use Rattle.command_settle.specs.Deeds.{settle_deeds}
 use Rattle.command_settle.proofs.Calling.{calls_telling}
-use Rattle.command_settle.proofs.Opening.{AfterCertificate, AfterController}
+use Rattle.command_settle.proofs.Opening.{AfterCertificate, AfterController, certificate_refused}
 
 -- ---- what tells
-pub certificate_refused : (c : Numbers) (file : ℕ) (content : Option (List ℕ)) (s : Status) → IsFileRefused file_limit file (CertificateWrong c file) content s → IsRefusal s
-certificate_refused c file = text_refused file (CertificateWrong c file) (λ bytes s wrong. (wrong.0, wrong.2))
-
 range_telling : (disturbed : Bool) (shifts : Option (List ℕ)) (d : Design) (c : Numbers) (f : CertificateNumbers) (s : Status) → AfterCertificate disturbed shifts d c f s → IsTelling s
 range_telling true shifts d c f =
     then_telling file_limit 4 (RangeWrong c.states 4) (RangeRight c.states) shifts (CertificateCalls d c f) (range_refused c.states 4) (calls_telling d c f)
-range_telling false shifts d c f = calls_telling d c f (no_shifts c.states)
+range_telling false shifts d c f = calls_telling d c f (no_disturbances c.states)
 
 controller_telling : (disturbed : Bool) (certificate shifts : Option (List ℕ)) (d : Design) (c : Numbers) (s : Status) → AfterController disturbed certificate shifts d c s → IsTelling s
 controller_telling disturbed certificate shifts d c s (inl other) = (mismatch_refusal d c s other).telling

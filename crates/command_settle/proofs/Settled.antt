@@ -1,5 +1,5 @@
 -- Where `settle` ends with 0, all loops settle.
-use Rattle.std.proofs.Common.{◌≡◌, ◌⊎◌, inl, inr, ℕ, Bool, true, false, List, Option, Some, None, refl, sym, subst}
+use Rattle.std.proofs.Common.{◌≡◌, inl, inr, ℕ, Bool, true, false, List, Option, Some, None, refl, sym, subst}
 use Rattle.std.specs.Prelude.{IfSome, IsSomeAnd}
 use Rattle.io_edge.specs.Faults.{Files}
 use Rattle.mat_int.specs.Matrix.{Matrix}
@@ -17,24 +17,24 @@ use Rattle.settle_check.specs.CertificateText.{CertificateNumbers, certificate_i
 use Rattle.settle_check.proofs.CountedFacts.{positive}
 use Rattle.settle_check.proofs.SettlingLaws.{settling_law}
 use Rattle.settle_check.proofs.SettleFacts.{settles}
-use Rattle.command_line.specs.Limit.{file_limit}
-use Rattle.command_line.specs.Answers.{Contents, ForContents, FileHolds, IsAnswer, IsCaused}
+
+use Rattle.command_line.specs.Answers.{Contents, ForContents, IsAnswer, IsCaused}
 use Rattle.command_line.proofs.Composing.{weaker}
 use Rattle.command_line.specs.declared.status.Status.{Status}
 use Rattle.command_line.specs.declared.status.Status.TheVariants.{Done}
-use Rattle.command_loop.specs.Loop.{IsMismatch}
-use Rattle.command_loop.proofs.Files.Stopping.{controller_refused, range_refused}
+
+use Rattle.command_loop.proofs.CommandFiles.Stopping.{controller_refused, range_refused}
 use Rattle.command_loop.proofs.Refusals.{mismatch_refusal}
-use Rattle.command_stay.specs.Stay.{ReadsShifts, no_shifts}
-use Rattle.command_stay.specs.DesignFiles.Texts.{DesignRight}
-use Rattle.command_stay.specs.Files.Texts.{ControllerRight}
-use Rattle.command_stay.proofs.DesignFiles.Stopping.{design_refused}
+use Rattle.command_loop.specs.DesignFiles.Texts.{DesignRight}
+use Rattle.command_loop.specs.CommandFiles.Texts.{ControllerRight}
+use Rattle.command_loop.proofs.DesignFiles.Stopping.{design_refused}
 use Rattle.command_settle.specs.CertificateFile.{CertificateRight}
-use Rattle.command_settle.specs.Settle.{CertificateCalls, OfCertificate, HoldsShiftRange, SettlePrints, range_box, told_text}
+use Rattle.command_settle.specs.Disturbances.{no_disturbances, ReadsDisturbances, HoldsDisturbances}
+use Rattle.command_settle.specs.Settle.{CertificateCalls, OfCertificate, SettlePrints, range_box}
 use Rattle.command_settle.specs.Files.{settle_calls}
 use Rattle.command_settle.specs.Settled.{SettlesTold, AreLoopsSettled}
 use Rattle.command_settle.proofs.Calling.{done_passes}
-use Rattle.command_settle.proofs.Row.{certificate_refused}
+use Rattle.command_settle.proofs.Opening.{certificate_refused}
 
 -- ---- loops settle by what files hold
 held_design : (p : DesignParts) (bytes : List ℕ) → DesignRight p bytes → IsDesign p
@@ -52,11 +52,11 @@ held_settles p c f range design controller certificate d r for z passes =
     settling_law (design_of p) c (range_box range) (certificate_in f) loop (settles (design_of p) c (range_box range) (certificate_in f) inside z.some passes)
 
 -- ---- what is called for
-of_range : (disturbed : Bool) (n : ℕ) (content : Option (List ℕ)) (Calls : Matrix → Status → Type 0) → ReadsShifts disturbed n 4 content Calls Done →
-    (range : Matrix) × HoldsShiftRange disturbed n content range × Calls range Done
+of_range : (disturbed : Bool) (n : ℕ) (content : Option (List ℕ)) (Calls : Matrix → Status → Type 0) → ReadsDisturbances disturbed n content Calls Done →
+    (range : Matrix) × HoldsDisturbances disturbed n content range × Calls range Done
 of_range true n content Calls (inl refused) = absurd ((range_refused n 4 content Done refused).done refl)
 of_range true n content Calls (inr (range, right, call)) = (range, right, call)
-of_range false n content Calls call = (no_shifts n, refl, call)
+of_range false n content Calls call = (no_disturbances n, refl, call)
 
 module _ (disturbed : Bool) (k : Contents) (got got_now : Option (List ℕ)) (none : got ≡ None) where
   abbrev Told : Design → Numbers → CertificateNumbers → Matrix → Type 0

@@ -1,5 +1,5 @@
 -- A certificate's file: which bytes are the text of what, with which status others are refused, and how it is read.
-use Rattle.std.specs.Prelude.{◌≡◌, ℕ, List, Option}
+use Rattle.std.specs.Prelude.{ℕ, List, Option}
 use Rattle.io_edge.specs.Faults.{Files}
 use Rattle.qp_model.specs.machine.Controller.{Numbers}
 use Rattle.number_text.specs.declared.text_fault.TextFault.{TextFault}
@@ -8,7 +8,7 @@ use Rattle.settle_check.specs.CertificateText.{CertificateNumbers, IsCertificate
 use Rattle.command_line.specs.Limit.{file_limit}
 use Rattle.command_line.specs.Answers.{ReadsThen, IsRightFor, EndsReading}
 use Rattle.command_line.specs.declared.status.Status.{Status}
-use Rattle.command_stay.specs.DesignFiles.Texts.{TellsFault}
+use Rattle.command_loop.specs.DesignFiles.Texts.{TellsFault}
 
 -- ---- certificates for a controller
 abbrev pub CertificateRight : Numbers → CertificateNumbers → List ℕ → Type 0

@@ -1,5 +1,5 @@
 -- What `settle` does: its row of the table of commands.
-use Rattle.std.specs.Prelude.{◌≡◌, ◌⊎◌, ℕ, ⊤, Bool, true}
+use Rattle.std.specs.Prelude.{◌≡◌, ◌⊎◌, ⊤, Bool, true}
 use Rattle.command_line.specs.Deeds.{Deeds}
 use Rattle.command_settle.specs.Settle.{SettleCalls, SettleReaches, SettleStarts, SettlePrints}
 

@@ -1,4 +1,5 @@
 pub mod CertificateFile
+pub mod Disturbances
 pub mod SettledText
 pub mod Settle
 pub mod Files

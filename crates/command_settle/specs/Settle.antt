@@ -1,5 +1,5 @@
 -- What `settle` is called to answer by what its files hold, and what it prints.
-use Rattle.std.specs.Prelude.{◌≡◌, ◌≢◌, ◌⊎◌, ℕ, Bool, true, false, List, ◌++◌, Option}
+use Rattle.std.specs.Prelude.{◌≡◌, ◌≢◌, ◌⊎◌, ℕ, Bool, true, List, ◌++◌, Option}
 use Rattle.io_edge.specs.Faults.{GrowsByPart}
 use Rattle.mat_int.specs.Matrix.{Matrix, row_of}
 use Rattle.qp_model.specs.problem.Design.{Design}
@@ -20,12 +20,12 @@ use Rattle.command_line.specs.Answers.{Contents, FileHolds}
 use Rattle.command_line.specs.declared.status.Status.{Status}
 use Rattle.command_line.specs.declared.status.Status.TheVariants.{Done, Memory, WriteFault, Refused, Moves, Unsettled, NoReturn}
 use Rattle.command_loop.specs.Loop.{IsMismatch}
-use Rattle.command_stay.specs.Stay.{ReadsShifts, no_shifts}
-use Rattle.command_stay.specs.DesignFiles.Texts.{DesignRight}
-use Rattle.command_stay.specs.DesignFiles.Reading.{ReadsDesign}
-use Rattle.command_stay.specs.Files.Texts.{ControllerRight, RangeRight}
-use Rattle.command_stay.specs.Files.Reading.{ReadsController}
+use Rattle.command_loop.specs.DesignFiles.Texts.{DesignRight}
+use Rattle.command_loop.specs.DesignFiles.Reading.{ReadsDesign}
+use Rattle.command_loop.specs.CommandFiles.Texts.{ControllerRight}
+use Rattle.command_loop.specs.CommandFiles.Reading.{ReadsController}
 use Rattle.command_settle.specs.CertificateFile.{CertificateRight, ReadsCertificate}
+use Rattle.command_settle.specs.Disturbances.{ReadsDisturbances, HoldsDisturbances}
 use Rattle.command_settle.specs.SettledText.{settled_text}
 
 -- ---- the answer
@@ -52,14 +52,9 @@ abbrev pub SettleCalls : (disturbed : Bool) → (design controller certificate s
 SettleCalls disturbed design controller certificate shifts s =
     ReadsDesign 1 design (λ p. ReadsController 2 controller (λ c t.
     IsMismatch (design_of p) c t ⊎ (IsFor c (design_of p) × ReadsCertificate c 3 certificate (λ f.
-    ReadsShifts disturbed c.states 4 shifts (CertificateCalls (design_of p) c f)) t))) s
+    ReadsDisturbances disturbed c.states shifts (CertificateCalls (design_of p) c f)) t))) s
 
 -- ---- what the files hold
--- the range of the shifts where there are disturbances, and else no shifts
-abbrev pub HoldsShiftRange : (disturbed : Bool) → (n : ℕ) → Option (List ℕ) → (range : Matrix) → Type 0
-HoldsShiftRange true n content range = FileHolds file_limit (RangeRight n range) content
-HoldsShiftRange false n content range = range ≡ no_shifts n
-
 -- the first three: a design, a controller for it and a certificate
 pub record HoldsCertificate (design controller certificate : Option (List ℕ)) (p : DesignParts) (c : Numbers) (f : CertificateNumbers) : Type 0 where
   pub design_right : FileHolds file_limit (DesignRight p) design
@@ -74,7 +69,7 @@ pub record OfCertificate (disturbed : Bool) (contents : Contents) (P : Design �
   pub f : CertificateNumbers
   pub range : Matrix
   pub holds : HoldsCertificate (contents 1) (contents 2) (contents 3) p c f
-  pub shifts : HoldsShiftRange disturbed c.states (contents 4) range
+  pub shifts : HoldsDisturbances disturbed c.states (contents 4) range
   pub so : P (design_of p) c f range
 
 -- the file at this position is read: those before it are right

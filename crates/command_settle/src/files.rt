@@ -8,14 +8,14 @@ ghost use Rattle.settle_check.specs.Still.{box_of, IsPartOf};
 ghost use Rattle.settle_check.specs.Certificates.{state_box, IsCertificateFor};
 ghost use Rattle.settle_check.specs.CertificateText.{certificate_numbers};
 ghost use Rattle.command_line.specs.Words.{word_of, IsSettle};
-ghost use Rattle.command_stay.specs.DesignFiles.Reading.{IsDesignRead};
-ghost use Rattle.command_stay.specs.Files.Reading.{IsControllerRead};
-ghost use Rattle.command_settle.specs.Files.{AreCertificateRead, EndsCertificateUnder, AreSettlingRead, EndsSettling};
+ghost use Rattle.command_loop.specs.DesignFiles.Reading.{IsDesignRead};
+ghost use Rattle.command_loop.specs.CommandFiles.Reading.{IsControllerRead};
+ghost use Rattle.command_settle.specs.Disturbances.{AreDisturbancesTaken, EndsDisturbances};
+ghost use Rattle.command_settle.specs.Files.{AreCertificateRead, EndsCertificateUnder, AreSettlingRead, EndsUnprinted};
 
 use crate::certificate::read_certificate_file;
 use command_line::Status;
-use command_loop::{read_controller_for, read_design_file};
-use command_stay::take_range;
+use command_loop::{read_controller_for, read_design_file, read_range_file};
 use io_edge::{Store, Words};
 use mat_int::Mat;
 use overflow_check::Controller;
@@ -38,6 +38,30 @@ pub struct Settling {
     pub under: CertificateUnder,
 }
 
+// The range of the shifts of `n` coordinates: that in the fourth file where there are disturbances, and zeros where there are none.
+fn take_disturbances<S: Store>(
+    alloc: Global,
+    words: &Words,
+    disturbed: bool,
+    n: usize,
+    store: &mut S,
+) -> Result<Mat, Status>
+    requires { IsSettle words.now disturbed }
+    ensures right { IfOk result (AreDisturbancesTaken disturbed n (S.held store.old) (word_of words.now 4)) }
+    ensures sized { IfOk result (IsShiftRange n) }
+    ensures ends { IfErr result (EndsDisturbances disturbed n (S.held store.old) (word_of words.now 4)
+        (S.read_faults store.old (word_of words.now 4)) (S.read_faults store.new (word_of words.now 4))) }
+    ensures held { S.held store.new ≡ S.held store.old }
+    ensures reads { NoneFalls (S.read_faults store.old) (S.read_faults store.new) }
+    ensures writes { NoneFalls (S.write_faults store.old) (S.write_faults store.new) }
+{
+    if disturbed {
+        read_range_file(alloc, 4, words.at(4), n, store)
+    } else {
+        Ok(Mat::zero(alloc, 2, n)?)
+    }
+}
+
 // The certificate in the third file, and then the range of the shifts.
 fn read_certificate_under<S: Store>(
     alloc: Global,
@@ -58,7 +82,7 @@ fn read_certificate_under<S: Store>(
     ensures writes { NoneFalls (S.write_faults store.old) (S.write_faults store.new) }
 {
     let certificate = read_certificate_file(alloc, 3, words.at(3), controller, store)?;
-    match take_range(alloc, words, 4, disturbed, controller.parts().n, store) {
+    match take_disturbances(alloc, words, disturbed, controller.parts().n, store) {
         Ok(range) => Ok(CertificateUnder { certificate, range }),
         Err(status) => {
             drop(certificate);
@@ -105,7 +129,7 @@ fn read_after_controller<S: Store>(
         AreSettlingRead disturbed words.now (S.held store.old) s.design s.controller (certificate_numbers s.under.certificate) s.under.range) }
     ensures sized { IfOk result (λ s. IsCertificateFor s.controller.states s.under.certificate) }
     ensures range { IfOk result (λ s. IsShiftRange s.controller.states s.under.range) }
-    ensures ends { IfErr result (EndsSettling disturbed words.now (S.held store.old) (S.read_faults store.old) (S.read_faults store.new)) }
+    ensures ends { IfErr result (EndsUnprinted disturbed words.now (S.held store.old) (S.read_faults store.old) (S.read_faults store.new)) }
     ensures held { S.held store.new ≡ S.held store.old }
     ensures reads { NoneFalls (S.read_faults store.old) (S.read_faults store.new) }
     ensures writes { NoneFalls (S.write_faults store.old) (S.write_faults store.new) }
@@ -128,7 +152,7 @@ fn read_after_design<S: Store>(
         AreSettlingRead disturbed words.now (S.held store.old) s.design s.controller (certificate_numbers s.under.certificate) s.under.range) }
     ensures sized { IfOk result (λ s. IsCertificateFor s.controller.states s.under.certificate) }
     ensures range { IfOk result (λ s. IsShiftRange s.controller.states s.under.range) }
-    ensures ends { IfErr result (EndsSettling disturbed words.now (S.held store.old) (S.read_faults store.old) (S.read_faults store.new)) }
+    ensures ends { IfErr result (EndsUnprinted disturbed words.now (S.held store.old) (S.read_faults store.old) (S.read_faults store.new)) }
     ensures held { S.held store.new ≡ S.held store.old }
     ensures reads { NoneFalls (S.read_faults store.old) (S.read_faults store.new) }
     ensures writes { NoneFalls (S.write_faults store.old) (S.write_faults store.new) }
@@ -149,7 +173,7 @@ pub fn read_settling<S: Store>(
         AreSettlingRead disturbed words.now (S.held store.old) s.design s.controller (certificate_numbers s.under.certificate) s.under.range) }
     ensures sized { IfOk result (λ s. IsCertificateFor s.controller.states s.under.certificate) }
     ensures range { IfOk result (λ s. IsShiftRange s.controller.states s.under.range) }
-    ensures ends { IfErr result (EndsSettling disturbed words.now (S.held store.old) (S.read_faults store.old) (S.read_faults store.new)) }
+    ensures ends { IfErr result (EndsUnprinted disturbed words.now (S.held store.old) (S.read_faults store.old) (S.read_faults store.new)) }
     ensures held { S.held store.new ≡ S.held store.old }
     ensures reads { NoneFalls (S.read_faults store.old) (S.read_faults store.new) }
     ensures writes { NoneFalls (S.write_faults store.old) (S.write_faults store.new) }

@@ -1,8 +1,8 @@
 -- A text of a certificate: what it holds, and that it is right in one way.
-use Rattle.std.proofs.Common.{◌≡◌, ◌⊎◌, inl, inr, ℕ, zero, suc, ◌+◌, ◌*◌, ◌<◌, ◌≤◌, ◌^◌, ℤ, pos, ◌≤ℤ◌, List, ◌∷◌, ◌++◌, length, take, drop, Result, Ok, Err, refl, sym, ap, subst, ◌∙◌, arith}
+use Rattle.std.proofs.Common.{◌≡◌, ◌⊎◌, inl, inr, ℕ, zero, suc, ◌+◌, ◌*◌, ◌<◌, ℤ, pos, List, ◌∷◌, ◌++◌, length, take, drop, Result, Ok, Err, refl, sym, ap, subst, ◌∙◌, arith}
 use Rattle.std.specs.Prelude.{IfOk, IfErr, MatchResult}
-use Rattle.std.proofs.lemmas.Bool.{cases_lt}
-use Rattle.std.proofs.lemmas.List.{ext_get_or, take_at, drop_at, take-append-drop, length-take-le, length-drop}
+use Rattle.std.proofs.lemmas.Int.{ints}
+use Rattle.std.proofs.lemmas.List.{ext_get_or, get_or-take, get_or-drop, take_at, drop_at, take-append-drop, length-take-le, length-drop}
 use Rattle.integer_algebra.specs.Sums.{at}
 use Rattle.mat_int.specs.Matrix.{Matrix, row_of}
 use Rattle.number_text.specs.declared.text_fault.TextFault.{TextFault}
@@ -12,9 +12,10 @@ use Rattle.policy_file.specs.StatesText.{state_rule}
 use Rattle.policy_file.specs.HeadedText.{IsHeadedText, IsHeadedFault}
 use Rattle.policy_file.proofs.MatrixFacts.{same_matrix}
 use Rattle.policy_file.proofs.UniqueFacts.{IsFunctional, same_number, same_numbers, held_or_wrong, same_first_fault, both_ways}
-use Rattle.settle_check.specs.Still.{Box, IsPartOf}
+use Rattle.settle_check.specs.Still.{Box, box_of, IsPartOf}
 use Rattle.settle_check.specs.Certificates.{IsCertificateFor}
-use Rattle.settle_check.specs.CertificateText.{BoxNumbers, CertificateNumbers, certificate_numbers, box_in, row_numbers, HoldsBox, IsTurnCount, IsBoxInRange, IsFirstOutOfRange, IsBoxRangeFault, IsCertificateText, IsCertificateFault}
+use Rattle.settle_check.specs.CertificateText.{BoxNumbers, CertificateNumbers, box_numbers, certificate_numbers, HoldsBox, IsTurnCount, box_at, IsBoxOfRow, AreBoxesInRange, IsFirstOutOfRange, IsCertificateText, IsCertificateFault}
+use Rattle.settle_check.specs.declared.certificate.StateBox.{StateBox}
 use Rattle.settle_check.specs.declared.certificate.CertificateParts.{CertificateParts}
 
 functional : IsFunctional state_rule
@@ -27,17 +28,20 @@ module _ (n : ℕ) (fields : List (List ℕ)) where
   row_long z row h = omega (arith, h.numbers)
 
 -- of a first number and a row behind it
-pub box_held : (bytes : List ℕ) (n e turns : ℕ) (b : BoxNumbers) (head : ℤ) (row : List ℤ) → HoldsNumbers state_rule (2 * n + 1) (record_at (records_of bytes) e) (head ∷ row) →
-    pos turns ≡ head → b ≡ row_numbers n row → HoldsBox bytes n e turns b
+pub box_held : (bytes : List ℕ) (n e turns : ℕ) (b : StateBox) (head : ℤ) (row : List ℤ) → HoldsNumbers state_rule (2 * n + 1) (record_at (records_of bytes) e) (head ∷ row) →
+    pos turns ≡ head → IsBoxOfRow n row b → HoldsBox bytes n e turns (box_numbers b)
 box_held bytes n e turns b head row h t is =
     let long = row_long n (record_at (records_of bytes) e) head row h in
-    rw is (record {
-      low = length-take-le n row (omega (arith, long));
-      high = omega (arith, length-drop n row, long);
-      numbers = rw (t, take-append-drop n row) h;
-    })
+    record {
+      low = rw is.low (length-take-le n row (omega (arith, long)));
+      high = rw is.high (omega (arith, length-drop n row, long));
+      numbers = rw (t, is.low, is.high, take-append-drop n row) h;
+    }
 
 -- its numbers are those of the record
+abbrev row_box : (n : ℕ) → List ℤ → BoxNumbers
+row_box n row = record { low = take n row; high = drop n row }
+
 module _ (bytes : List ℕ) (n e turns : ℕ) (b : BoxNumbers) (h : HoldsBox bytes n e turns b) (head : ℤ) (row : List ℤ)
     (k : HoldsNumbers state_rule (2 * n + 1) (record_at (records_of bytes) e) (head ∷ row)) where
   all_same : pos turns ∷ b.low ++ b.high ≡ head ∷ row
@@ -55,8 +59,18 @@ module _ (bytes : List ℕ) (n e turns : ℕ) (b : BoxNumbers) (h : HoldsBox byt
   high_same : drop n row ≡ b.high
   high_same = ap (drop n) (sym row_same) ∙ drop_at b.low b.high n h.low
 
-  box_same : row_numbers n row ≡ b
+  box_same : row_box n row ≡ b
   box_same = (λ i. record { low = low_same i; high = high_same i })
+
+-- the box of a row is that of its numbers
+part_by_row : (n : ℕ) (outer : Box) (m : Matrix) (e : ℕ) (low high : List ℤ) → low ≡ take n (row_of m e) → high ≡ drop n (row_of m e) → IsPartOf n outer (box_at n m e) → IsPartOf n outer (box_of low high)
+part_by_row n outer m e low high l h part i lt =
+    (rw (l, get_or-take n (row_of m e) i (pos 0) lt) (part i lt).0, rw (h, get_or-drop n (row_of m e) i (pos 0)) (part i lt).1)
+
+part_of_row : (n : ℕ) (outer : Box) (m : Matrix) (e : ℕ) (low high : List ℤ) → low ≡ take n (row_of m e) → high ≡ drop n (row_of m e) → IsPartOf n outer (box_of low high) → IsPartOf n outer (box_at n m e)
+part_of_row n outer m e low high l h part i lt =
+    let p = part i lt in
+    (rw (l, get_or-take n (row_of m e) i (pos 0) lt) at p.0, rw (h, get_or-drop n (row_of m e) i (pos 0)) at p.1)
 
 -- two that hold the same record
 natural_same : (t u : ℕ) → pos t ≡ pos u → t ≡ u
@@ -79,21 +93,18 @@ module _ (bytes : List ℕ) (n : ℕ) (outer : Box) where
   Headed heads m = IsHeadedText state_rule bytes (2 * n) 3 heads m
 
   -- what was read
-  pub certificate_read : (p : CertificateParts) (heads : List ℤ) (m : Matrix) → Headed heads m → ((e : ℕ) → IsBoxInRange n outer heads m e) → pos p.turns ≡ at heads 0 → pos p.back ≡ at heads 2 →
-      (certificate_numbers p).start ≡ row_numbers n (row_of m 0) → (certificate_numbers p).still ≡ row_numbers n (row_of m 1) → (certificate_numbers p).rest ≡ row_numbers n (row_of m 2) →
-      Right (certificate_numbers p)
+  pub certificate_read : (p : CertificateParts) (heads : List ℤ) (m : Matrix) → Headed heads m → AreBoxesInRange n outer heads m → pos p.turns ≡ at heads 0 → pos p.back ≡ at heads 2 → IsBoxOfRow n (row_of m 0) p.start →
+      IsBoxOfRow n (row_of m 1) p.still → IsBoxOfRow n (row_of m 2) p.rest → Right (certificate_numbers p)
   certificate_read p heads m h range turns back start still rest =
-      let first = range 0 in
-      let last = range 2 in
       record {
         records = h.records;
-        start = box_held bytes n 0 p.turns (certificate_numbers p).start (at heads 0) (row_of m 0) (h.each 0 (omega arith)) turns start;
-        still = box_held bytes n 1 0 (certificate_numbers p).still (at heads 1) (row_of m 1) (h.each 1 (omega arith)) (sym (range 1).0) still;
-        rest = box_held bytes n 2 p.back (certificate_numbers p).rest (at heads 2) (row_of m 2) (h.each 2 (omega arith)) back rest;
-        turns = omega (arith, ints, turns, first.high);
-        inside = rw still (range 1).1;
-        some = omega (arith, ints, back, last.low);
-        back = omega (arith, ints, back, last.high);
+        start = box_held bytes n 0 p.turns p.start (at heads 0) (row_of m 0) (h.each 0 (omega arith)) turns start;
+        still = box_held bytes n 1 0 p.still (at heads 1) (row_of m 1) (h.each 1 (omega arith)) (sym range.still.0) still;
+        rest = box_held bytes n 2 p.back p.rest (at heads 2) (row_of m 2) (h.each 2 (omega arith)) back rest;
+        turns = omega (arith, ints, turns, range.turns.high);
+        inside = part_by_row n outer m 1 p.still.low.items p.still.high.items still.low still.high range.still.1;
+        some = omega (arith, ints, back, range.back.low);
+        back = omega (arith, ints, back, range.back.high);
       }
 
   -- and the fault of a text that isn't one
@@ -112,23 +123,32 @@ module _ (bytes : List ℕ) (n : ℕ) (outer : Box) where
   headed_of f h (suc (suc zero)) lt = (pos f.back ∷ f.rest.low ++ f.rest.high, h.rest.numbers)
   headed_of f h (suc (suc (suc e))) lt = absurd (omega (arith, lt))
 
-  in_range : (f : CertificateNumbers) (h : Right f) (heads : List ℤ) (m : Matrix) → Headed heads m → (e : ℕ) → e < 3 → IsBoxInRange n outer heads m e
-  in_range f h heads m k zero lt =
+  first_in : (f : CertificateNumbers) (h : Right f) (heads : List ℤ) (m : Matrix) → Headed heads m → IsTurnCount (pos 0) (at heads 0)
+  first_in f h heads m k =
       let same = turns_same bytes n 0 f.turns f.start h.start (at heads 0) (row_of m 0) (k.each 0 (omega arith)) in
       record { low = omega (arith, ints, same); high = omega (arith, ints, same, h.turns) }
-  in_range f h heads m k (suc zero) lt = (
-    sym (turns_same bytes n 1 0 f.still h.still (at heads 1) (row_of m 1) (k.each 1 (omega arith))),
-    rw (box_same bytes n 1 0 f.still h.still (at heads 1) (row_of m 1) (k.each 1 (omega arith))) h.inside,
-  )
-  in_range f h heads m k (suc (suc zero)) lt =
+
+  second_in : (f : CertificateNumbers) (h : Right f) (heads : List ℤ) (m : Matrix) → Headed heads m → (at heads 1 ≡ pos 0) × IsPartOf n outer (box_at n m 1)
+  second_in f h heads m k =
+      let held = k.each 1 (omega arith) in (
+        sym (turns_same bytes n 1 0 f.still h.still (at heads 1) (row_of m 1) held),
+        part_of_row n outer m 1 f.still.low f.still.high (sym (low_same bytes n 1 0 f.still h.still (at heads 1) (row_of m 1) held)) (sym (high_same bytes n 1 0 f.still h.still (at heads 1) (row_of m 1) held)) h.inside,
+      )
+
+  third_in : (f : CertificateNumbers) (h : Right f) (heads : List ℤ) (m : Matrix) → Headed heads m → IsTurnCount (pos 1) (at heads 2)
+  third_in f h heads m k =
       let same = turns_same bytes n 2 f.back f.rest h.rest (at heads 2) (row_of m 2) (k.each 2 (omega arith)) in
       record { low = omega (arith, ints, same, h.some); high = omega (arith, ints, same, h.back) }
-  in_range f h heads m k (suc (suc (suc e))) lt = absurd (omega (arith, lt))
+
+  never_out : (f : CertificateNumbers) (h : Right f) (heads : List ℤ) (m : Matrix) (place : ℕ) → Headed heads m → IsFirstOutOfRange n outer heads m place → ⊥
+  never_out f h heads m place k (inl first) = first.1 (first_in f h heads m k)
+  never_out f h heads m place k (inr (inl second)) = second.2 (second_in f h heads m k)
+  never_out f h heads m place k (inr (inr third)) = third.3 (third_in f h heads m k)
 
   not_both : (f : CertificateNumbers) (fault : TextFault) → Right f → Wrong fault → ⊥
   not_both f fault h (inl (inl w)) = held_or_wrong state_rule (2 * n + 1) 3 (records_of bytes) fault (omega (arith, h.records)) (headed_of f h) w
   not_both f fault h (inl (inr w)) = w.here h.records
-  not_both f fault h (inr w) = w.first.here (in_range f h w.heads w.boxes w.holds w.first.index w.first.inside)
+  not_both f fault h (inr w) = never_out f h w.heads w.boxes w.place w.holds w.first
 
   same_certificate : (a b : CertificateNumbers) → a.turns ≡ b.turns → a.back ≡ b.back → a.start ≡ b.start → a.still ≡ b.still → a.rest ≡ b.rest → a ≡ b
   same_certificate a b t k s z r = (λ i. record { turns = t i; back = k i; start = s i; still = z i; rest = r i })
@@ -162,13 +182,15 @@ module _ (bytes : List ℕ) (n : ℕ) (outer : Box) where
 
   -- and have one first record out of its range
   one_place : (heads : List ℤ) (m : Matrix) (a b : ℕ) → IsFirstOutOfRange n outer heads m a → IsFirstOutOfRange n outer heads m b → a ≡ b
-  one_place heads m a b h k = elim (cases_lt h.index k.index) [
-    | inl lt ↦ absurd (h.here (k.before h.index lt))
-    | inr ge ↦ elim (cases_lt k.index h.index) [
-      | inl lt ↦ absurd (k.here (h.before k.index lt))
-      | inr le ↦ omega (arith, ge, le, h.is, k.is)
-    ]
-  ]
+  one_place heads m a b (inl h) (inl k) = h.0 ∙ sym k.0
+  one_place heads m a b (inl h) (inr (inl k)) = absurd (h.1 k.1)
+  one_place heads m a b (inl h) (inr (inr k)) = absurd (h.1 k.1)
+  one_place heads m a b (inr (inl h)) (inl k) = absurd (k.1 h.1)
+  one_place heads m a b (inr (inl h)) (inr (inl k)) = h.0 ∙ sym k.0
+  one_place heads m a b (inr (inl h)) (inr (inr k)) = absurd (h.2 k.2)
+  one_place heads m a b (inr (inr h)) (inl k) = absurd (k.1 h.1)
+  one_place heads m a b (inr (inr h)) (inr (inl k)) = absurd (k.2 h.2)
+  one_place heads m a b (inr (inr h)) (inr (inr k)) = h.0 ∙ sym k.0
 
   same_place : (xs ys : List ℤ) (l m : Matrix) (a b : ℕ) → xs ≡ ys → l ≡ m → IsFirstOutOfRange n outer xs l a → IsFirstOutOfRange n outer ys m b → a ≡ b
   same_place xs ys l m a b heads boxes h k =

@@ -1,7 +1,7 @@
 -- A certificate's text: a record for each of its boxes, of a number of turns, the least number of each coordinate and then the greatest.
-use Rattle.std.specs.Prelude.{◌≡◌, ◌⊎◌, ℕ, zero, suc, ◌+◌, ◌*◌, ◌<◌, ◌≤◌, ℤ, pos, ◌≤ℤ◌, List, ◌∷◌, ◌++◌, length, take, drop}
+use Rattle.std.specs.Prelude.{◌≡◌, ◌⊎◌, ℕ, ◌+◌, ◌*◌, ◌≤◌, ℤ, pos, ◌≤ℤ◌, List, ◌∷◌, ◌++◌, length, take, drop}
 use Rattle.integer_algebra.specs.Sums.{at}
-use Rattle.mat_int.specs.Matrix.{Matrix, row_of}
+use Rattle.mat_int.specs.Matrix.{Matrix, entry_of}
 use Rattle.number_text.specs.declared.text_fault.TextFault.{TextFault}
 use Rattle.number_text.specs.declared.text_fault.TextFault.TheVariants.{Range}
 use Rattle.policy_file.specs.Records.{HoldsNumbers, records_of, record_at}
@@ -67,29 +67,33 @@ pub record IsCertificateText (bytes : List ℕ) (n : ℕ) (outer : Box) (f : Cer
   pub some : 1 ≤ f.back
   pub back : f.back ≤ most_settling_turns
 
+-- a box of the numbers of a row
+pub record IsBoxOfRow (n : ℕ) (row : List ℤ) (b : StateBox) : Type 0 where
+  pub low : b.low.items ≡ take n row
+  pub high : b.high.items ≡ drop n row
+
 -- ---- their first fault
 -- a number of turns from a least one on
 pub record IsTurnCount (least z : ℤ) : Type 0 where
   pub low : least ≤ℤ z
   pub high : z ≤ℤ pos most_settling_turns
 
--- the box of a row
-abbrev pub row_numbers : (n : ℕ) → List ℤ → BoxNumbers
-row_numbers n row = record { low = take n row; high = drop n row }
+-- the box of row e
+abbrev pub box_at : (n : ℕ) → Matrix → ℕ → Box
+box_at n boxes e = record { low = λ i. entry_of boxes e i; high = λ i. entry_of boxes e (n + i) }
 
--- the numbers of record e are in their ranges
-abbrev pub IsBoxInRange : (n : ℕ) → (outer : Box) → (heads : List ℤ) → (boxes : Matrix) → ℕ → Type 0
-IsBoxInRange n outer heads boxes zero = IsTurnCount (pos 0) (at heads 0)
-IsBoxInRange n outer heads boxes (suc zero) = (at heads 1 ≡ pos 0) × IsPartOf n outer (box_in (row_numbers n (row_of boxes 1)))
-IsBoxInRange n outer heads boxes (suc (suc e)) = IsTurnCount (pos 1) (at heads 2)
+-- record by record the numbers are in their ranges
+pub record AreBoxesInRange (n : ℕ) (outer : Box) (heads : List ℤ) (boxes : Matrix) : Type 0 where
+  pub turns : IsTurnCount (pos 0) (at heads 0)
+  pub still : (at heads 1 ≡ pos 0) × IsPartOf n outer (box_at n boxes 1)
+  pub back : IsTurnCount (pos 1) (at heads 2)
 
--- the first record that has one that isn't, counted from 1
-pub record IsFirstOutOfRange (n : ℕ) (outer : Box) (heads : List ℤ) (boxes : Matrix) (place : ℕ) : Type 0 where
-  pub index : ℕ
-  pub inside : index < 3
-  pub before : (e : ℕ) → e < index → IsBoxInRange n outer heads boxes e
-  pub here : ¬ IsBoxInRange n outer heads boxes index
-  pub is : place ≡ index + 1
+-- the first record, from 1, with one that isn't
+abbrev pub IsFirstOutOfRange : (n : ℕ) → (outer : Box) → (heads : List ℤ) → (boxes : Matrix) → (place : ℕ) → Type 0
+IsFirstOutOfRange n outer heads boxes place =
+    ((place ≡ 1) × ¬ IsTurnCount (pos 0) (at heads 0)) ⊎
+    (((place ≡ 2) × IsTurnCount (pos 0) (at heads 0) × ¬ ((at heads 1 ≡ pos 0) × IsPartOf n outer (box_at n boxes 1))) ⊎
+    ((place ≡ 3) × IsTurnCount (pos 0) (at heads 0) × ((at heads 1 ≡ pos 0) × IsPartOf n outer (box_at n boxes 1)) × ¬ IsTurnCount (pos 1) (at heads 2)))
 
 -- there are three records of so many numbers, of which that one has one out of its range
 pub record IsBoxRangeFault (bytes : List ℕ) (n : ℕ) (outer : Box) (fault : TextFault) : Type 0 where

@@ -1,12 +1,12 @@
 // The text of a certificate.
-ghost use Rattle.std.specs.Prelude.{◌≡◌, ◌⊎◌, ℕ, ◌*◌, ◌<◌, ◌≤◌, ◌^◌, pos, ◌≤ℤ◌, length, IfOk, IfErr, IfSome, IfNone, MatchResult, IsTrue, ◌↔◌};
+ghost use Rattle.std.specs.Prelude.{◌≡◌, ◌⊎◌, ℕ, ◌+◌, ◌*◌, ◌<◌, ◌≤◌, ◌^◌, pos, ◌≤ℤ◌, length, IfOk, IfErr, IfSome, IfNone, MatchResult, IsTrue, ◌↔◌};
 ghost use Rattle.integer_algebra.specs.Sums.{at};
-ghost use Rattle.mat_int.specs.Matrix.{row_of};
+ghost use Rattle.mat_int.specs.Matrix.{row_of, entry_of};
 ghost use Rattle.number_text.specs.declared.text_fault.TextFault.{TextFault};
 ghost use Rattle.number_text.specs.declared.text_fault.TextFault.TheVariants.{Memory};
 ghost use Rattle.settle_check.specs.Still.{box_of, IsPartOf};
 ghost use Rattle.settle_check.specs.Certificates.{IsCertificateFor};
-ghost use Rattle.settle_check.specs.CertificateText.{CertificateNumbers, certificate_numbers, box_numbers, row_numbers, box_in, IsTurnCount, IsBoxInRange, IsFirstOutOfRange, IsCertificateText, IsCertificateFault};
+ghost use Rattle.settle_check.specs.CertificateText.{CertificateNumbers, certificate_numbers, box_at, IsBoxOfRow, IsTurnCount, AreBoxesInRange, IsFirstOutOfRange, IsCertificateText, IsCertificateFault};
 
 use crate::certificate::{CertificateParts, StateBox};
 use mat_int::Mat;
@@ -75,25 +75,54 @@ fn place_out_of_range(read: &Headed, low: &[i128], high: &[i128]) -> Option<u32>
     requires cols { read.now.rows.cols ≡ 2 * length low.now }
     requires high { length high.now ≡ length low.now }
     ensures some { IfSome result (IsFirstOutOfRange (length low.now) (box_of low.now high.now) read.now.heads.items read.now.rows) }
-    ensures none { IfNone result ((e : ℕ) → IsBoxInRange (length low.now) (box_of low.now high.now) read.now.heads.items read.now.rows e) }
+    ensures none { IfNone result (AreBoxesInRange (length low.now) (box_of low.now high.now) read.now.heads.items read.now.rows) }
 {
-    if !is_turn_count(0, read.heads[0]) {
+    if !has_turns(read) {
         return Some(1);
     }
-    if read.heads[1] != 0 || !is_part(low, high, read.rows.row(1)) {
+    if !is_still_record(read, low, high) {
         return Some(2);
     }
-    if !is_turn_count(1, read.heads[2]) {
+    if !has_return(read) {
         return Some(3);
     }
     None
 }
 
-// Whether a number is one of turns, from a least one on.
-fn is_turn_count(least: i128, number: i128) -> bool
-    ensures { IsTrue result ↔ IsTurnCount least number }
+// Whether the turns from the start box are in their range.
+fn has_turns(read: &Headed) -> bool
+    requires { length read.now.heads.items ≡ 3 }
+    ensures { IsTrue result ↔ IsTurnCount (pos 0) (at read.now.heads.items 0) }
 {
-    least <= number && number <= MOST_SETTLING_TURNS
+    is_turn_count(read, 0, 0)
+}
+
+// Whether those from the box of rest are.
+fn has_return(read: &Headed) -> bool
+    requires { length read.now.heads.items ≡ 3 }
+    ensures { IsTrue result ↔ IsTurnCount (pos 1) (at read.now.heads.items 2) }
+{
+    is_turn_count(read, 2, 1)
+}
+
+// Whether the first number of record `e`, from 0, is one of turns, from a least one on.
+fn is_turn_count(read: &Headed, e: usize, least: i128) -> bool
+    requires { e < length read.now.heads.items }
+    ensures { IsTrue result ↔ IsTurnCount least (at read.now.heads.items e) }
+{
+    let turns = read.heads[e];
+    least <= turns && turns <= MOST_SETTLING_TURNS
+}
+
+// Whether the second record is of 0 and a part of the box between two lists.
+fn is_still_record(read: &Headed, low: &[i128], high: &[i128]) -> bool
+    requires heads { length read.now.heads.items ≡ 3 }
+    requires rows { length read.now.rows.rows ≡ 3 }
+    requires cols { read.now.rows.cols ≡ 2 * length low.now }
+    requires high { length high.now ≡ length low.now }
+    ensures { IsTrue result ↔ ((at read.now.heads.items 1 ≡ pos 0) × IsPartOf (length low.now) (box_of low.now high.now) (box_at (length low.now) read.now.rows 1)) }
+{
+    read.heads[1] == 0 && is_part(low, high, &read.rows)
 }
 
 // Such a number as one of 32 bits.
@@ -105,25 +134,36 @@ fn turns_of(number: i128) -> u32
     number as u32
 }
 
-// Whether the box of a row is part of that between two lists.
-fn is_part(low: &[i128], high: &[i128], row: &[i128]) -> bool
+// Whether the box of the second row is part of that between two lists.
+fn is_part(low: &[i128], high: &[i128], rows: &Mat) -> bool
     requires high { length high.now ≡ length low.now }
-    requires row { length row.now ≡ 2 * length low.now }
-    ensures { IsTrue result ↔ IsPartOf (length low.now) (box_of low.now high.now) (box_in (row_numbers (length low.now) row.now)) }
+    requires rows { length rows.now.rows ≡ 3 }
+    requires cols { rows.now.cols ≡ 2 * length low.now }
+    ensures { IsTrue result ↔ IsPartOf (length low.now) (box_of low.now high.now) (box_at (length low.now) rows.now 1) }
 {
-    let n = low.len();
-    for i in 0..n {
-        if row[i] < low[i] || high[i] < row[n + i] {
+    for i in 0..low.len() {
+        if !is_inside(low, high, rows, i) {
             return false;
         }
     }
     true
 }
 
+// Whether coordinate `i` of it is.
+fn is_inside(low: &[i128], high: &[i128], rows: &Mat, i: usize) -> bool
+    requires high { length high.now ≡ length low.now }
+    requires rows { length rows.now.rows ≡ 3 }
+    requires cols { rows.now.cols ≡ 2 * length low.now }
+    requires coordinate { i < length low.now }
+    ensures { IsTrue result ↔ ((at low.now i ≤ℤ entry_of rows.now 1 i) × (entry_of rows.now 1 (length low.now + i) ≤ℤ at high.now i)) }
+{
+    low[i] <= rows.at(1, i) && rows.at(1, low.len() + i) <= high[i]
+}
+
 // The box of a row of `2n` numbers.
 fn box_in_row(alloc: Global, row: &[i128], n: usize) -> Result<StateBox, AllocError>
     requires { n ≤ length row.now }
-    ensures { IfOk result (λ b. box_numbers b ≡ row_numbers n row.now) }
+    ensures { IfOk result (IsBoxOfRow n row.now) }
 {
     let low = row[..n].to_vec(alloc)?;
     let high = row[n..].to_vec(alloc)?;
@@ -139,9 +179,9 @@ fn parts_in(alloc: Global, read: &Headed, n: usize) -> Result<CertificateParts, 
     requires back { IsTurnCount (pos 1) (at read.now.heads.items 2) }
     ensures turns { IfOk result (λ p. pos p.turns ≡ at read.now.heads.items 0) }
     ensures back { IfOk result (λ p. pos p.back ≡ at read.now.heads.items 2) }
-    ensures start { IfOk result (λ p. box_numbers p.start ≡ row_numbers n (row_of read.now.rows 0)) }
-    ensures still { IfOk result (λ p. box_numbers p.still ≡ row_numbers n (row_of read.now.rows 1)) }
-    ensures rest { IfOk result (λ p. box_numbers p.rest ≡ row_numbers n (row_of read.now.rows 2)) }
+    ensures start { IfOk result (λ p. IsBoxOfRow n (row_of read.now.rows 0) p.start) }
+    ensures still { IfOk result (λ p. IsBoxOfRow n (row_of read.now.rows 1) p.still) }
+    ensures rest { IfOk result (λ p. IsBoxOfRow n (row_of read.now.rows 2) p.rest) }
 {
     let start = box_in_row(alloc, read.rows.row(0), n)?;
     let still = box_in_row(alloc, read.rows.row(1), n)?;

@@ -5,7 +5,7 @@ use Rattle.settle_check.specs.CertificateText.{certificate_numbers, IsCertificat
 use Rattle.command_line.specs.Limit.{file_limit}
 use Rattle.command_line.proofs.Results.{err_same}
 use Rattle.command_line.specs.declared.status.Status.TheVariants.{Text}
-use Rattle.command_stay.proofs.DesignFiles.Readers.{ends_unread, ends_fault, right_text, SaysText, text_said}
+use Rattle.command_loop.proofs.DesignFiles.Readers.{ends_unread, ends_fault, right_text, SaysText, text_said}
 use Rattle.command_settle.specs.CertificateFile.{CertificateRight, CertificateWrong}
 use Rattle.command_settle.proofs.certificate.read_certificate_file.Goals as goal
 

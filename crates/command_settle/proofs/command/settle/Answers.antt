@@ -1,13 +1,19 @@
-use Rattle.std.proofs.Common.{inl, inr, refl, le_refl}
+use Rattle.std.proofs.Common.{inl, refl, le_refl}
 use Rattle.io_edge.specs.Faults.{Rose}
 use Rattle.settle_check.specs.CertificateText.{certificate_numbers}
 use Rattle.command_line.proofs.Doing.{printing}
-use Rattle.command_stay.proofs.Generating.Ending.{stop_called, stop_fault, stop_no_write}
-use Rattle.command_settle.specs.Files.{settle_calls, settle_reaches}
 use Rattle.command_settle.specs.Deeds.{settle_deeds}
 use Rattle.command_settle.proofs.Row.{settle_row}
 use Rattle.command_settle.proofs.Answering.{stop_prints, settle_called, settle_prints, settle_fault, settle_no_read, quietly}
 use Rattle.command_settle.proofs.command.settle.Goals as goal
+
+pub print_settled-requires : goal.print_settled-requires
+print_settled-requires g c = record {
+  matched = c.in-Ok.ensures.right.matched;
+  certificate = c.in-Ok.ensures.sized;
+  inside = c.in-Ok.ensures.right.under.certificate.right.right.inside;
+  range = c.in-Ok.ensures.range;
+}
 
 -- all files are right
 pub returns-in-Ok : goal.returns-in-Ok
@@ -44,14 +50,12 @@ returns-in-Err g c =
     let s = c.in-Err.status in
     let ends = c.in-Err.ensures.ends in
     let disturbed = c.args.disturbed in
-    let calls = settle_calls disturbed in
-    let reaches = settle_reaches disturbed in
     printing g.S.Store g.O.Sink words (settle_deeds disturbed) (settle_row disturbed) tt c.args.store.now c.read_settling.new.store c.args.out.now c.args.out.now s (λ unused. absurd (unused.reads 1 (inl refl))) (λ same. same) (record {
-      called = stop_called calls reaches words held before now s ends;
+      called = ends.called;
       prints = stop_prints disturbed words held before now s ends (g.O.Sink.got c.args.out.now);
       quiet = λ earlier. refl;
-      read_fault = stop_fault calls reaches words held before now s ends;
-      write_fault = λ file is. absurd (stop_no_write calls reaches words held before now s ends file is);
+      read_fault = ends.fault;
+      write_fault = λ file is. absurd (ends.write file is);
       held = c.read_settling.ensures.held;
       reads = c.read_settling.ensures.reads;
       writes = c.read_settling.ensures.writes;

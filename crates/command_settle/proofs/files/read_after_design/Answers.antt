@@ -1,8 +1,6 @@
 use Rattle.command_line.proofs.Results.{err_same}
-use Rattle.command_stay.proofs.Generating.Ending.{answers_later}
 use Rattle.command_line.proofs.Counts.{none_falls_twice}
-use Rattle.command_settle.specs.Files.{settle_calls, settle_reaches}
-use Rattle.command_settle.proofs.Opening.{controller_ends}
+use Rattle.command_settle.proofs.Opening.{answers_later, controller_ends}
 use Rattle.command_settle.proofs.files.read_after_design.Goals as goal
 
 pub returns-in_err-controller : goal.returns-in_err-controller
@@ -21,7 +19,7 @@ returns g c =
       right = after.right;
       sized = after.sized;
       range = after.range;
-      ends = answers_later (settle_calls c.args.disturbed) (settle_reaches c.args.disturbed) words held c.read_after_controller.result _ _ _ read.reads after.reads after.ends;
+      ends = answers_later c.args.disturbed words held c.read_after_controller.result _ _ _ read.reads after.reads after.ends;
       held = after.held;
       reads = none_falls_twice _ _ _ read.reads after.reads;
       writes = none_falls_twice _ _ _ read.writes after.writes;

@@ -3,7 +3,7 @@ use Rattle.qp_model.specs.machine.Controller.{Numbers}
 use Rattle.settle_check.specs.CertificateText.{certificate_numbers}
 use Rattle.command_line.specs.Words.{word_of}
 use Rattle.command_line.proofs.Results.{err_same}
-use Rattle.command_stay.proofs.Opening.{taking_later}
+use Rattle.command_settle.proofs.Opening.{taking_later}
 use Rattle.command_settle.specs.Files.{EndsCertificateUnder}
 use Rattle.command_settle.proofs.files.read_certificate_under.Goals as goal
 
@@ -34,11 +34,11 @@ returns-in-Err-clause-ends g c =
     let name = word_of c.args.words.now 4 in
     let before = g.S.Store.read_faults c.args.store.now in
     let mid = g.S.Store.read_faults c.read_certificate_file.new.store in
-    let now = g.S.Store.read_faults c.take_range.new.store in
+    let now = g.S.Store.read_faults c.take_disturbances.new.store in
     let states = ap (λ (n : Numbers). n.states) c.parts.ensures.value in
     inr (
       certificate_numbers c.in_ok-certificate.certificate,
       rw c.at.ensures at c.in_ok-certificate.ensures.right,
-      taking_later c.args.disturbed c.args.controller.now.states 4 (g.S.Store.held c.args.store.now) name (before name) (mid name) (now name) c.in-Err.status
-          (c.in_ok-certificate.ensures.reads.each name) (c.take_range.ensures.reads.each name) (rw (states, c.in_ok-certificate.ensures.held) at c.in-Err.ensures.ends),
+      taking_later c.args.disturbed c.args.controller.now.states (g.S.Store.held c.args.store.now) name (before name) (mid name) (now name) c.in-Err.status
+          (c.in_ok-certificate.ensures.reads.each name) (c.take_disturbances.ensures.reads.each name) (rw (states, c.in_ok-certificate.ensures.held) at c.in-Err.ensures.ends),
     )
