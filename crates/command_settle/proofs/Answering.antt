@@ -1,5 +1,5 @@
 -- What files that are right make of the answer, and of what the output got.
-use Rattle.std.proofs.Common.{◌≡◌, ◌≢◌, ◌⊎◌, inl, inr, ℕ, Bool, List, Option, Some, None, refl, subst}
+use Rattle.std.proofs.Common.{◌≡◌, ◌≢◌, ◌⊎◌, inl, inr, ℕ, Bool, List, Option, Some, None, option_map, ◌++◌, refl, sym, ap, subst, ◌∙◌}
 use Rattle.std.specs.Prelude.{IfSome, IsSomeAnd}
 use Rattle.io_edge.specs.Faults.{Files, GrowsByPart}
 use Rattle.mat_int.specs.Matrix.{Matrix}
@@ -7,6 +7,7 @@ use Rattle.qp_model.specs.problem.Design.{Design}
 use Rattle.qp_model.specs.problem.Parts.{design_of}
 use Rattle.qp_model.specs.machine.Controller.{Numbers}
 use Rattle.qp_model.specs.declared.design_parts.DesignParts.{DesignParts}
+use Rattle.settle_check.specs.Settling.{LoopsSettle}
 use Rattle.settle_check.specs.Settles.{PassesSettling}
 use Rattle.settle_check.specs.CertificateText.{CertificateNumbers, certificate_in}
 use Rattle.command_line.specs.Words.{word_of}
@@ -15,7 +16,7 @@ use Rattle.command_line.proofs.Composing.{some_contents}
 use Rattle.command_line.specs.declared.status.Status.{Status}
 use Rattle.command_line.specs.declared.status.Status.TheVariants.{Done, ReadFault, WriteFault}
 use Rattle.command_settle.specs.Settle.{CertificateCalls, SettleStarts, OfCertificate, SettlePrints, range_box, told_text, IsToldSettled}
-use Rattle.command_settle.specs.Files.{settle_calls, EndsUnprinted, AreSettlingRead, SettlingEnds, SettlingPrints}
+use Rattle.command_settle.specs.Files.{settle_calls, EndsUnprinted, AreSettlingRead, IsUntold, SettlingEnds, SettlingPrints}
 use Rattle.command_settle.proofs.Calling.{fault_uncut}
 use Rattle.command_settle.proofs.Opening.{first_four, three_hold, three_right, with_certificate, AreRangeContents, range_contents}
 
@@ -106,6 +107,64 @@ module _ (disturbed : Bool) (words : List (List ℕ)) (held : Option Files) (p :
     settle_prints (Some old) (Some new) print = with_all (λ k. SettlePrints disturbed k s old new) (shown old new print)
     settle_prints (Some old) None print = print
     settle_prints None last print = tt
+
+-- ---- the text is put
+module _ (d : Design) (c : Numbers) (f : CertificateNumbers) (range : Matrix) (s : Status) where
+  module _ (bytes : List ℕ) (text : bytes ≡ told_text d c f range) (settles : LoopsSettle d c (range_box range) (certificate_in f))
+      (passes : PassesSettling d c (range_box range) (certificate_in f)) (answer : IsAnswer (CertificateCalls d c f range) Done) where
+    pub put_ends : (s ≡ Done) ⊎ (s ≡ WriteFault 0) → SettlingEnds d c f range s
+    put_ends (inl is) = inr (inr (subst (λ (t : Status). IsAnswer (CertificateCalls d c f range) t) (sym is) answer))
+    put_ends (inr is) = inr (inl (is, passes))
+
+    all_put : (old new : List ℕ) → s ≡ Done → new ≡ old ++ bytes → SettlingPrints d c f range s old new
+    all_put old new is put = record {
+      done = λ e. record { settles = settles; printed = put ∙ ap (λ (t : List ℕ). old ++ t) text };
+      fault = λ e. absurd (let never : ⊥ = cc in never);
+      other = λ a b. absurd (a is);
+    }
+
+    part_put : (old new : List ℕ) → s ≡ WriteFault 0 → GrowsByPart old new bytes → SettlingPrints d c f range s old new
+    part_put old new is part = record {
+      done = λ e. absurd (let never : ⊥ = cc in never);
+      fault = λ e. subst (λ (t : List ℕ). GrowsByPart old new t) text part;
+      other = λ a b. absurd (b is);
+    }
+
+    pub put_prints : (first last : Option (List ℕ)) → (s ≡ Done) ⊎ (s ≡ WriteFault 0) → (s ≡ Done → last ≡ option_map (λ old. old ++ bytes) first) →
+        (s ≡ WriteFault 0 → IfSome first (λ old. IsSomeAnd last (λ new. GrowsByPart old new bytes))) → IfSome first (λ old. IsSomeAnd last (SettlingPrints d c f range s old))
+    put_prints None last only done cut = tt
+    put_prints (Some old) last (inl is) done cut = subst (λ (o : Option (List ℕ)). IsSomeAnd o (SettlingPrints d c f range s old)) (sym (done is)) (all_put old (old ++ bytes) is refl)
+    put_prints (Some old) (Some new) (inr is) done cut = part_put old new is (cut is)
+    put_prints (Some old) None (inr is) done cut = cut is
+
+  -- or there is none
+  pub untold_ends : IsUntold d c f range s → SettlingEnds d c f range s
+  untold_ends (inl memory) = inl memory
+  untold_ends (inr answer) = inr (inr answer.0)
+
+  untold_done : IsUntold d c f range s → s ≢ Done
+  untold_done (inl memory) is = cc
+  untold_done (inr answer) is = answer.1.done is
+
+  untold_cut : IsUntold d c f range s → s ≢ WriteFault 0
+  untold_cut (inl memory) is = cc
+  untold_cut (inr answer) is = answer.1.write 0 is
+
+  pub untold_prints : (got : Option (List ℕ)) → IsUntold d c f range s → IfSome got (λ old. IsSomeAnd got (SettlingPrints d c f range s old))
+  untold_prints None untold = tt
+  untold_prints (Some old) untold = record {
+    done = λ is. absurd (untold_done untold is);
+    fault = λ is. absurd (untold_cut untold is);
+    other = λ a b. refl;
+  }
+
+  pub untold_fault : {R : Type 0} → IsUntold d c f range s → s ≡ WriteFault 0 → R
+  untold_fault untold is = absurd (untold_cut untold is)
+
+-- what was put or not
+pub put_or_not : {R : Type 0} (s : Status) → (s ≡ Done) ⊎ (s ≡ WriteFault 0) → (s ≡ Done) ⊎ ((s ≡ WriteFault 0) ⊎ R)
+put_or_not s (inl is) = inl is
+put_or_not s (inr is) = inr (inl is)
 
 -- nothing was printed by an answer that is neither `Done` nor a fault of the output
 pub quietly : {O : Type 0} (s : Status) (old new : O) → s ≢ Done → s ≢ WriteFault 0 → (s ≡ Done) ⊎ ((s ≡ WriteFault 0) ⊎ (new ≡ old)) → new ≡ old

@@ -17,12 +17,10 @@ use Rattle.settle_check.specs.CertificateText.{CertificateNumbers, certificate_i
 use Rattle.settle_check.proofs.CountedFacts.{positive}
 use Rattle.settle_check.proofs.SettlingLaws.{settling_law}
 use Rattle.settle_check.proofs.SettleFacts.{settles}
-
 use Rattle.command_line.specs.Answers.{Contents, ForContents, IsAnswer, IsCaused}
 use Rattle.command_line.proofs.Composing.{weaker}
 use Rattle.command_line.specs.declared.status.Status.{Status}
 use Rattle.command_line.specs.declared.status.Status.TheVariants.{Done}
-
 use Rattle.command_loop.proofs.CommandFiles.Stopping.{controller_refused, range_refused}
 use Rattle.command_loop.proofs.Refusals.{mismatch_refusal}
 use Rattle.command_loop.specs.DesignFiles.Texts.{DesignRight}

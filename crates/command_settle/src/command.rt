@@ -1,6 +1,6 @@
 // `settle` with its arguments.
-ghost use Rattle.std.specs.Prelude.{◌≡◌, ◌⊎◌, ◌≤◌, IfSome, IsSomeAnd};
-ghost use Rattle.io_edge.specs.Faults.{Rose};
+ghost use Rattle.std.specs.Prelude.{◌≡◌, ◌⊎◌, ◌≤◌, ◌++◌, IfSome, IsSomeAnd, option_map};
+ghost use Rattle.io_edge.specs.Faults.{Rose, GrowsByPart};
 ghost use Rattle.qp_model.specs.problem.Parts.{design_of};
 ghost use Rattle.qp_model.specs.machine.Successor.{IsFor};
 ghost use Rattle.state_files.specs.RangeText.{IsShiftRange};
@@ -17,6 +17,20 @@ use crate::files::{Settling, read_settling};
 use command_line::Status;
 use io_edge::{Sink, Store, Words};
 use std::alloc::Global;
+
+// Prints a text.
+fn put_text<O: Sink>(text: &[u8], out: &mut O) -> Status
+    ensures only { (result ≡ Status.Done) ⊎ (result ≡ Status.WriteFault 0) }
+    ensures done { result ≡ Status.Done → O.got out.new ≡ option_map (λ old. old ++ text.now) (O.got out.old) }
+    ensures cut { result ≡ Status.WriteFault 0 → IfSome (O.got out.old) (λ old. IsSomeAnd (O.got out.new) (λ new. GrowsByPart old new text.now)) }
+    ensures failed { result ≡ Status.WriteFault 0 → Rose (O.faults out.old) (O.faults out.new) }
+    ensures no_fewer { O.faults out.old ≤ O.faults out.new }
+{
+    match out.put(text) {
+        Ok(()) => Status::Done,
+        Err(_) => Status::WriteFault { file: 0 },
+    }
+}
 
 // Prints where loops settle.
 fn print_settled<O: Sink>(alloc: Global, s: &Settling, out: &mut O) -> Status
@@ -39,10 +53,7 @@ fn print_settled<O: Sink>(alloc: Global, s: &Settling, out: &mut O) -> Status
         &under.certificate,
         &under.range,
     ) {
-        Ok(text) => match out.put(&text) {
-            Ok(()) => Status::Done,
-            Err(_) => Status::WriteFault { file: 0 },
-        },
+        Ok(text) => put_text(&text, out),
         Err(status) => status,
     }
 }

@@ -78,9 +78,7 @@ fn is_run(
 ) -> Result<bool, Fail> {
     let (arguments, certificate, shifts, line, printed) = *row;
     let mut store = store_of(alloc, design, certificate, controller, shifts)?;
-    Ok(ends_with::<Settling>(
-        alloc, arguments, &mut store, fails, line, printed,
-    )?)
+    Ok(ends_with::<Settling>(alloc, arguments, &mut store, fails, line, printed)?)
 }
 
 // The first worked design, with another box.
