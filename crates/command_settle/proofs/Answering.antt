@@ -37,7 +37,7 @@ module _ (disturbed : Bool) (words : List (List ℕ)) (held : Option Files) (bef
 module _ (disturbed : Bool) (words : List (List ℕ)) (held : Option Files) (p : DesignParts) (c : Numbers) (f : CertificateNumbers) (range : Matrix)
     (right : AreSettlingRead disturbed words held p c f range) where
   shifts : AreRangeContents disturbed c.states held (word_of words 4) range
-  shifts = range_contents disturbed c.states held (word_of words 4) range right.under.range
+  shifts = range_contents disturbed c.states held (word_of words 4) range right.under.taken
 
   abbrev all_contents : Contents
   all_contents = first_four words held right.design.content right.controller.content right.under.certificate.content shifts.content

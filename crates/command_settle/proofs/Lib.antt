@@ -1,5 +1,5 @@
 -- the text that tells where loops settle
-pub mod Lines
+pub mod BoxLines
 -- what a certificate calls for
 pub mod Calling
 -- what the files make of the answer, and what is printed

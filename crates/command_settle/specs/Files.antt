@@ -22,7 +22,7 @@ use Rattle.command_settle.specs.Settle.{CertificateCalls, SettleCalls, SettleRea
 -- a certificate and a range for a controller were read from the last two files
 pub record AreCertificateRead (disturbed : Bool) (words : List (List ℕ)) (held : Option Files) (c : Numbers) (f : CertificateNumbers) (range : Matrix) : Type 0 where
   pub certificate : IsCertificateRead c 3 held (word_of words 3) f
-  pub range : AreDisturbancesTaken disturbed c.states held (word_of words 4) range
+  pub taken : AreDisturbancesTaken disturbed c.states held (word_of words 4) range
 
 -- reading them ends with this status: by the certificate's file, or by taking the range where the certificate is right
 abbrev pub EndsCertificateUnder : (disturbed : Bool) → Numbers → (words : List (List ℕ)) → Option Files → (before now : List ℕ → ℕ) → Status → Type 0

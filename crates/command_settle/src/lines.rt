@@ -33,7 +33,7 @@ pub fn settled_text(alloc: Global, turn: u32, rest: &StateBox) -> Result<Vec<u8>
     ensures { IfOk result (λ v. v.items ≡ settled_text turn (length rest.now.low.items) (state_box rest.now)) }
 {
     let mut text = String::new(alloc);
-    push_line(alloc, &mut text, "turn", &[i128::from(turn)])?;
+    push_line(alloc, &mut text, "turn", &[turn as i128])?;
     for i in 0..rest.low.len() {
         push_coordinate(alloc, &mut text, rest, i)?;
     }

@@ -10,15 +10,15 @@ use Rattle.command_settle.proofs.check.box_settled.Goals as goal
 
 pub check_settling-requires : goal.check_settling-requires
 check_settling-requires c =
-    let states = ap (λ (p : DesignParts). p.states) c.parts.ensures.value ∙ c.requires.matched.states in
-    let low = ap (λ (n : Numbers). n.low) c.parts-2.ensures.value in
-    let high = ap (λ (n : Numbers). n.high) c.parts-2.ensures.value in
+    let states = ap (λ (p : DesignParts). p.states) c.parts-d.ensures.value ∙ c.requires.matched.states in
+    let low = ap (λ (n : Numbers). n.low) c.parts-c.ensures.value in
+    let high = ap (λ (n : Numbers). n.high) c.parts-c.ensures.value in
     record {
-      design = c.parts.ensures.sound;
-      sized = c.parts-2.ensures.sound.form.sized;
-      matched = rw (c.parts.ensures.value, c.parts-2.ensures.value) c.requires.matched;
+      design = c.parts-d.ensures.sound;
+      sized = c.parts-c.ensures.sound.form.sized;
+      matched = rw (c.parts-d.ensures.value, c.parts-c.ensures.value) c.requires.matched;
       certificate = subst (λ (k : ℕ). IsCertificateFor k c.args.certificate.now) (sym states) c.requires.certificate;
-      inside = subst (λ (k : ℕ). IsPartOf k (box_of c.parts-2.result.now.lo.items c.parts-2.result.now.hi.items) (state_box c.args.certificate.now.still)) (sym states) (rw (low, high) c.requires.inside);
+      inside = subst (λ (k : ℕ). IsPartOf k (box_of c.parts-c.result.now.lo.items c.parts-c.result.now.hi.items) (state_box c.args.certificate.now.still)) (sym states) (rw (low, high) c.requires.inside);
       shift_low = rw c.row.ensures.value (c.requires.range.low.long ∙ sym states);
       shift_high = rw c.row-2.ensures.value (c.requires.range.high.long ∙ sym states);
     }
@@ -28,7 +28,7 @@ returns-in-Ok c =
     let d = design_of c.args.design.now in
     let n = c.args.controller.now in
     let f = certificate_numbers c.args.certificate.now in
-    let told = rw (c.parts.ensures.value, c.parts-2.ensures.value, c.row.ensures.value, c.row-2.ensures.value) at c.in-Ok.ensures in
+    let told = rw (c.parts-d.ensures.value, c.parts-c.ensures.value, c.row.ensures.value, c.row-2.ensures.value) at c.in-Ok.ensures in
     record {
       rest = told.rest;
       settles = told.settled;
@@ -42,7 +42,7 @@ returns-in-Err c =
     let d = design_of c.args.design.now in
     let n = c.args.controller.now in
     let f = certificate_numbers c.args.certificate.now in
-    let told = rw (c.parts.ensures.value, c.parts-2.ensures.value, c.row.ensures.value, c.row-2.ensures.value) at c.in-Err.ensures in
+    let told = rw (c.parts-d.ensures.value, c.parts-c.ensures.value, c.row.ensures.value, c.row-2.ensures.value) at c.in-Err.ensures in
     record {
       rest = tt;
       settles = tt;

@@ -18,7 +18,7 @@ returns-in-Ok-clause-right g c =
     let states = ap (λ (n : Numbers). n.states) c.parts.ensures.value in
     record {
       certificate = rw c.at.ensures at c.in_ok-certificate.ensures.right;
-      range = rw (states, c.in_ok-certificate.ensures.held) at c.in-Ok.ensures.right;
+      taken = rw (states, c.in_ok-certificate.ensures.held) at c.in-Ok.ensures.right;
     }
 
 pub returns-in-Ok-clause-sized : goal.returns-in-Ok-clause-sized

@@ -2,18 +2,26 @@ use Rattle.std.proofs.Common.{◌≡◌, ◌++◌, ◌∷◌, ◌∙◌, [], Lis
 use Rattle.std.specs.Prelude.{codes}
 use Rattle.number_text.specs.Lines.{line_of, text_of}
 use Rattle.settle_check.specs.Certificates.{state_box}
-use Rattle.command_settle.proofs.Lines.{no_line, line_more}
+use Rattle.command_settle.proofs.BoxLines.{no_line, line_more}
 use Rattle.command_settle.proofs.lines.settled_text.Goals as goal
 
-pub loop-i-init-clause-text : goal.loop-i-init-clause-text
-loop-i-init-clause-text c =
+pub loop-i-init : goal.loop-i-init
+loop-i-init c =
     let front = text_of (line_of (codes "turn") (pos c.args.turn ∷ []) ∷ []) in
-    no_line (state_box c.args.rest.now) front (string_bytes c.push_line.new.text) (c.in_ok-push_line.ensures.text ∙ ap (λ (t : List ℕ). t ++ front) c.new-text.ensures.bytes)
+    let end : c.len-i-end.result ≡ length c.args.rest.now.low.items = search rules in
+    record {
+      end = end;
+      text = no_line (state_box c.args.rest.now) front (string_bytes c.push_line.new.text) (c.in_ok-push_line.ensures.text ∙ ap (λ (t : List ℕ). t ++ front) c.new-text.ensures.bytes);
+    }
 
-pub loop-i-preserved-clause-text : goal.loop-i-preserved-clause-text
-loop-i-preserved-clause-text c =
+pub loop-i-preserved : goal.loop-i-preserved
+loop-i-preserved c =
     let front = text_of (line_of (codes "turn") (pos c.args.turn ∷ []) ∷ []) in
-    line_more (state_box c.args.rest.now) c.loop-i.i front (string_bytes c.loop-i.text) (string_bytes c.push_coordinate.new.text) c.loop-i.invariant.text c.in_ok-push_coordinate.ensures
+    record {
+      end = c.loop-i.invariant.end;
+      text =
+          line_more (state_box c.args.rest.now) c.loop-i.i front (string_bytes c.loop-i.text) (string_bytes c.push_coordinate.new.text) c.loop-i.invariant.text c.in_ok-push_coordinate.ensures;
+    }
 
 pub returns : goal.returns
 returns c =
