@@ -1,11 +1,9 @@
 -- The lines of boxes that are one.
-use Rattle.std.proofs.Common.{◌≡◌, ℕ, zero, suc, ◌+◌, ◌<◌, ◌≤◌, List, [], ◌∷◌, ◌++◌, length, pos, refl, sym, ap, ◌∙◌, add-one, append_assoc, append-nil, arith}
-use Rattle.std.specs.Prelude.{codes}
-use Rattle.number_text.specs.Lines.{line_of, text_of}
+use Rattle.std.proofs.Common.{◌≡◌, ℕ, zero, suc, ◌+◌, ◌<◌, ◌≤◌, List, [], ◌++◌, length, refl, sym, ap, ◌∙◌, add-one, append_assoc, append-nil, arith}
 use Rattle.settle_check.specs.Still.{Box}
 use Rattle.settle_check.specs.Certificates.{state_box, IsBoxOf}
 use Rattle.settle_check.specs.declared.certificate.StateBox.{StateBox}
-use Rattle.command_settle.specs.SettledText.{coordinate_line, coordinate_lines, settled_text}
+use Rattle.command_settle.specs.SettledText.{turn_line, coordinate_line, coordinate_lines, settled_text}
 
 -- ---- one line more
 pub none_yet : (z : Box) → coordinate_lines z 0 ≡ []
@@ -38,4 +36,4 @@ lines_same n z b h (suc k) le =
 pub text_same : (turn n : ℕ) (z : Box) (b : StateBox) (text : List ℕ) → IsBoxOf n z b → text ≡ settled_text turn (length b.low.items) (state_box b) → text ≡ settled_text turn n z
 text_same turn n z b text h is =
     is ∙ ap (λ (i : ℕ). settled_text turn i (state_box b)) h.low.long
-    ∙ ap (λ (lines : List ℕ). text_of (line_of (codes "turn") (pos turn ∷ []) ∷ []) ++ lines) (lines_same n z b h n (omega arith))
+    ∙ ap (λ (lines : List ℕ). turn_line turn ++ lines) (lines_same n z b h n (omega arith))

@@ -1,11 +1,18 @@
 // The text that tells where loops settle.
 ghost use Rattle.std.specs.Prelude.{◌≡◌, ◌++◌, ◌<◌, length, IfOk, OnOk, string_bytes};
 ghost use Rattle.settle_check.specs.Certificates.{state_box};
-ghost use Rattle.command_settle.specs.SettledText.{coordinate_line, settled_text};
+ghost use Rattle.command_settle.specs.SettledText.{turn_line, coordinate_line, settled_text};
 
 use number_text::push_line;
 use settle_check::StateBox;
 use std::alloc::{AllocError, Global};
+
+// The line of a turn, at the end of a text.
+fn push_turn(alloc: Global, text: &mut String, turn: u32) -> Result<(), AllocError>
+    ensures { OnOk result (string_bytes text.new ≡ string_bytes text.old ++ turn_line turn) }
+{
+    push_line(alloc, text, "turn", &[turn as i128])
+}
 
 // The line of a coordinate, at the end of a text.
 fn push_coordinate(
@@ -33,7 +40,7 @@ pub fn settled_text(alloc: Global, turn: u32, rest: &StateBox) -> Result<Vec<u8>
     ensures { IfOk result (λ v. v.items ≡ settled_text turn (length rest.now.low.items) (state_box rest.now)) }
 {
     let mut text = String::new(alloc);
-    push_line(alloc, &mut text, "turn", &[turn as i128])?;
+    push_turn(alloc, &mut text, turn)?;
     for i in 0..rest.low.len() {
         push_coordinate(alloc, &mut text, rest, i)?;
     }

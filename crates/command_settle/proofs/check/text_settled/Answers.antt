@@ -6,7 +6,7 @@ use Rattle.command_settle.proofs.BoxLines.{text_same}
 use Rattle.command_settle.proofs.check.text_settled.Goals as goal
 
 pub settled_text-text-requires : goal.settled_text-text-requires
-settled_text-text-requires c = c.in_ok-rest.ensures.rest.high.long ∙ sym c.in_ok-rest.ensures.rest.low.long
+settled_text-text-requires c = record { high = c.in_ok-rest.ensures.rest.high.long ∙ sym c.in_ok-rest.ensures.rest.low.long }
 
 pub returns-clause-text : goal.returns-clause-text
 returns-clause-text c =

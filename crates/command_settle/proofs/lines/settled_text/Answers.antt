@@ -1,22 +1,21 @@
-use Rattle.std.proofs.Common.{◌≡◌, ◌++◌, ◌∷◌, ◌∙◌, [], List, ℕ, pos, length, string_bytes, ap, rules, arith}
-use Rattle.std.specs.Prelude.{codes}
-use Rattle.number_text.specs.Lines.{line_of, text_of}
+use Rattle.std.proofs.Common.{◌≡◌, ◌++◌, ◌∙◌, List, ℕ, length, string_bytes, ap, rules, arith}
 use Rattle.settle_check.specs.Certificates.{state_box}
+use Rattle.command_settle.specs.SettledText.{turn_line}
 use Rattle.command_settle.proofs.BoxLines.{no_line, line_more}
 use Rattle.command_settle.proofs.lines.settled_text.Goals as goal
 
 pub loop-i-init : goal.loop-i-init
 loop-i-init c =
-    let front = text_of (line_of (codes "turn") (pos c.args.turn ∷ []) ∷ []) in
+    let front = turn_line c.args.turn in
     let end : c.len-i-end.result ≡ length c.args.rest.now.low.items = search rules in
     record {
       end = end;
-      text = no_line (state_box c.args.rest.now) front (string_bytes c.push_line.new.text) (c.in_ok-push_line.ensures.text ∙ ap (λ (t : List ℕ). t ++ front) c.new-text.ensures.bytes);
+      text = no_line (state_box c.args.rest.now) front (string_bytes c.push_turn.new.text) (c.in_ok-push_turn.ensures ∙ ap (λ (t : List ℕ). t ++ front) c.new-text.ensures.bytes);
     }
 
 pub loop-i-preserved : goal.loop-i-preserved
 loop-i-preserved c =
-    let front = text_of (line_of (codes "turn") (pos c.args.turn ∷ []) ∷ []) in
+    let front = turn_line c.args.turn in
     record {
       end = c.loop-i.invariant.end;
       text =
