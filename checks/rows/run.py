@@ -20,6 +20,7 @@ import c_rows
 import lean_rows
 import limit_rows
 import listing_rows
+import settle_rows
 import split_rows
 import stay_rows
 from command_table import OUTPUTS
@@ -350,8 +351,8 @@ def wrong(words, files, status, out, line, whole, lines, output=None):
 
 def main():
     failed = count = 0
-    own = itertools.chain(rows(), fine_rows(), corner_rows(), version_rows(), second_rows(), lean_rows.rows(), stay_rows.rows(), listing_rows.rows(), split_rows.rows(), c_rows.rows(),
-                          limit_rows.rows() if AT_LIMITS else ())
+    own = itertools.chain(rows(), fine_rows(), corner_rows(), version_rows(), second_rows(), lean_rows.rows(), stay_rows.rows(), settle_rows.rows(), listing_rows.rows(), split_rows.rows(),
+                          c_rows.rows(), limit_rows.rows() if AT_LIMITS else ())
     for name, row, output in itertools.chain(((name, row, None) for name, row in own), full_rows(), split_rows.full_rows()):
         words, files = row[0], row[1]
         if ONLY and words[:1] != [ONLY]:

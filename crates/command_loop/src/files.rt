@@ -35,8 +35,8 @@ pub struct Loops {
     pub starts: Starts,
 }
 
-// The controller for a design under the second name, or the status that ends the run.
-fn read_controller_for<S: Store>(
+/// The controller for a design under a name, that of the second file, or the status that ends the run.
+pub fn read_controller_for<S: Store>(
     alloc: Global,
     name: &str,
     design: &Design,

@@ -8,3 +8,7 @@ mod records;
 mod shifts;
 
 pub use command::run_loops;
+// What reads a design and a controller for it is handed on: a crate above that names fewer others is stamped on fewer paths.
+pub use command_design_files::{FILE_LIMIT, read_bytes, read_design_file, text_status};
+pub use command_files::read_range_file;
+pub use files::read_controller_for;

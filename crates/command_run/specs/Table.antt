@@ -1,7 +1,7 @@
 -- The table of commands: what each does.
 use Rattle.command_line.specs.Deeds.{Deeds}
 use Rattle.command_line.specs.declared.words.Command.{Command}
-use Rattle.command_line.specs.declared.words.Command.TheVariants.{Generate, Solve, Loop, Demo, List, Stay, Play, Lean, LeanStay, Split, Serve, C}
+use Rattle.command_line.specs.declared.words.Command.TheVariants.{Generate, Solve, Loop, Demo, List, Stay, Play, Lean, LeanStay, Split, Serve, C, Settle}
 use Rattle.command_generate.specs.Deeds.{generate_deeds}
 use Rattle.command_solve.specs.Deeds.{solve_deeds}
 use Rattle.command_loop.specs.Deeds.{loop_deeds}
@@ -14,6 +14,7 @@ use Rattle.command_lean_stay.specs.Deeds.{lean_stay_deeds}
 use Rattle.command_split.specs.Deeds.{split_deeds}
 use Rattle.command_serve.specs.Deeds.{serve_deeds}
 use Rattle.command_c.specs.Deeds.{compile_deeds}
+use Rattle.command_settle.specs.Deeds.{settle_deeds}
 
 abbrev pub deeds_of : Command → Deeds
 deeds_of Generate = generate_deeds
@@ -28,3 +29,4 @@ deeds_of (LeanStay disturbed) = lean_stay_deeds disturbed
 deeds_of Split = split_deeds
 deeds_of Serve = serve_deeds
 deeds_of C = compile_deeds
+deeds_of (Settle disturbed) = settle_deeds disturbed

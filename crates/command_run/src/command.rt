@@ -3,7 +3,7 @@ ghost use Rattle.std.specs.Prelude.{◌≡◌, ◌≢◌, ◌⊎◌, ◌↔◌, 
 ghost use Rattle.io_edge.specs.Faults.{Rose, NoneFalls};
 ghost use Rattle.number_text.specs.declared.text_fault.TextFault.TheVariants.{Memory as no_room};
 ghost use Rattle.controller_text.specs.declared.bad_controller.BadController.TheVariants.{Memory as no_space};
-ghost use Rattle.command_line.specs.Words.{word_of, IsGenerate, IsStay, IsPlay, IsLean, IsLeanStay, IsSplit, IsServe, IsC};
+ghost use Rattle.command_line.specs.Words.{word_of, IsGenerate, IsStay, IsPlay, IsLean, IsLeanStay, IsSplit, IsServe, IsC, IsSettle};
 ghost use Rattle.command_line.specs.Commands.{AreOf, IsUsage};
 ghost use Rattle.command_line.specs.Answers.{ForContents, IsAnswer, IsCaused};
 ghost use Rattle.command_line.specs.Does.{Does};
@@ -16,6 +16,7 @@ ghost use Rattle.command_lean_stay.specs.LeanStay.{IsLeanStayed};
 ghost use Rattle.command_split.specs.Split.{IsSplitWritten};
 ghost use Rattle.command_serve.specs.Held.{ServesHeld};
 ghost use Rattle.command_c.specs.Compiled.{IsCompiled};
+ghost use Rattle.command_settle.specs.Settled.{AreLoopsSettled};
 ghost use Rattle.command_run.specs.Table.{deeds_of};
 
 use command_c::write_c;
@@ -28,6 +29,7 @@ use command_list::list;
 use command_loop::run_loops;
 use command_play::play;
 use command_serve::serve;
+use command_settle::settle;
 use command_solve::solve;
 use command_split::split;
 use command_stay::stay;
@@ -58,6 +60,7 @@ fn answer<S: Store, O: Sink>(
         Command::Split => split(alloc, words, store),
         Command::Serve => serve(alloc, words, store, out),
         Command::C => write_c(alloc, words, store),
+        Command::Settle { disturbed } => settle(alloc, words, disturbed, store, out),
     }
 }
 
@@ -75,7 +78,8 @@ fn answer<S: Store, O: Sink>(
 /// closed loop stays in the box. `split`, a design file, a file of cuts, a file of policies, a file of cells and a report file: does what `generate` does
 /// for each cell of the design's box that the cuts make. `serve`, a file of cells and a states file: prints a line for each state, the averaged plan of
 /// the first cell's controller whose box holds it. `c`, a controller file, a name, a source file and a header file: writes the controller's program in C,
-/// whose functions have that name.
+/// whose functions have that name. `settle`, a design file, a controller file and a certificate file, and one of a range of disturbances or
+/// none: prints the turn from which every closed loop from the certificate's start box lies in a small box for good, and that box.
 pub fn run<S: Store, O: Sink>(alloc: Global, words: &Words, store: &mut S, out: &mut O) -> Status
     // Where `generate` answers `Done`, the controller's file holds the text of one controller and the report's file the report of its bounds, both
     // built of the design and the policy in the files. Run from any grid state of the box, the controller keeps every product and partial sum
@@ -118,6 +122,12 @@ pub fn run<S: Store, O: Sink>(alloc: Global, words: &Words, store: &mut S, out: 
     // which `solve` prints, and of these the averaged first inputs. From any other state it answers the first coordinate outside the box, and puts out nothing.
     ensures compiled { IsC words.now → result ≡ Status.Done
         → IfSome (S.held store.old) (λ files. IsSomeAnd (S.held store.new) (IsCompiled words.now files)) }
+
+    // Where `settle` answers `Done`, every closed loop of the plant of the design and the controller in the first two files from the start box of the
+    // certificate in the third, under every list of disturbances within the range in the fourth, and without disturbances where there is no such file, lies
+    // at each turn in the certificate's box where no multiplier moves, and from the printed turn on in the printed box, for every number of turns.
+    ensures settled { (disturbed : Bool) → IsSettle words.now disturbed → result ≡ Status.Done
+        → AreLoopsSettled disturbed words.now (S.held store.old) (O.got out.old) (O.got out.new) }
 
     // `Usage` is the answer exactly where the arguments are those of no command, and then nothing is used.
     ensures usage { (result ≡ Status.Usage) ↔ IsUsage words.now }

@@ -15,5 +15,7 @@ pub mod CourseFacts
 pub mod TubeFacts
 pub mod SettleFacts
 pub mod FaultFacts
+-- ---- the text of a certificate
+pub mod CertificateFacts
 -- ---- a worked loop
 pub mod WorkedFacts

@@ -5,12 +5,15 @@ use Rattle.std.proofs.lemmas.Int.{ints, clamps}
 use Rattle.std.proofs.lemmas.Bool.{cases_lt}
 use Rattle.integer_algebra.specs.Sums.{at}
 use Rattle.qp_model.specs.problem.Design.{Design}
+use Rattle.qp_model.specs.problem.Box.{IsGridState}
 use Rattle.qp_model.specs.machine.Controller.{Numbers}
+use Rattle.qp_model.specs.machine.Machine.{IsAdmissible}
+use Rattle.qp_model.specs.bounds.Built.{HasSizesOf}
 use Rattle.stay_check.specs.LoopStay.{shifted_successor, state_under, AreShiftsUpTo}
 use Rattle.settle_check.specs.Still.{Box, box_of, LiesInBox, IsPartOf}
 use Rattle.settle_check.specs.ClosedRows.{IsLoopFor}
 use Rattle.settle_check.specs.Tube.{IsIn, tube}
-use Rattle.settle_check.specs.Settling.{Certificate, Leads, Settles, hull, settled_box, IsSettledAt, SettlingLaw}
+use Rattle.settle_check.specs.Settling.{Certificate, Leads, Settles, hull, settled_box, IsSettledAt, SettlingLaw, CertifiedSettlingLaw}
 use Rattle.settle_check.proofs.TubeLaws.{state_long, tube_law}
 
 -- ---- boxes
@@ -115,3 +118,15 @@ settling_law d c shifts s loop settles start long lies w turns within = elim (ca
           inside = inside;
           settled = settled;
         }
+
+-- ---- a controller that is certified
+grid_state : (d : Design) (c : Numbers) → HasSizesOf d c → (xi : List ℤ) → IsAdmissible c xi → IsGridState d (at xi)
+grid_state d c sizes xi h i l =
+    let inside = h.each i (omega (arith, l, sizes.states)) in
+    (rw (← sizes.low i l) inside.low, rw (← sizes.high i l) inside.high)
+
+pub certified_settling_law : CertifiedSettlingLaw
+certified_settling_law d c b shifts s sizes certified settles start long lies w turns within =
+    let here = (settles start long lies w turns within).admissible in
+    let xi = state_under d c start w turns in
+    record { inside = here; certified = certified xi (here.long ∙ sizes.states) (grid_state d c sizes xi here) }

@@ -7,6 +7,7 @@ pub mod Course
 pub mod Settling
 pub mod Answers
 pub mod Certificates
+pub mod CertificateText
 pub mod Beyond
 pub mod Tubes
 pub mod Settles

@@ -5,7 +5,10 @@ use Rattle.integer_algebra.specs.Sums.{at}
 use Rattle.qp_model.specs.problem.Design.{Design}
 use Rattle.qp_model.specs.machine.Controller.{Numbers}
 use Rattle.qp_model.specs.machine.Machine.{IsAdmissible}
-use Rattle.stay_check.specs.LoopStay.{state_under, AreShiftsUpTo}
+use Rattle.qp_model.specs.bounds.Built.{HasSizesOf}
+use Rattle.qp_model.specs.bounds.Printed.{Printed}
+use Rattle.qp_model.specs.bounds.Certified.{IsCertified}
+use Rattle.stay_check.specs.LoopStay.{state_under, AreShiftsUpTo, IsKeptAt}
 use Rattle.settle_check.specs.Still.{Box, box_of, LiesInBox, IsPartOf, IsStill}
 use Rattle.settle_check.specs.ClosedRows.{IsLoopFor}
 use Rattle.settle_check.specs.Tube.{tube}
@@ -57,3 +60,9 @@ LoopsSettle d c shifts s =
 
 abbrev pub SettlingLaw : Type 0
 SettlingLaw = (d : Design) (c : Numbers) (shifts : Box) (s : Certificate) → IsLoopFor d c → Settles d c shifts s → LoopsSettle d c shifts s
+
+-- where the controller is certified in the design's box with its bounds, it is so at the state of each of these turns
+abbrev pub CertifiedSettlingLaw : Type 0
+CertifiedSettlingLaw = (d : Design) (c : Numbers) (b : Printed) (shifts : Box) (s : Certificate) → HasSizesOf d c → IsCertified d c b → LoopsSettle d c shifts s →
+    (start : List ℤ) → length start ≡ d.states → LiesInBox d.states s.start (at start) → (disturbances : ℕ → ℕ → ℤ) (turns : ℕ) →
+    AreShiftsUpTo d shifts.low shifts.high disturbances turns → IsKeptAt d c b (state_under d c start disturbances turns)

@@ -2,7 +2,7 @@
 ghost use Rattle.settle_check.specs.Still.{StillLaw};
 ghost use Rattle.settle_check.specs.ClosedRows.{RowLaw};
 ghost use Rattle.settle_check.specs.Tube.{TubeRowsLaw, TubeLaw};
-ghost use Rattle.settle_check.specs.Settling.{SettlingLaw};
+ghost use Rattle.settle_check.specs.Settling.{SettlingLaw, CertifiedSettlingLaw};
 ghost use Rattle.settle_check.specs.Worked.{WorkedSettling};
 
 /// From each state of a box that passes the test of every row, in a run of any controller in form, all multipliers are 0 after each step, and
@@ -27,6 +27,12 @@ pub fn tube_law()
 /// moves at each turn, for every number of turns, and from turn n on in the settled box.
 pub fn settling_law()
     ensures { SettlingLaw }
+{}
+
+/// Where loops settle and the controller is certified in the design's box with its bounds, the state of each turn lies in that box, and the run from it
+/// keeps the printed bounds.
+pub fn certified_settling_law()
+    ensures { CertifiedSettlingLaw }
 {}
 
 /// A worked loop, computed from the definitions: the test of its rows at the ends of the greatest box that passes, and where it lies turn by turn.

@@ -11,10 +11,12 @@ mod laws;
 mod rows;
 mod settle;
 mod still;
+mod text;
 mod tube;
 
 pub use certificate::{CertificateParts, StateBox};
 pub use check::test_still;
 pub use fault::SettleFault;
-pub use laws::{row_law, settling_law, still_law, tube_law, worked_law};
+pub use laws::{certified_settling_law, row_law, settling_law, still_law, tube_law, worked_law};
 pub use settle::check_settling;
+pub use text::read_certificate;

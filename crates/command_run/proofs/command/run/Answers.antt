@@ -2,11 +2,12 @@ use Rattle.std.proofs.Common.{refl, le_refl}
 use Rattle.command_line.specs.Commands.{AreOf, IsUsage}
 use Rattle.command_line.specs.Does.{Does}
 use Rattle.command_line.specs.declared.words.Command.{Command}
-use Rattle.command_line.specs.declared.words.Command.TheVariants.{Generate, Stay, Play, Lean, LeanStay, Split, Serve, C}
+use Rattle.command_line.specs.declared.words.Command.TheVariants.{Generate, Stay, Play, Lean, LeanStay, Split, Serve, C, Settle}
 use Rattle.command_line.proofs.OneCommand.{for_each}
 use Rattle.command_line.proofs.Doing.{none_falls}
 use Rattle.command_play.proofs.Solved.{plays_as_solved}
 use Rattle.command_serve.proofs.Held.{serves_held}
+use Rattle.command_settle.proofs.Settled.{settled}
 use Rattle.command_run.specs.Table.{deeds_of}
 use Rattle.command_run.proofs.command.run.Goals as goal
 
@@ -31,6 +32,7 @@ returns-in-Some g c =
       served = λ that. let served = each Serve that in serves_held words held s got got_now served.called served.shows;
       played = λ that. let played = each Play that in plays_as_solved words held s got got_now played.called played.shows;
       compiled = λ that. (each C that).leaves.compiled;
+      settled = λ disturbed that. let told = each (Settle disturbed) that in settled disturbed words held s got got_now told.called told.shows;
       usage = (λ e. absurd (does.telling.usage e), λ u. absurd (u command is));
       unused = λ u. absurd (u command is);
       called = λ d that. (each d that).called;
@@ -61,6 +63,7 @@ returns-in-None g c =
       served = λ that. absurd (is Serve that);
       played = λ that. absurd (is Play that);
       compiled = λ that. absurd (is C that);
+      settled = λ disturbed that. absurd (is (Settle disturbed) that);
       usage = (λ e. is, λ u. refl);
       unused = λ u. (refl, refl);
       called = λ d that. absurd (is d that);

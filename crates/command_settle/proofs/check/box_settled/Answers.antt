@@ -1,0 +1,52 @@
+use Rattle.std.proofs.Common.{ℕ, ap, sym, subst, ◌∙◌}
+use Rattle.qp_model.specs.problem.Parts.{design_of}
+use Rattle.qp_model.specs.machine.Controller.{Numbers}
+use Rattle.qp_model.specs.declared.design_parts.DesignParts.{DesignParts}
+use Rattle.settle_check.specs.Still.{box_of, IsPartOf}
+use Rattle.settle_check.specs.Certificates.{state_box, IsCertificateFor}
+use Rattle.settle_check.specs.CertificateText.{certificate_numbers}
+use Rattle.command_settle.proofs.Calling.{passing, failing}
+use Rattle.command_settle.proofs.check.box_settled.Goals as goal
+
+pub check_settling-requires : goal.check_settling-requires
+check_settling-requires c =
+    let states = ap (λ (p : DesignParts). p.states) c.parts-d.ensures.value ∙ c.requires.matched.states in
+    let low = ap (λ (n : Numbers). n.low) c.parts-c.ensures.value in
+    let high = ap (λ (n : Numbers). n.high) c.parts-c.ensures.value in
+    record {
+      design = c.parts-d.ensures.sound;
+      sized = c.parts-c.ensures.sound.form.sized;
+      matched = rw (c.parts-d.ensures.value, c.parts-c.ensures.value) c.requires.matched;
+      certificate = subst (λ (k : ℕ). IsCertificateFor k c.args.certificate.now) (sym states) c.requires.certificate;
+      inside = subst (λ (k : ℕ). IsPartOf k (box_of c.parts-c.result.now.lo.items c.parts-c.result.now.hi.items) (state_box c.args.certificate.now.still)) (sym states) (rw (low, high) c.requires.inside);
+      shift_low = rw c.row.ensures.value (c.requires.range.low.long ∙ sym states);
+      shift_high = rw c.row-2.ensures.value (c.requires.range.high.long ∙ sym states);
+    }
+
+pub returns-in-Ok : goal.returns-in-Ok
+returns-in-Ok c =
+    let d = design_of c.args.design.now in
+    let n = c.args.controller.now in
+    let f = certificate_numbers c.args.certificate.now in
+    let told = rw (c.parts-d.ensures.value, c.parts-c.ensures.value, c.row.ensures.value, c.row-2.ensures.value) at c.in-Ok.ensures in
+    record {
+      rest = told.rest;
+      settles = told.settled;
+      passes = told.found;
+      answer = passing d n f c.args.range.now told.found told.first;
+      ends = tt;
+    }
+
+pub returns-in-Err : goal.returns-in-Err
+returns-in-Err c =
+    let d = design_of c.args.design.now in
+    let n = c.args.controller.now in
+    let f = certificate_numbers c.args.certificate.now in
+    let told = rw (c.parts-d.ensures.value, c.parts-c.ensures.value, c.row.ensures.value, c.row-2.ensures.value) at c.in-Err.ensures in
+    record {
+      rest = tt;
+      settles = tt;
+      passes = tt;
+      answer = tt;
+      ends = failing d n f c.args.range.now c.in-Err.fault c.settle_status.result c.settle_status.ensures told.fault told.right told.first;
+    }
