@@ -1,0 +1,51 @@
+-- The controllers of cells that a file holds, served from grid states of the whole design's box.
+use Rattle.std.proofs.Common.{◌≡◌, ◌∙◌, inr, ℕ, ◌<◌, ℤ, List, [], ◌∷◌, length, Option, Some, refl, sym, ap, subst, arith}
+use Rattle.mat_int.specs.Matrix.{row_of}
+use Rattle.qp_model.specs.problem.Design.{Design}
+use Rattle.qp_model.specs.problem.Parts.{design_of}
+use Rattle.qp_model.specs.machine.Controller.{Numbers}
+use Rattle.qp_model.specs.bounds.Printed.{Printed}
+use Rattle.command_line.specs.Words.{word_of}
+use Rattle.command_line.specs.Limit.{file_limit}
+use Rattle.command_line.specs.Answers.{FileHolds}
+use Rattle.command_line.specs.declared.status.Status.TheVariants.{Done}
+use Rattle.command_files.specs.Texts.{CellsRight, StatesRight}
+use Rattle.command_split.specs.Cells.{IsServedBy}
+use Rattle.command_split.specs.Split.{AreSplitFrom}
+use Rattle.command_serve.specs.Served.{cell_states}
+use Rattle.command_serve.specs.Serve.{ServeCalls, HoldsServed}
+use Rattle.command_serve.proofs.Held.{serves_held}
+use Rattle.command_serve.proofs.Serving.{one_cell_law}
+use Rattle.command_laws.specs.Runs.{IsPlannedBy}
+use Rattle.command_laws.specs.Laws.{SplitServeLaw}
+use Rattle.command_laws.proofs.States.{state_long, of_two}
+
+-- the state that one controller alone has gets the line of its plan
+planned : (d : Design) (cells : List Numbers) (bounds : List Printed) (xi : List ℤ) → IsServedBy d cells bounds xi → IsPlannedBy d cells bounds xi
+planned d cells bounds xi by = record { by = by; line = one_cell_law cells xi by.index (record { there = by.first.there; here = by.first.here; alone = by.alone }) }
+
+-- the states of cells are as long as those of the whole design
+states_of_all : (one two three : Option (List ℕ)) (text : List ℕ) (cells : List Numbers) (bounds : List Printed) → CellsRight cells text → (made : AreSplitFrom one two three cells bounds) →
+    cell_states cells ≡ made.p.states
+states_of_all one two three text [] bounds is_text made = absurd (omega (arith, is_text.form.are.some))
+states_of_all one two three text (c ∷ cells) bounds is_text made =
+    sym (is_text.form.are.form 0 c (omega arith)).sized.shaped.low ∙ (made.boxes.low 0 c (omega (arith, made.made.count))).long
+
+pub split_serve_law : SplitServeLaw
+split_serve_law words asked files left made states s before now same grid run = record {
+  called = of_two (λ one two. ServeCalls one two Done) asked left (inr (made.cells, holds.cells_right, inr (states, holds.states_right, inr (refl, holds.served))));
+  served = serves_held asked (Some left) s before now run.called run.prints made.cells states holds;
+  planned = λ e lt. planned (design_of made.made.p) made.cells made.bounds (row_of states e) (by e lt);
+}
+  where
+    by : (e : ℕ) → e < length states.rows → IsServedBy (design_of made.made.p) made.cells made.bounds (row_of states e)
+    by e lt = made.made.served (row_of states e) (state_long (design_of made.made.p) (left (word_of asked 2)) states grid e lt) (grid.inside e lt)
+
+    holds : HoldsServed (left (word_of asked 1)) (left (word_of asked 2)) made.cells states
+    holds = record {
+      cells_right = record { bytes = made.text; held = ap left same ∙ made.cells_file; short = made.short; right = made.is_text };
+      states_right =
+          subst (λ (n : ℕ). FileHolds file_limit (StatesRight n states) (left (word_of asked 2)))
+          (sym (states_of_all (files (word_of words 1)) (files (word_of words 2)) (files (word_of words 3)) made.text made.cells made.bounds made.is_text made.made)) grid.states_right;
+      served = λ e lt. let own = by e lt in (own.index, own.first);
+    }

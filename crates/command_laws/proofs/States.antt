@@ -1,0 +1,38 @@
+-- Grid states of a design's box lie in the box of its controller, and what the first two files of a run call for.
+use Rattle.std.proofs.Common.{◌≡◌, ℕ, ◌<◌, ℤ, List, length, Option, Some, sym, subst, ◌∙◌, arith}
+use Rattle.integer_algebra.specs.Sums.{at}
+use Rattle.io_edge.specs.Faults.{Files}
+use Rattle.mat_int.specs.Matrix.{Matrix, row_of}
+use Rattle.qp_model.specs.problem.Box.{IsGridState}
+use Rattle.qp_model.specs.problem.Design.{Design}
+use Rattle.qp_model.specs.machine.Controller.{Numbers}
+use Rattle.qp_model.specs.machine.Machine.{IsAdmissible}
+use Rattle.qp_model.specs.bounds.Built.{HasSizesOf}
+use Rattle.command_line.specs.Words.{word_of}
+use Rattle.command_line.specs.Answers.{Contents, AreTold, IsCaused}
+use Rattle.command_line.specs.Deeds.{Deeds, IsCalledFor}
+use Rattle.command_line.specs.declared.status.Status.{Status}
+use Rattle.command_line.specs.declared.status.Status.TheVariants.{Done}
+use Rattle.command_laws.specs.Runs.{HasAnswered, HoldsGridStates}
+
+pub state_long : (d : Design) (content : Option (List ℕ)) (states : Matrix) → HoldsGridStates d content states → (e : ℕ) → e < length states.rows → length (row_of states e) ≡ d.states
+state_long d content states holds e lt = let text = holds.states_right.right in (text.each e (omega (arith, lt, text.rows))).numbers
+
+pub grid_state_held : (d : Design) (c : Numbers) → HasSizesOf d c → (xi : List ℤ) → length xi ≡ d.states → IsGridState d (at xi) → IsAdmissible c xi
+grid_state_held d c sizes xi long inside = record {
+  long = long ∙ sym sizes.states;
+  each = λ i l. let m : i < d.states = omega (arith, l, sizes.states) in record { low = rw (sizes.low i m) (inside i m).0; high = rw (sizes.high i m) (inside i m).1 };
+}
+
+-- what is true of what the first two files hold is true of all contents that the store tells
+pub of_two : (P : (one two : Option (List ℕ)) → Type 0) (words : List (List ℕ)) (files : Files) → P (files (word_of words 1)) (files (word_of words 2)) →
+    (contents : Contents) → AreTold words (Some files) contents → P (contents 1) (contents 2)
+of_two P words files h contents told =
+    subst (λ (x : Option (List ℕ)). P x (contents 2)) (sym (told 1)) (subst (P (files (word_of words 1))) (sym (told 2)) h)
+
+-- where `Done` is called for, all is done but for want of memory and faults
+pub done_where_called : (deeds : Deeds) (words : List (List ℕ)) (files : Files) (s : Status) (before now : Option (List ℕ)) → HasAnswered deeds words (Some files) s before now →
+    IsCalledFor deeds words (Some files) Done → IsCaused s → s ≡ Done
+done_where_called deeds words files s before now run called caused =
+    let found = run.called caused in
+    sym (found.true_of.only Done (called found.contents found.told))
