@@ -8,6 +8,6 @@ mod step;
 
 pub use kernel::FastKernel;
 pub use laws::{
-    fast_average_law, fast_machine_run_law, fast_machine_step_law, fast_ready_law, fast_values_law,
-    weight_sum_law,
+    fast_average_law, fast_cost_law, fast_machine_even_law, fast_machine_run_law,
+    fast_machine_step_law, fast_ready_law, fast_values_law, weight_sum_law,
 };
