@@ -141,7 +141,7 @@ added_item weight sums numbers i lt = get_or-map-range_with_len (λ j. at sums j
 pub added_long : (weight : ℕ) (sums numbers : List ℤ) → length (added_times weight sums numbers) ≡ length numbers
 added_long weight sums numbers = length-map-range_with_len (λ j. at sums j +ℤ pos weight *ℤ at numbers j) 0 (length numbers)
 
-means_long : (c : Numbers) (k : ℕ) (multipliers reached : List ℤ) → length (means_of c k multipliers reached) ≡ length c.bounds
+pub means_long : (c : Numbers) (k : ℕ) (multipliers reached : List ℤ) → length (means_of c k multipliers reached) ≡ length c.bounds
 means_long c k multipliers reached =
     let means = map (mean_at k multipliers reached) (range_with_len 0 (length c.bounds)) in
     length-map-range_with_len (λ i. at means i *ℤ pos (2 ^ lowering_of c i)) 0 (length c.bounds)
@@ -150,7 +150,7 @@ plan_long : (c : Numbers) (state means : List ℤ) → length (plan_of c state m
 plan_long c state means = length-map-range_with_len (plan_entry c state means) 0 (length c.offsets)
 
 -- ---- one step
-multiplier_kept : (c : Numbers) (state plan : List ℤ) (weight : ℕ) (multipliers : List ℤ) (i : ℕ) → pos 0 ≤ℤ c.clamp → i < length c.bounds →
+pub multiplier_kept : (c : Numbers) (state plan : List ℤ) (weight : ℕ) (multipliers : List ℤ) (i : ℕ) → pos 0 ≤ℤ c.clamp → i < length c.bounds →
     LiesUpTo (unsigned_abs (fast_top c i)) (at (moved_multipliers c state plan weight multipliers) i)
 multiplier_kept c state plan weight multipliers i h lt =
     rw (moved_item c state plan weight multipliers i lt)

@@ -7,6 +7,9 @@ pub mod FastRuns
 -- ---- the absolute sums, and the values within them
 pub mod FastSums
 pub mod FastBelow
+-- ---- the code: what fits its word
+pub mod FastRooms
+pub mod FastHeld
 -- ---- the machine as the method
 pub mod FastSteps
 pub mod FastMachineRuns

@@ -39,6 +39,10 @@ pub record FastIterate : Type 0 where
   pub reached : List ℤ
   pub sums : List ℤ
 
+-- by its lists
+abbrev pub fast_lists : (means plan multipliers reached sums : List ℤ) → FastIterate
+fast_lists means plan multipliers reached sums = record { means = means; plan = plan; multipliers = multipliers; reached = reached; sums = sums }
+
 abbrev pub fast_start : Numbers → FastIterate
 fast_start c = record {
   means = replicate (length c.bounds) (pos 0);

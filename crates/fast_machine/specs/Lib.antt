@@ -3,3 +3,4 @@ pub mod FastController
 pub mod FastReady
 pub mod FastValues
 pub mod FastErrors
+pub mod FastProgress

@@ -2,7 +2,7 @@
 ghost use Rattle.fast_machine.specs.FastMachine.{WeightSumLaw};
 ghost use Rattle.fast_machine.specs.FastReady.{FastReadyLaw};
 ghost use Rattle.fast_machine.specs.FastValues.{FastValuesLaw};
-ghost use Rattle.fast_machine.specs.FastErrors.{FastMachineStepLaw, FastAverageLaw, FastMachineRunLaw};
+ghost use Rattle.fast_machine.specs.FastErrors.{FastMachineStepLaw, FastAverageLaw, FastMachineRunLaw, FastMachineEvenLaw, FastCostLaw};
 
 /// The weights of n steps come to n (n + 3) / 2, and a mean is divided by twice those with its step's.
 pub fn weight_sum_law()
@@ -33,4 +33,14 @@ pub fn fast_average_law()
 /// A run bounds the Lagrangian at the averaged plan, against every feasible plan and all multipliers in 0 .. 2 r.
 pub fn fast_machine_run_law()
     ensures { FastMachineRunLaw }
+{}
+
+/// Where the errors of all steps have the same bounds, a run has that bound with one number for them.
+pub fn fast_machine_even_law()
+    ensures { FastMachineEvenLaw }
+{}
+
+/// And its averaged plan costs at most that number more than any feasible plan.
+pub fn fast_cost_law()
+    ensures { FastCostLaw }
 {}
