@@ -1,5 +1,5 @@
 -- The text of a sum of products, as it grows behind what it is added to.
-use Rattle.std.specs.Prelude.{ℕ, zero, suc, ◌*◌, nat_lt, if◌then◌else◌, ℤ, List, [], ◌∷◌, ◌++◌, length, map, codes, decimal, unsigned_abs}
+use Rattle.std.specs.Prelude.{ℕ, zero, suc, ◌*◌, nat_lt, if◌then◌else◌, ℤ, List, [], ◌∷◌, ◌++◌, length, map, codes, decimal, unsigned_abs, slice_index_or}
 use Rattle.std.specs.List.{range_with_len}
 use Rattle.integer_algebra.specs.Sums.{at}
 use Rattle.mat_int.specs.Matrix.{row_of}
@@ -8,8 +8,8 @@ use Rattle.qp_model.specs.machine.Controller.{Numbers}
 use Rattle.c_program.specs.Syntax.{variable, Statement, CProgram}
 use Rattle.c_program.specs.Syntax.Family.{Entry, Gradient}
 use Rattle.c_program.specs.Syntax.Expression.{Value}
-use Rattle.c_program.specs.Of.{partner, is_first, is_second, entry_top, program_of}
-use Rattle.c_program.specs.Text.{variable_text, constant_text, expression_text, statement_lines, shift_line, head_text}
+use Rattle.c_program.specs.Of.{multiplier_top, gain_of, gain_variable, partner, is_first, is_second, entry_top, program_of}
+use Rattle.c_program.specs.Text.{variable_text, constant_text, expression_text, statement_lines, shift_line, head_text, numbered_lines, refusal_line}
 
 -- ---- pairs
 abbrev pub partners_of : Numbers → List ℕ
@@ -31,6 +31,17 @@ product_text c top name = if nat_lt 0 (unsigned_abs c * top) then term_text c na
 unfoldable pub products_text : (ℕ → ℤ) → (ℕ → ℕ) → (ℕ → List ℕ) → ℕ → List ℕ
 products_text c top name zero = []
 products_text c top name (suc n) = products_text c top name n ++ product_text (c n) (top n) (name n)
+
+-- those of plan entry j
+abbrev pub gain_text : Numbers → (j i : ℕ) → List ℕ
+gain_text c j i = product_text (gain_of c j i) (multiplier_top c i) (variable_text (gain_variable c i))
+
+abbrev pub gains_text : Numbers → ℕ → List ℕ
+gains_text c j = products_text (gain_of c j) (multiplier_top c) (λ i. variable_text (gain_variable c i)) (length c.bounds)
+
+-- those of numbers with the variables of a family, which are at most these in absolute value
+abbrev pub family_text : (ℕ → ℤ) → (tops family : List ℕ) → ℕ → List ℕ
+family_text c tops family n = products_text c (λ k. slice_index_or tops k 0) (λ k. family ++ decimal k) n
 
 -- ---- statements
 -- what stands before and behind the value that a variable of a type is given
@@ -60,3 +71,6 @@ opening_lines name p = (codes "#include \"" ++ name ++ codes ".h\"") ∷ [] ∷ 
 
 abbrev pub repetition_line : CProgram → List ℕ
 repetition_line p = codes "    for (int32_t step = 0; step < " ++ decimal p.repetitions ++ codes "; step++) {"
+
+abbrev pub refusals_text : CProgram → List ℕ
+refusals_text p = text_of (numbered_lines (refusal_line p) (length p.low))
