@@ -58,12 +58,16 @@ given_end = codes ");" ++ 10 ∷ []
 abbrev pub block_text : Numbers → (indent : List ℕ) → List Statement → List ℕ
 block_text c indent ss = text_of (statement_lines (program_of c).kind indent ss)
 
+-- the products of row i with the plan
+abbrev pub plan_row_text : Numbers → ℕ → List ℕ
+plan_row_text c i = products_text (at (row_of c.plan_rows i)) (entry_top c) (λ j. variable_text (variable Entry j)) (length c.offsets)
+
 -- what stands behind the base in the sum of a row
 abbrev pub row_rest : Numbers → ℕ → List ℕ
 row_rest c i =
     if is_first c i then (codes " + " ++ expression_text (Value (variable Gradient i))) else
     (if is_second c i then (codes " - " ++ expression_text (Value (variable Gradient (partner c i)))) else
-    products_text (at (row_of c.plan_rows i)) (entry_top c) (λ j. variable_text (variable Entry j)) (length c.offsets))
+    plan_row_text c i)
 
 -- ---- the lines of a program
 abbrev pub opening_lines : List ℕ → CProgram → List (List ℕ)

@@ -7,7 +7,7 @@ ghost use Rattle.c_program.specs.Syntax.Expression.{Value};
 ghost use Rattle.c_program.specs.Syntax.Statement.{Declare, Assign, AtLeastZero, AtMost};
 ghost use Rattle.c_program.specs.Of.{kind_of, is_first, is_second, gradient_statements, row_expression, moved_expression, move_statements, row_statements};
 ghost use Rattle.c_program.specs.Text.{kind_text, expression_text};
-ghost use Rattle.c_program.specs.Terms.{row_rest};
+ghost use Rattle.c_program.specs.Terms.{plan_row_text, row_rest};
 ghost use Rattle.c_program.specs.Measured.{controller_in, row_count, loop_text, needed_loop_text, row_text};
 
 use crate::measured::Measured;
@@ -21,6 +21,15 @@ use crate::words::{
 use overflow_check::next_magnitude;
 use std::alloc::AllocError;
 
+// The products of row `i` with the plan.
+fn push_plan_row(from: &Measured, text: &mut String, i: usize) -> Result<(), AllocError>
+    requires in_range { i < row_count from.now }
+    ensures { OnOk result (string_bytes text.new ≡ string_bytes text.old ++ plan_row_text (controller_in from.now) i) }
+{
+    push_row(from.alloc, text, from.c.g_mat.row(i), from.plan, "u")?;
+    Ok(())
+}
+
 // The line of the products that the pair of row `i` shares.
 fn push_gradient(from: &Measured, text: &mut String, i: usize) -> Result<(), AllocError>
     requires in_range { i < row_count from.now }
@@ -29,7 +38,7 @@ fn push_gradient(from: &Measured, text: &mut String, i: usize) -> Result<(), All
 {
     push_declared(from.alloc, text, "        ", "int64_t", "g", i)?;
     text.push_str("INT64_C(0)")?;
-    push_row(from.alloc, text, from.c.g_mat.row(i), from.plan, "u")?;
+    push_plan_row(from, text, i)?;
     push_end(text)?;
     Ok(())
 }
@@ -75,7 +84,7 @@ fn push_alone_rest(from: &Measured, text: &mut String, i: usize) -> Result<(), A
     requires other { is_second (controller_in from.now) i ≡ false }
     ensures { OnOk result (string_bytes text.new ≡ string_bytes text.old ++ row_rest (controller_in from.now) i) }
 {
-    push_row(from.alloc, text, from.c.g_mat.row(i), from.plan, "u")?;
+    push_plan_row(from, text, i)?;
     Ok(())
 }
 
