@@ -1,5 +1,5 @@
 -- The text of a sum of products, as it grows behind what it is added to.
-use Rattle.std.specs.Prelude.{ℕ, zero, suc, ◌*◌, nat_lt, if◌then◌else◌, ℤ, List, [], ◌∷◌, ◌++◌, length, map, codes, decimal, unsigned_abs}
+use Rattle.std.specs.Prelude.{ℕ, zero, suc, ◌*◌, nat_lt, if◌then◌else◌, ℤ, List, [], ◌∷◌, ◌++◌, length, map, codes, decimal, unsigned_abs, slice_index_or}
 use Rattle.std.specs.List.{range_with_len}
 use Rattle.integer_algebra.specs.Sums.{at}
 use Rattle.mat_int.specs.Matrix.{row_of}
@@ -8,8 +8,8 @@ use Rattle.qp_model.specs.machine.Controller.{Numbers}
 use Rattle.c_program.specs.Syntax.{variable, Statement, CProgram}
 use Rattle.c_program.specs.Syntax.Family.{Entry, Gradient}
 use Rattle.c_program.specs.Syntax.Expression.{Value}
-use Rattle.c_program.specs.Of.{partner, is_first, is_second, entry_top, program_of}
-use Rattle.c_program.specs.Text.{variable_text, constant_text, expression_text, statement_lines, shift_line, head_text}
+use Rattle.c_program.specs.Of.{multiplier_top, gain_of, gain_variable, partner, is_first, is_second, entry_top, program_of}
+use Rattle.c_program.specs.Text.{variable_text, constant_text, expression_text, statement_lines, shift_line, head_text, numbered_lines, refusal_line}
 
 -- ---- pairs
 abbrev pub partners_of : Numbers → List ℕ
@@ -32,6 +32,17 @@ unfoldable pub products_text : (ℕ → ℤ) → (ℕ → ℕ) → (ℕ → List
 products_text c top name zero = []
 products_text c top name (suc n) = products_text c top name n ++ product_text (c n) (top n) (name n)
 
+-- those of plan entry j
+abbrev pub gain_text : Numbers → (j i : ℕ) → List ℕ
+gain_text c j i = product_text (gain_of c j i) (multiplier_top c i) (variable_text (gain_variable c i))
+
+abbrev pub gains_text : Numbers → ℕ → List ℕ
+gains_text c j = products_text (gain_of c j) (multiplier_top c) (λ i. variable_text (gain_variable c i)) (length c.bounds)
+
+-- those of numbers with the variables of a family, which are at most these in absolute value
+abbrev pub family_text : (ℕ → ℤ) → (tops family : List ℕ) → ℕ → List ℕ
+family_text c tops family n = products_text c (λ k. slice_index_or tops k 0) (λ k. family ++ decimal k) n
+
 -- ---- statements
 -- what stands before and behind the value that a variable of a type is given
 abbrev pub given_text : List ℕ → List ℕ → List ℕ
@@ -47,12 +58,16 @@ given_end = codes ");" ++ 10 ∷ []
 abbrev pub block_text : Numbers → (indent : List ℕ) → List Statement → List ℕ
 block_text c indent ss = text_of (statement_lines (program_of c).kind indent ss)
 
+-- the products of row i with the plan
+abbrev pub plan_row_text : Numbers → ℕ → List ℕ
+plan_row_text c i = products_text (at (row_of c.plan_rows i)) (entry_top c) (λ j. variable_text (variable Entry j)) (length c.offsets)
+
 -- what stands behind the base in the sum of a row
 abbrev pub row_rest : Numbers → ℕ → List ℕ
 row_rest c i =
     if is_first c i then (codes " + " ++ expression_text (Value (variable Gradient i))) else
     (if is_second c i then (codes " - " ++ expression_text (Value (variable Gradient (partner c i)))) else
-    products_text (at (row_of c.plan_rows i)) (entry_top c) (λ j. variable_text (variable Entry j)) (length c.offsets))
+    plan_row_text c i)
 
 -- ---- the lines of a program
 abbrev pub opening_lines : List ℕ → CProgram → List (List ℕ)
@@ -60,3 +75,6 @@ opening_lines name p = (codes "#include \"" ++ name ++ codes ".h\"") ∷ [] ∷ 
 
 abbrev pub repetition_line : CProgram → List ℕ
 repetition_line p = codes "    for (int32_t step = 0; step < " ++ decimal p.repetitions ++ codes "; step++) {"
+
+abbrev pub refusals_text : CProgram → List ℕ
+refusals_text p = text_of (numbered_lines (refusal_line p) (length p.low))

@@ -4,7 +4,7 @@ ghost use Rattle.number_text.specs.Lines.{text_of};
 ghost use Rattle.c_program.specs.Syntax.Family.{Sum};
 ghost use Rattle.c_program.specs.Of.{kind_of, sum_statements};
 ghost use Rattle.c_program.specs.Text.{kind_text, refusal_text};
-ghost use Rattle.c_program.specs.Measured.{measured_controller, loop_text};
+ghost use Rattle.c_program.specs.Measured.{controller_in, loop_text};
 
 use crate::measured::Measured;
 use crate::words::{constant_word, push_pieces};
@@ -53,7 +53,7 @@ pub fn push_refusal(
 
 // The line that adds plan entry `j` to its sum, which has this type.
 pub fn push_sum(from: &Measured, text: &mut String, kind: &str, j: usize) -> Result<(), AllocError>
-    requires { kind.now ≡ kind_text (kind_of (measured_controller from.now) Sum j) }
+    requires { kind.now ≡ kind_text (kind_of (controller_in from.now) Sum j) }
     ensures { OnOk result (string_bytes text.new ≡ string_bytes text.old ++ loop_text from.now (sum_statements j)) }
 {
     let number = j.to_string(from.alloc)?;

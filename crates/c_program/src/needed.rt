@@ -5,7 +5,7 @@ ghost use Rattle.mat_int.specs.Matrix.{row_of};
 ghost use Rattle.qp_model.specs.machine.Controller.{numbers};
 ghost use Rattle.qp_model.specs.machine.AbsoluteSums.{IsController};
 ghost use Rattle.c_program.specs.Of.{any_below, is_product, is_row_needed, is_coordinate_needed};
-ghost use Rattle.c_program.specs.Measured.{measured_controller};
+ghost use Rattle.c_program.specs.Measured.{controller_in};
 
 use crate::measured::Measured;
 use crate::opposite::both;
@@ -88,7 +88,7 @@ fn is_in_needed_rows(c: &ControllerParts, k: usize, top: u128) -> bool
 // Whether coordinate `k` of the state reaches the base of a plan entry, or that of a row that is needed.
 pub fn is_coordinate_needed_at(from: &Measured, k: usize) -> bool
     requires in_range { k < length from.now.states.now }
-    ensures { result ≡ is_coordinate_needed (measured_controller from.now) k }
+    ensures { result ≡ is_coordinate_needed (controller_in from.now) k }
 {
     let top = from.states[k];
     let entry = has_column_product(&from.c.p_mat, k, top);

@@ -7,7 +7,7 @@ ghost use Rattle.qp_model.specs.machine.Machine.{exponent_of};
 ghost use Rattle.qp_model.specs.machine.AbsoluteSums.{IsController};
 ghost use Rattle.c_program.specs.Of.{are_negated, are_opposed, first_opposed, partner, is_first, is_second};
 ghost use Rattle.c_program.specs.Terms.{partners_of};
-ghost use Rattle.c_program.specs.Measured.{measured_controller, row_count};
+ghost use Rattle.c_program.specs.Measured.{controller_in, row_count};
 
 use crate::measured::Measured;
 use mat_int::Mat;
@@ -131,7 +131,7 @@ pub fn partners(alloc: Global, c: &ControllerParts) -> Result<Vec<usize>, AllocE
 // That of row `i`.
 pub fn partner_at(from: &Measured, i: usize) -> usize
     requires in_range { i < row_count from.now }
-    ensures { result ≡ partner (measured_controller from.now) i }
+    ensures { result ≡ partner (controller_in from.now) i }
 {
     from.partners[i]
 }
@@ -146,7 +146,7 @@ fn is_below(i: usize, k: usize, l: usize) -> bool
 // Whether row `i` is the first one of a pair.
 pub fn is_first_at(from: &Measured, i: usize) -> bool
     requires in_range { i < row_count from.now }
-    ensures { result ≡ is_first (measured_controller from.now) i }
+    ensures { result ≡ is_first (controller_in from.now) i }
 {
     let k = partner_at(from, i);
     if k < from.c.bound.len() {
@@ -159,7 +159,7 @@ pub fn is_first_at(from: &Measured, i: usize) -> bool
 // Whether row `i` is the second one of a pair.
 pub fn is_second_at(from: &Measured, i: usize) -> bool
     requires in_range { i < row_count from.now }
-    ensures { result ≡ is_second (measured_controller from.now) i }
+    ensures { result ≡ is_second (controller_in from.now) i }
 {
     let k = partner_at(from, i);
     if k < i {

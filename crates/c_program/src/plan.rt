@@ -6,10 +6,10 @@ ghost use Rattle.qp_model.specs.machine.AbsoluteSums.{IsController};
 ghost use Rattle.c_program.specs.Syntax.{variable, groups};
 ghost use Rattle.c_program.specs.Syntax.Family.{Multiplier};
 ghost use Rattle.c_program.specs.Syntax.Expression.{Value, Minus};
-ghost use Rattle.c_program.specs.Of.{is_row_needed, multiplier_top, is_first, gain_of, gain_variable, difference_statements, entry_expression, entry_statements, sum_statements};
+ghost use Rattle.c_program.specs.Of.{multiplier_top, is_first, gain_of, gain_variable, difference_statements, entry_expression, entry_statements, sum_statements};
 ghost use Rattle.c_program.specs.Text.{variable_text, expression_text};
-ghost use Rattle.c_program.specs.Terms.{product_text, products_text};
-ghost use Rattle.c_program.specs.Measured.{measured_controller, row_count, entry_count, loop_text, needed_statements, where_needed};
+ghost use Rattle.c_program.specs.Terms.{gain_text, gains_text};
+ghost use Rattle.c_program.specs.Measured.{controller_in, row_count, entry_count, loop_text, needed_loop_text, row_text};
 
 use crate::lines::push_sum;
 use crate::measured::Measured;
@@ -39,9 +39,8 @@ fn push_difference_value(
 // The line of that of row `i`.
 fn push_difference(from: &Measured, text: &mut String, i: usize) -> Result<(), AllocError>
     requires in_range { i < row_count from.now }
-    requires first { is_first (measured_controller from.now) i ≡ true }
-    ensures { OnOk result (string_bytes text.new ≡ string_bytes text.old ++
-        loop_text from.now (difference_statements (measured_controller from.now) i)) }
+    requires first { is_first (controller_in from.now) i ≡ true }
+    ensures { OnOk result (string_bytes text.new ≡ string_bytes text.old ++ loop_text from.now (difference_statements (controller_in from.now) i)) }
 {
     push_declared(
         from.alloc,
@@ -59,8 +58,7 @@ fn push_difference(from: &Measured, text: &mut String, i: usize) -> Result<(), A
 // The same where row `i` is the first one of a pair.
 fn push_difference_where(from: &Measured, text: &mut String, i: usize) -> Result<(), AllocError>
     requires in_range { i < row_count from.now }
-    ensures { OnOk result (string_bytes text.new ≡ string_bytes text.old ++
-        loop_text from.now (difference_statements (measured_controller from.now) i)) }
+    ensures { OnOk result (string_bytes text.new ≡ string_bytes text.old ++ loop_text from.now (difference_statements (controller_in from.now) i)) }
 {
     if is_first_at(from, i) {
         push_difference(from, text, i)
@@ -73,7 +71,7 @@ fn push_difference_where(from: &Measured, text: &mut String, i: usize) -> Result
 fn push_needed_difference(from: &Measured, text: &mut String, i: usize) -> Result<(), AllocError>
     requires in_range { i < row_count from.now }
     ensures { OnOk result (string_bytes text.new ≡ string_bytes text.old ++
-        where_needed (is_row_needed (measured_controller from.now) i) (loop_text from.now (difference_statements (measured_controller from.now) i))) }
+        row_text from.now i (loop_text from.now (difference_statements (controller_in from.now) i))) }
 {
     if is_row_needed_at(from.c, i) {
         push_difference_where(from, text, i)
@@ -85,7 +83,7 @@ fn push_needed_difference(from: &Measured, text: &mut String, i: usize) -> Resul
 // The lines of the differences.
 pub fn push_differences(from: &Measured, text: &mut String) -> Result<(), AllocError>
     ensures { OnOk result (string_bytes text.new ≡ string_bytes text.old ++
-        loop_text from.now (needed_statements from.now (groups (difference_statements (measured_controller from.now)) (row_count from.now)))) }
+        needed_loop_text from.now (groups (difference_statements (controller_in from.now)) (row_count from.now))) }
 {
     for i in 0..from.c.bound.len() {
         push_needed_difference(from, text, i)?;
@@ -97,7 +95,7 @@ pub fn push_differences(from: &Measured, text: &mut String) -> Result<(), AllocE
 fn gain_base(from: &Measured, j: usize, i: usize) -> i128
     requires entry { j < entry_count from.now }
     requires row { i < row_count from.now }
-    ensures { result *ℤ pos (2 ^ lowering_of (measured_controller from.now) i) ≡ gain_of (measured_controller from.now) j i }
+    ensures { result *ℤ pos (2 ^ lowering_of (controller_in from.now) i) ≡ gain_of (controller_in from.now) j i }
 {
     if is_second_at(from, i) {
         0
@@ -110,7 +108,7 @@ fn gain_base(from: &Measured, j: usize, i: usize) -> i128
 // The family of what it is multiplied with.
 fn gain_family(from: &Measured, i: usize) -> &'static str
     requires in_range { i < row_count from.now }
-    ensures { result.now ++ decimal i ≡ variable_text (gain_variable (measured_controller from.now) i) }
+    ensures { result.now ++ decimal i ≡ variable_text (gain_variable (controller_in from.now) i) }
 {
     if is_first_at(from, i) { "d" } else { "l" }
 }
@@ -119,8 +117,7 @@ fn gain_family(from: &Measured, i: usize) -> &'static str
 fn push_gain(from: &Measured, text: &mut String, j: usize, i: usize) -> Result<(), AllocError>
     requires entry { j < entry_count from.now }
     requires row { i < row_count from.now }
-    ensures { OnOk result (string_bytes text.new ≡ string_bytes text.old ++
-        product_text (gain_of (measured_controller from.now) j i) (multiplier_top (measured_controller from.now) i) (variable_text (gain_variable (measured_controller from.now) i))) }
+    ensures { OnOk result (string_bytes text.new ≡ string_bytes text.old ++ gain_text (controller_in from.now) j i) }
 {
     let gain = gain_base(from, j, i);
     let top = multiplier_top(from.c, i);
@@ -140,9 +137,7 @@ fn push_gain(from: &Measured, text: &mut String, j: usize, i: usize) -> Result<(
 // All of plan entry `j`.
 fn push_gains(from: &Measured, text: &mut String, j: usize) -> Result<(), AllocError>
     requires entry { j < entry_count from.now }
-    ensures { OnOk result (string_bytes text.new ≡ string_bytes text.old ++
-        products_text (gain_of (measured_controller from.now) j) (multiplier_top (measured_controller from.now)) (λ i. variable_text (gain_variable (measured_controller from.now) i))
-        (row_count from.now)) }
+    ensures { OnOk result (string_bytes text.new ≡ string_bytes text.old ++ gains_text (controller_in from.now) j) }
 {
     for i in 0..from.c.bound.len() {
         push_gain(from, text, j, i)?;
@@ -162,7 +157,7 @@ fn entry_shift(c: &ControllerParts) -> u32
 // Plan entry `j`.
 fn push_entry_value(from: &Measured, text: &mut String, j: usize) -> Result<(), AllocError>
     requires entry { j < entry_count from.now }
-    ensures { OnOk result (string_bytes text.new ≡ string_bytes text.old ++ expression_text (entry_expression (measured_controller from.now) j)) }
+    ensures { OnOk result (string_bytes text.new ≡ string_bytes text.old ++ expression_text (entry_expression (controller_in from.now) j)) }
 {
     text.push_str("INT64_C(0) - ((")?;
     push_value(from.alloc, text, "a", j)?;
@@ -176,7 +171,7 @@ fn push_entry_value(from: &Measured, text: &mut String, j: usize) -> Result<(), 
 // The line of plan entry `j`.
 fn push_entry(from: &Measured, text: &mut String, j: usize) -> Result<(), AllocError>
     requires in_range { j < entry_count from.now }
-    ensures { OnOk result (string_bytes text.new ≡ string_bytes text.old ++ loop_text from.now (entry_statements (measured_controller from.now) j)) }
+    ensures { OnOk result (string_bytes text.new ≡ string_bytes text.old ++ loop_text from.now (entry_statements (controller_in from.now) j)) }
 {
     push_declared(
         from.alloc,
@@ -194,7 +189,7 @@ fn push_entry(from: &Measured, text: &mut String, j: usize) -> Result<(), AllocE
 // The lines of the plan entries.
 pub fn push_entries(from: &Measured, text: &mut String) -> Result<(), AllocError>
     ensures { OnOk result (string_bytes text.new ≡ string_bytes text.old ++
-        loop_text from.now (groups (entry_statements (measured_controller from.now)) (entry_count from.now))) }
+        loop_text from.now (groups (entry_statements (controller_in from.now)) (entry_count from.now))) }
 {
     for j in 0..from.c.t.len() {
         push_entry(from, text, j)?;

@@ -5,10 +5,10 @@ ghost use Rattle.c_program.specs.Syntax.{variable, groups};
 ghost use Rattle.c_program.specs.Syntax.Family.{Multiplier, Moved};
 ghost use Rattle.c_program.specs.Syntax.Expression.{Value};
 ghost use Rattle.c_program.specs.Syntax.Statement.{Declare, Assign, AtLeastZero, AtMost};
-ghost use Rattle.c_program.specs.Of.{is_row_needed, kind_of, is_first, is_second, gradient_statements, row_expression, moved_expression, move_statements, row_statements};
+ghost use Rattle.c_program.specs.Of.{kind_of, is_first, is_second, gradient_statements, row_expression, moved_expression, move_statements, row_statements};
 ghost use Rattle.c_program.specs.Text.{kind_text, expression_text};
-ghost use Rattle.c_program.specs.Terms.{row_rest};
-ghost use Rattle.c_program.specs.Measured.{measured_controller, row_count, loop_text, needed_statements, where_needed};
+ghost use Rattle.c_program.specs.Terms.{plan_row_text, row_rest};
+ghost use Rattle.c_program.specs.Measured.{controller_in, row_count, loop_text, needed_loop_text, row_text};
 
 use crate::measured::Measured;
 use crate::needed::is_row_needed_at;
@@ -21,16 +21,24 @@ use crate::words::{
 use overflow_check::next_magnitude;
 use std::alloc::AllocError;
 
+// The products of row `i` with the plan.
+fn push_plan_row(from: &Measured, text: &mut String, i: usize) -> Result<(), AllocError>
+    requires in_range { i < row_count from.now }
+    ensures { OnOk result (string_bytes text.new ≡ string_bytes text.old ++ plan_row_text (controller_in from.now) i) }
+{
+    push_row(from.alloc, text, from.c.g_mat.row(i), from.plan, "u")?;
+    Ok(())
+}
+
 // The line of the products that the pair of row `i` shares.
 fn push_gradient(from: &Measured, text: &mut String, i: usize) -> Result<(), AllocError>
     requires in_range { i < row_count from.now }
-    requires first { is_first (measured_controller from.now) i ≡ true }
-    ensures { OnOk result (string_bytes text.new ≡ string_bytes text.old ++
-        loop_text from.now (gradient_statements (measured_controller from.now) i)) }
+    requires first { is_first (controller_in from.now) i ≡ true }
+    ensures { OnOk result (string_bytes text.new ≡ string_bytes text.old ++ loop_text from.now (gradient_statements (controller_in from.now) i)) }
 {
     push_declared(from.alloc, text, "        ", "int64_t", "g", i)?;
     text.push_str("INT64_C(0)")?;
-    push_row(from.alloc, text, from.c.g_mat.row(i), from.plan, "u")?;
+    push_plan_row(from, text, i)?;
     push_end(text)?;
     Ok(())
 }
@@ -38,8 +46,7 @@ fn push_gradient(from: &Measured, text: &mut String, i: usize) -> Result<(), All
 // The same where row `i` is the first one of a pair.
 fn push_gradient_where(from: &Measured, text: &mut String, i: usize) -> Result<(), AllocError>
     requires in_range { i < row_count from.now }
-    ensures { OnOk result (string_bytes text.new ≡ string_bytes text.old ++
-        loop_text from.now (gradient_statements (measured_controller from.now) i)) }
+    ensures { OnOk result (string_bytes text.new ≡ string_bytes text.old ++ loop_text from.now (gradient_statements (controller_in from.now) i)) }
 {
     if is_first_at(from, i) {
         push_gradient(from, text, i)
@@ -50,8 +57,8 @@ fn push_gradient_where(from: &Measured, text: &mut String, i: usize) -> Result<(
 
 // What the first row of a pair adds to its base.
 fn push_first_rest(from: &Measured, text: &mut String, i: usize) -> Result<(), AllocError>
-    requires { is_first (measured_controller from.now) i ≡ true }
-    ensures { OnOk result (string_bytes text.new ≡ string_bytes text.old ++ row_rest (measured_controller from.now) i) }
+    requires { is_first (controller_in from.now) i ≡ true }
+    ensures { OnOk result (string_bytes text.new ≡ string_bytes text.old ++ row_rest (controller_in from.now) i) }
 {
     text.push_str(" + ")?;
     push_value(from.alloc, text, "g", i)?;
@@ -61,9 +68,9 @@ fn push_first_rest(from: &Measured, text: &mut String, i: usize) -> Result<(), A
 // What the second row takes from its base.
 fn push_second_rest(from: &Measured, text: &mut String, i: usize) -> Result<(), AllocError>
     requires in_range { i < row_count from.now }
-    requires alone { is_first (measured_controller from.now) i ≡ false }
-    requires second { is_second (measured_controller from.now) i ≡ true }
-    ensures { OnOk result (string_bytes text.new ≡ string_bytes text.old ++ row_rest (measured_controller from.now) i) }
+    requires alone { is_first (controller_in from.now) i ≡ false }
+    requires second { is_second (controller_in from.now) i ≡ true }
+    ensures { OnOk result (string_bytes text.new ≡ string_bytes text.old ++ row_rest (controller_in from.now) i) }
 {
     text.push_str(" - ")?;
     push_value(from.alloc, text, "g", partner_at(from, i))?;
@@ -73,18 +80,18 @@ fn push_second_rest(from: &Measured, text: &mut String, i: usize) -> Result<(), 
 // What any other row adds to its base.
 fn push_alone_rest(from: &Measured, text: &mut String, i: usize) -> Result<(), AllocError>
     requires in_range { i < row_count from.now }
-    requires alone { is_first (measured_controller from.now) i ≡ false }
-    requires other { is_second (measured_controller from.now) i ≡ false }
-    ensures { OnOk result (string_bytes text.new ≡ string_bytes text.old ++ row_rest (measured_controller from.now) i) }
+    requires alone { is_first (controller_in from.now) i ≡ false }
+    requires other { is_second (controller_in from.now) i ≡ false }
+    ensures { OnOk result (string_bytes text.new ≡ string_bytes text.old ++ row_rest (controller_in from.now) i) }
 {
-    push_row(from.alloc, text, from.c.g_mat.row(i), from.plan, "u")?;
+    push_plan_row(from, text, i)?;
     Ok(())
 }
 
 // What row `i` adds to its base.
 fn push_rest(from: &Measured, text: &mut String, i: usize) -> Result<(), AllocError>
     requires in_range { i < row_count from.now }
-    ensures { OnOk result (string_bytes text.new ≡ string_bytes text.old ++ row_rest (measured_controller from.now) i) }
+    ensures { OnOk result (string_bytes text.new ≡ string_bytes text.old ++ row_rest (controller_in from.now) i) }
 {
     if is_first_at(from, i) {
         push_first_rest(from, text, i)
@@ -98,7 +105,7 @@ fn push_rest(from: &Measured, text: &mut String, i: usize) -> Result<(), AllocEr
 // The sum of row `i`.
 fn push_row_value(from: &Measured, text: &mut String, i: usize) -> Result<(), AllocError>
     requires in_range { i < row_count from.now }
-    ensures { OnOk result (string_bytes text.new ≡ string_bytes text.old ++ expression_text (row_expression (measured_controller from.now) i)) }
+    ensures { OnOk result (string_bytes text.new ≡ string_bytes text.old ++ expression_text (row_expression (controller_in from.now) i)) }
 {
     push_value(from.alloc, text, "r", i)?;
     push_rest(from, text, i)?;
@@ -108,7 +115,7 @@ fn push_row_value(from: &Measured, text: &mut String, i: usize) -> Result<(), Al
 // Multiplier `i`, moved along its row.
 fn push_moved_value(from: &Measured, text: &mut String, i: usize) -> Result<(), AllocError>
     requires in_range { i < row_count from.now }
-    ensures { OnOk result (string_bytes text.new ≡ string_bytes text.old ++ expression_text (moved_expression (measured_controller from.now) i)) }
+    ensures { OnOk result (string_bytes text.new ≡ string_bytes text.old ++ expression_text (moved_expression (controller_in from.now) i)) }
 {
     push_value(from.alloc, text, "l", i)?;
     text.push_str(" + ((")?;
@@ -122,9 +129,9 @@ fn push_moved_value(from: &Measured, text: &mut String, i: usize) -> Result<(), 
 // The line that declares it.
 fn push_moved(from: &Measured, text: &mut String, kind: &str, i: usize) -> Result<(), AllocError>
     requires in_range { i < row_count from.now }
-    requires kind { kind.now ≡ kind_text (kind_of (measured_controller from.now) Moved i) }
+    requires kind { kind.now ≡ kind_text (kind_of (controller_in from.now) Moved i) }
     ensures { OnOk result (string_bytes text.new ≡ string_bytes text.old ++
-        loop_text from.now (Declare (variable Moved i) (moved_expression (measured_controller from.now) i) ∷ [])) }
+        loop_text from.now (Declare (variable Moved i) (moved_expression (controller_in from.now) i) ∷ [])) }
 {
     push_declared(from.alloc, text, "        ", kind, "t", i)?;
     push_moved_value(from, text, i)?;
@@ -157,9 +164,9 @@ fn push_floor(from: &Measured, text: &mut String, i: usize) -> Result<(), AllocE
 // The line that keeps it at most the greatest.
 fn push_ceiling(from: &Measured, text: &mut String, kind: &str, i: usize) -> Result<(), AllocError>
     requires in_range { i < row_count from.now }
-    requires kind { kind.now ≡ kind_text (kind_of (measured_controller from.now) Moved i) }
+    requires kind { kind.now ≡ kind_text (kind_of (controller_in from.now) Moved i) }
     ensures { OnOk result (string_bytes text.new ≡ string_bytes text.old ++
-        loop_text from.now (AtMost (variable Moved i) (top_of (measured_controller from.now) i) ∷ [])) }
+        loop_text from.now (AtMost (variable Moved i) (top_of (controller_in from.now) i) ∷ [])) }
 {
     let number = i.to_string(from.alloc)?;
     let top = constant_word(from.alloc, top_at(from.c, i))?;
@@ -221,7 +228,7 @@ fn push_back(from: &Measured, text: &mut String, i: usize) -> Result<(), AllocEr
 // The lines that move multiplier `i`.
 fn push_move(from: &Measured, text: &mut String, i: usize) -> Result<(), AllocError>
     requires in_range { i < row_count from.now }
-    ensures { OnOk result (string_bytes text.new ≡ string_bytes text.old ++ loop_text from.now (move_statements (measured_controller from.now) i)) }
+    ensures { OnOk result (string_bytes text.new ≡ string_bytes text.old ++ loop_text from.now (move_statements (controller_in from.now) i)) }
 {
     let kind = kind_word(next_magnitude(from.c, from.plan, i));
     push_moved(from, text, kind, i)?;
@@ -234,7 +241,7 @@ fn push_move(from: &Measured, text: &mut String, i: usize) -> Result<(), AllocEr
 // The lines of row `i`.
 fn push_row_lines(from: &Measured, text: &mut String, i: usize) -> Result<(), AllocError>
     requires in_range { i < row_count from.now }
-    ensures { OnOk result (string_bytes text.new ≡ string_bytes text.old ++ loop_text from.now (row_statements (measured_controller from.now) i)) }
+    ensures { OnOk result (string_bytes text.new ≡ string_bytes text.old ++ loop_text from.now (row_statements (controller_in from.now) i)) }
 {
     push_gradient_where(from, text, i)?;
     push_move(from, text, i)?;
@@ -245,7 +252,7 @@ fn push_row_lines(from: &Measured, text: &mut String, i: usize) -> Result<(), Al
 fn push_needed_row(from: &Measured, text: &mut String, i: usize) -> Result<(), AllocError>
     requires in_range { i < row_count from.now }
     ensures { OnOk result (string_bytes text.new ≡ string_bytes text.old ++
-        where_needed (is_row_needed (measured_controller from.now) i) (loop_text from.now (row_statements (measured_controller from.now) i))) }
+        row_text from.now i (loop_text from.now (row_statements (controller_in from.now) i))) }
 {
     if is_row_needed_at(from.c, i) {
         push_row_lines(from, text, i)
@@ -257,7 +264,7 @@ fn push_needed_row(from: &Measured, text: &mut String, i: usize) -> Result<(), A
 // The lines of the rows.
 pub fn push_rows(from: &Measured, text: &mut String) -> Result<(), AllocError>
     ensures { OnOk result (string_bytes text.new ≡ string_bytes text.old ++
-        loop_text from.now (needed_statements from.now (groups (row_statements (measured_controller from.now)) (row_count from.now)))) }
+        needed_loop_text from.now (groups (row_statements (controller_in from.now)) (row_count from.now))) }
 {
     for i in 0..from.c.bound.len() {
         push_needed_row(from, text, i)?;

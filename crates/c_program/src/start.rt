@@ -4,9 +4,9 @@ ghost use Rattle.qp_model.specs.machine.Controller.{numbers};
 ghost use Rattle.qp_model.specs.machine.AbsoluteSums.{IsController};
 ghost use Rattle.c_program.specs.Syntax.{groups};
 ghost use Rattle.c_program.specs.Syntax.Family.{Multiplier, Sum};
-ghost use Rattle.c_program.specs.Of.{is_row_needed, is_coordinate_needed, loaded_expression, loaded_statements, entry_base_statements, row_base_statements, zero_statements};
+ghost use Rattle.c_program.specs.Of.{loaded_expression, loaded_statements, entry_base_statements, row_base_statements, zero_statements};
 ghost use Rattle.c_program.specs.Text.{expression_text};
-ghost use Rattle.c_program.specs.Measured.{measured_controller, row_count, entry_count, start_text, needed_statements, where_needed};
+ghost use Rattle.c_program.specs.Measured.{controller_in, row_count, entry_count, start_text, needed_start_text, row_text, coordinate_text};
 
 use crate::measured::Measured;
 use crate::needed::{is_coordinate_needed_at, is_row_needed_at};
@@ -27,7 +27,7 @@ fn grid_step(c: &ControllerParts) -> i128
 
 // Coordinate `k` of the state, over `2^f`.
 fn push_load(from: &Measured, text: &mut String, k: usize) -> Result<(), AllocError>
-    ensures { OnOk result (string_bytes text.new ≡ string_bytes text.old ++ expression_text (loaded_expression (measured_controller from.now) k)) }
+    ensures { OnOk result (string_bytes text.new ≡ string_bytes text.old ++ expression_text (loaded_expression (controller_in from.now) k)) }
 {
     text.push_str("(")?;
     push_constant(from.alloc, text, grid_step(from.c))?;
@@ -40,7 +40,7 @@ fn push_load(from: &Measured, text: &mut String, k: usize) -> Result<(), AllocEr
 // The line that loads it.
 fn push_loaded(from: &Measured, text: &mut String, k: usize) -> Result<(), AllocError>
     requires in_range { k < length from.now.states.now }
-    ensures { OnOk result (string_bytes text.new ≡ string_bytes text.old ++ start_text from.now (loaded_statements (measured_controller from.now) k)) }
+    ensures { OnOk result (string_bytes text.new ≡ string_bytes text.old ++ start_text from.now (loaded_statements (controller_in from.now) k)) }
 {
     push_declared(from.alloc, text, "    ", kind_word(from.states[k]), "x", k)?;
     push_load(from, text, k)?;
@@ -52,7 +52,7 @@ fn push_loaded(from: &Measured, text: &mut String, k: usize) -> Result<(), Alloc
 fn push_needed_loaded(from: &Measured, text: &mut String, k: usize) -> Result<(), AllocError>
     requires in_range { k < length from.now.states.now }
     ensures { OnOk result (string_bytes text.new ≡ string_bytes text.old ++
-        where_needed (is_coordinate_needed (measured_controller from.now) k) (start_text from.now (loaded_statements (measured_controller from.now) k))) }
+        coordinate_text from.now k (start_text from.now (loaded_statements (controller_in from.now) k))) }
 {
     if is_coordinate_needed_at(from, k) {
         push_loaded(from, text, k)
@@ -64,7 +64,7 @@ fn push_needed_loaded(from: &Measured, text: &mut String, k: usize) -> Result<()
 // The lines that load the state.
 pub fn push_loads(from: &Measured, text: &mut String) -> Result<(), AllocError>
     ensures { OnOk result (string_bytes text.new ≡ string_bytes text.old ++
-        start_text from.now (needed_statements from.now (groups (loaded_statements (measured_controller from.now)) (length from.now.states.now)))) }
+        needed_start_text from.now (groups (loaded_statements (controller_in from.now)) (length from.now.states.now))) }
 {
     for k in 0..from.states.len() {
         push_needed_loaded(from, text, k)?;
@@ -75,8 +75,7 @@ pub fn push_loads(from: &Measured, text: &mut String) -> Result<(), AllocError>
 // The line of the base of plan entry `j`.
 fn push_entry_base(from: &Measured, text: &mut String, j: usize) -> Result<(), AllocError>
     requires in_range { j < entry_count from.now }
-    ensures { OnOk result (string_bytes text.new ≡ string_bytes text.old ++
-        start_text from.now (entry_base_statements (measured_controller from.now) j)) }
+    ensures { OnOk result (string_bytes text.new ≡ string_bytes text.old ++ start_text from.now (entry_base_statements (controller_in from.now) j)) }
 {
     push_declared(from.alloc, text, "    ", "int64_t", "a", j)?;
     push_constant(from.alloc, text, offset_at(from.c, j))?;
@@ -95,7 +94,7 @@ fn push_entry_base(from: &Measured, text: &mut String, j: usize) -> Result<(), A
 // The lines of the bases of plan entries.
 pub fn push_entry_bases(from: &Measured, text: &mut String) -> Result<(), AllocError>
     ensures { OnOk result (string_bytes text.new ≡ string_bytes text.old ++
-        start_text from.now (groups (entry_base_statements (measured_controller from.now)) (entry_count from.now))) }
+        start_text from.now (groups (entry_base_statements (controller_in from.now)) (entry_count from.now))) }
 {
     for j in 0..from.c.t.len() {
         push_entry_base(from, text, j)?;
@@ -106,7 +105,7 @@ pub fn push_entry_bases(from: &Measured, text: &mut String) -> Result<(), AllocE
 // The line of the base of row `i`.
 fn push_row_base(from: &Measured, text: &mut String, i: usize) -> Result<(), AllocError>
     requires in_range { i < row_count from.now }
-    ensures { OnOk result (string_bytes text.new ≡ string_bytes text.old ++ start_text from.now (row_base_statements (measured_controller from.now) i)) }
+    ensures { OnOk result (string_bytes text.new ≡ string_bytes text.old ++ start_text from.now (row_base_statements (controller_in from.now) i)) }
 {
     push_declared(from.alloc, text, "    ", "int64_t", "r", i)?;
     push_constant(from.alloc, text, bound_at(from.c, i))?;
@@ -119,7 +118,7 @@ fn push_row_base(from: &Measured, text: &mut String, i: usize) -> Result<(), All
 fn push_needed_row_base(from: &Measured, text: &mut String, i: usize) -> Result<(), AllocError>
     requires in_range { i < row_count from.now }
     ensures { OnOk result (string_bytes text.new ≡ string_bytes text.old ++
-        where_needed (is_row_needed (measured_controller from.now) i) (start_text from.now (row_base_statements (measured_controller from.now) i))) }
+        row_text from.now i (start_text from.now (row_base_statements (controller_in from.now) i))) }
 {
     if is_row_needed_at(from.c, i) {
         push_row_base(from, text, i)
@@ -131,7 +130,7 @@ fn push_needed_row_base(from: &Measured, text: &mut String, i: usize) -> Result<
 // The lines of the bases of rows.
 pub fn push_row_bases(from: &Measured, text: &mut String) -> Result<(), AllocError>
     ensures { OnOk result (string_bytes text.new ≡ string_bytes text.old ++
-        start_text from.now (needed_statements from.now (groups (row_base_statements (measured_controller from.now)) (row_count from.now)))) }
+        needed_start_text from.now (groups (row_base_statements (controller_in from.now)) (row_count from.now))) }
 {
     for i in 0..from.c.bound.len() {
         push_needed_row_base(from, text, i)?;
@@ -161,7 +160,7 @@ fn push_multiplier(from: &Measured, text: &mut String, i: usize) -> Result<(), A
 fn push_needed_multiplier(from: &Measured, text: &mut String, i: usize) -> Result<(), AllocError>
     requires in_range { i < row_count from.now }
     ensures { OnOk result (string_bytes text.new ≡ string_bytes text.old ++
-        where_needed (is_row_needed (measured_controller from.now) i) (start_text from.now (zero_statements Multiplier i))) }
+        row_text from.now i (start_text from.now (zero_statements Multiplier i))) }
 {
     if is_row_needed_at(from.c, i) {
         push_multiplier(from, text, i)
@@ -173,7 +172,7 @@ fn push_needed_multiplier(from: &Measured, text: &mut String, i: usize) -> Resul
 // The lines of the multipliers.
 pub fn push_multipliers(from: &Measured, text: &mut String) -> Result<(), AllocError>
     ensures { OnOk result (string_bytes text.new ≡ string_bytes text.old ++
-        start_text from.now (needed_statements from.now (groups (zero_statements Multiplier) (row_count from.now)))) }
+        needed_start_text from.now (groups (zero_statements Multiplier) (row_count from.now))) }
 {
     for i in 0..from.c.bound.len() {
         push_needed_multiplier(from, text, i)?;

@@ -1,7 +1,7 @@
 // Sums of products.
-ghost use Rattle.std.specs.Prelude.{◌≡◌, ◌<◌, ◌≤◌, ◌+◌, ◌*◌, ◌^◌, ◌++◌, ℕ, pos, ◌*ℤ◌, length, OnOk, string_bytes, unsigned_abs, decimal, slice_index_or};
+ghost use Rattle.std.specs.Prelude.{◌≡◌, ◌<◌, ◌≤◌, ◌+◌, ◌*◌, ◌^◌, ◌++◌, ℕ, pos, ◌*ℤ◌, length, OnOk, string_bytes, unsigned_abs, slice_index_or};
 ghost use Rattle.integer_algebra.specs.Sums.{at};
-ghost use Rattle.c_program.specs.Terms.{products_text};
+ghost use Rattle.c_program.specs.Terms.{family_text};
 
 use crate::words::{push_product, push_scaled};
 use std::alloc::{AllocError, Global};
@@ -16,8 +16,7 @@ pub fn push_row(
 ) -> Result<(), AllocError>
     requires long { length row.now ≡ length tops.now }
     requires room { (k : ℕ) → k < length row.now → unsigned_abs (at row.now k) * slice_index_or tops.now k 0 < 2 ^ 127 }
-    ensures { OnOk result (string_bytes text.new ≡ string_bytes text.old ++
-        products_text (at row.now) (λ k. slice_index_or tops.now k 0) (λ k. family.now ++ decimal k) (length row.now)) }
+    ensures { OnOk result (string_bytes text.new ≡ string_bytes text.old ++ family_text (at row.now) tops.now family.now (length row.now)) }
 {
     for k in 0..row.len() {
         push_product(alloc, text, row[k], tops[k], family, k)?;
@@ -38,7 +37,7 @@ pub fn push_scaled_row(
     requires long { length row.now ≡ length tops.now }
     requires room { (k : ℕ) → k < length row.now → unsigned_abs (at row.now k *ℤ pos (2 ^ s)) * slice_index_or tops.now k 0 < 2 ^ 127 }
     ensures { OnOk result (string_bytes text.new ≡ string_bytes text.old ++
-        products_text (λ k. at row.now k *ℤ pos (2 ^ s)) (λ k. slice_index_or tops.now k 0) (λ k. family.now ++ decimal k) (length row.now)) }
+        family_text (λ k. at row.now k *ℤ pos (2 ^ s)) tops.now family.now (length row.now)) }
 {
     for k in 0..row.len() {
         push_scaled(alloc, text, row[k], s, tops[k], family, k)?;

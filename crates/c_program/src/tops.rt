@@ -5,7 +5,7 @@ ghost use Rattle.qp_model.specs.machine.Controller.{numbers};
 ghost use Rattle.qp_model.specs.machine.Machine.{lowering_of, top_of};
 ghost use Rattle.qp_model.specs.machine.AbsoluteSums.{IsController, state_magnitudes, plan_magnitudes, sum_magnitude};
 ghost use Rattle.c_program.specs.Of.{multiplier_top};
-ghost use Rattle.c_program.specs.Measured.{measured_controller, entry_count};
+ghost use Rattle.c_program.specs.Measured.{controller_in, entry_count};
 
 use crate::measured::Measured;
 use frac_scaled::{floor_shift, scaled};
@@ -69,7 +69,7 @@ pub fn state_tops(alloc: Global, c: &ControllerParts) -> Result<Vec<u128>, Alloc
 // Of the sum of plan entry `j`.
 pub fn sum_top(from: &Measured, j: usize) -> u128
     requires in_range { j < entry_count from.now }
-    ensures { result ≡ sum_magnitude (measured_controller from.now) j }
+    ensures { result ≡ sum_magnitude (controller_in from.now) j }
 {
     u128::from(from.c.steps) * from.plan[j]
 }

@@ -3,9 +3,9 @@ ghost use Rattle.std.specs.Prelude.{◌≡◌, ◌<◌, ◌≤◌, ◌++◌, [],
 ghost use Rattle.number_text.specs.Lines.{text_of};
 ghost use Rattle.qp_model.specs.machine.Controller.{numbers};
 ghost use Rattle.c_program.specs.Of.{before_of, repetition_body, program_of};
-ghost use Rattle.c_program.specs.Text.{shift_line, head_text, refusal_line, numbered_lines, program_text};
-ghost use Rattle.c_program.specs.Terms.{opening_lines, repetition_line};
-ghost use Rattle.c_program.specs.Measured.{measured_controller, start_text, loop_text, needed_statements};
+ghost use Rattle.c_program.specs.Text.{shift_line, head_text, refusal_line, program_text};
+ghost use Rattle.c_program.specs.Terms.{refusals_text, opening_lines, repetition_line};
+ghost use Rattle.c_program.specs.Measured.{controller_in, needed_start_text, needed_loop_text};
 
 use crate::averages::push_second;
 use crate::ending::push_outputs;
@@ -26,7 +26,7 @@ use std::alloc::{AllocError, Global};
 // The line that refuses number `i` of a state.
 fn push_refusal_of(from: &Measured, text: &mut String, i: usize) -> Result<(), AllocError>
     requires in_range { i < length from.now.c.now.lo.items }
-    ensures { OnOk result (string_bytes text.new ≡ string_bytes text.old ++ text_of (refusal_line (program_of (measured_controller from.now)) i ∷ [])) }
+    ensures { OnOk result (string_bytes text.new ≡ string_bytes text.old ++ text_of (refusal_line (program_of (controller_in from.now)) i ∷ [])) }
 {
     push_refusal(from.alloc, text, from.c.lo[i], from.c.hi[i], i)?;
     Ok(())
@@ -34,8 +34,7 @@ fn push_refusal_of(from: &Measured, text: &mut String, i: usize) -> Result<(), A
 
 // The lines that refuse a state.
 fn push_refusals(from: &Measured, text: &mut String) -> Result<(), AllocError>
-    ensures { OnOk result (string_bytes text.new ≡ string_bytes text.old ++
-        text_of (numbered_lines (refusal_line (program_of (measured_controller from.now))) (length from.now.c.now.lo.items))) }
+    ensures { OnOk result (string_bytes text.new ≡ string_bytes text.old ++ refusals_text (program_of (controller_in from.now))) }
 {
     for i in 0..from.c.lo.len() {
         push_refusal_of(from, text, i)?;
@@ -45,7 +44,7 @@ fn push_refusals(from: &Measured, text: &mut String) -> Result<(), AllocError>
 
 // The lines before the loop.
 fn push_before(from: &Measured, text: &mut String) -> Result<(), AllocError>
-    ensures { OnOk result (string_bytes text.new ≡ string_bytes text.old ++ start_text from.now (needed_statements from.now (before_of (measured_controller from.now)))) }
+    ensures { OnOk result (string_bytes text.new ≡ string_bytes text.old ++ needed_start_text from.now (before_of (controller_in from.now))) }
 {
     push_loads(from, text)?;
     push_entry_bases(from, text)?;
@@ -57,7 +56,7 @@ fn push_before(from: &Measured, text: &mut String) -> Result<(), AllocError>
 
 // The lines of the loop.
 fn push_body(from: &Measured, text: &mut String) -> Result<(), AllocError>
-    ensures { OnOk result (string_bytes text.new ≡ string_bytes text.old ++ loop_text from.now (needed_statements from.now (repetition_body (measured_controller from.now)))) }
+    ensures { OnOk result (string_bytes text.new ≡ string_bytes text.old ++ needed_loop_text from.now (repetition_body (controller_in from.now))) }
 {
     push_differences(from, text)?;
     push_entries(from, text)?;
@@ -149,7 +148,7 @@ fn push_loop(alloc: Global, text: &mut String, c: &ControllerParts) -> Result<()
 
 // The whole text.
 fn push_program(from: &Measured, text: &mut String, name: &str) -> Result<(), AllocError>
-    ensures { OnOk result (string_bytes text.new ≡ string_bytes text.old ++ program_text name.now (program_of (measured_controller from.now))) }
+    ensures { OnOk result (string_bytes text.new ≡ string_bytes text.old ++ program_text name.now (program_of (controller_in from.now))) }
 {
     push_opening(from.alloc, text, from.c, name)?;
     push_refusals(from, text)?;
