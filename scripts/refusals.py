@@ -766,6 +766,9 @@ references, C a controller or cells, R a report, F faces, W the range of disturb
 - `split D CUTS P C R`: D, CUTS, P; cell by cell the design's tests (18); C, R.
 - `solve C S`, `serve C S`: C, S; each state in the box, or in a cell (12); the lines.
 - `loop D C S T [V]`, T up to 1000000: D, C; both compared (14); S, V; with a record `turn` (10); then record by record and turn by turn the state in the box (12), and its line.
+- `settle D C CERTIFICATE [W]`: D, C; both compared (14); CERTIFICATE, W; `settle` (10); the first row that may move (23); from the start box (24), then from the box of rest (25), the first turn,
+  coordinate and end beyond what is asked; the lines.
+- `c C NAME SOURCE HEADER`: C; its width (22); SOURCE and then HEADER are written.
 - `list C L`: C; L is written. `play L S`: L, S; each state in the box (12); record by record the run (21) and its line.
 - `demo X`, X up to 4294967295: the design's tests; the report and the lines.
 
@@ -776,7 +779,7 @@ What a line's numbers say is the first of its kind:
 - 5, of a design: `not-toml` (also bytes that aren't UTF-8, a key given twice, an integer beyond 64 bits, a float too large); the first missing key, by its place in [FORMATS.md](FORMATS.md#design); 0, a key too much; then place by place
   shape and range, at 15 also that no row stands at 14 or 15, at 18 that a `hi` is below its `lo`.
 - 5, of records: record by record `fields`, then the first `number` that can't stand there; at last `count`. Of cuts the number of cuts comes first, then `fields`, then the cuts; `count` where the first n are right and there aren't n;
-  `range 0` is last.
+  `range 0` is last. Of a certificate `range` is the first record whose turns or box can't stand there.
 - 6: the first corner, and in it the first row, with its slack. In intervals it is the one that is shown.
 - 8: how many steps would be needed. 9: what the errors cost over 2^40 with 48 bits.
 - 11, 20: the first line with which, after those before it, no such text begins; in cells also a later cell's `size`, `bits` or version that can't stand with the first's. `unsafe` is told of texts in form alone.
