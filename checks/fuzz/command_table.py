@@ -1,7 +1,7 @@
-"""The commands of docs/commands.txt: how many words may follow each, and which of its words name files that it writes."""
+"""The commands of commands.txt: how many words may follow each, and which of its words name files that it writes."""
 import os
 
-TABLE = os.path.join(os.path.dirname(os.path.abspath(__file__)), "..", "..", "docs", "commands.txt")
+TABLE = os.path.join(os.path.dirname(os.path.abspath(__file__)), "..", "..", "commands.txt")
 
 with open(TABLE, encoding="utf-8") as lines:
     ARGUMENTS = {line.split()[0]: line.split()[1:] for line in lines if not line.startswith("#")}

@@ -1,4 +1,4 @@
-"""The program's commands, as docs/commands.txt has them: what is not proved counts their arguments, and tells what they write, by that page."""
+"""The program's commands, as commands.txt has them: what is not proved counts their arguments, and tells what they write, by that page."""
 import os
 import re
 
@@ -7,7 +7,7 @@ TOP = os.path.dirname(os.path.dirname(os.path.dirname(os.path.realpath(__file__)
 
 def table() -> dict[str, list[str]]:
     """The arguments of each command, with their marks."""
-    with open(os.path.join(TOP, "docs", "commands.txt"), encoding="utf-8") as file:
+    with open(os.path.join(TOP, "commands.txt"), encoding="utf-8") as file:
         lines = [line.split() for line in file if not line.startswith("#")]
     return {line[0]: line[1:] for line in lines}
 
