@@ -6,7 +6,7 @@ import unittest
 TOP = pathlib.Path(__file__).resolve().parents[2]
 # The most ways down from one crate, and from all together (`ways_down`).
 MOST_WAYS = 19_000
-ALL_WAYS = 132_000
+ALL_WAYS = 145_000
 # The most words of the first page, and of all pages that are read before something is designed or changed.
 README_WORDS = 700
 ALL_WORDS = 28_000
