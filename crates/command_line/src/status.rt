@@ -30,7 +30,7 @@ pub enum Status {
     ReadFault {
         file: u32,
     },
-    /// The file at this position was not written; 0 is the output.
+    /// The file at this position was not written whole; 0 is the output.
     WriteFault {
         file: u32,
     },
@@ -48,9 +48,8 @@ pub enum Status {
         file: u32,
         fault: BadController,
     },
-    /// That coordinate of the state of a record lies outside the controller's box, or that of the first cell where no cell's box holds it; it is the
-    /// first. `turn` is 0 where a record's state itself was tested, and
-    /// else the turn of a closed loop whose state it is.
+    /// That coordinate of the state of a record lies outside the box of the controller or of the listing, or that of the first cell where no cell's box holds
+    /// the state; it is the first. Of a closed loop it is the state at `turn`, where turn 1 has the record's own; else `turn` is 0.
     OutsideBox {
         entry: u32,
         turn: u32,

@@ -1,5 +1,5 @@
 -- What the first file makes of the answer, and what is written.
-use Rattle.std.proofs.Common.{◌≡◌, ◌≢◌, ◌⊎◌, inl, inr, ℕ, ◌≤◌, List, length, Option, Some, None, refl, sym, subst}
+use Rattle.std.proofs.Common.{◌≡◌, ◌≢◌, ◌⊎◌, inl, inr, ℕ, ◌≤◌, List, Option, Some, None, refl, sym, subst}
 use Rattle.std.specs.Prelude.{IfSome, IsSomeAnd}
 use Rattle.io_edge.specs.Faults.{Files, Rose, IsWritten, IsCutShort}
 use Rattle.qp_model.specs.machine.Controller.{Numbers}
@@ -12,7 +12,7 @@ use Rattle.command_line.specs.Answers.{Contents, ForContents, FileHolds, IsAnswe
 use Rattle.command_line.proofs.Composing.{told_at, told, three_contents, for_contents, some_contents, stop, go_on_whole}
 use Rattle.command_line.proofs.Doing.{IsRow, done_telling}
 use Rattle.command_line.specs.declared.status.Status.{Status}
-use Rattle.command_line.specs.declared.status.Status.TheVariants.{Done, Memory, ReadFault, WriteFault}
+use Rattle.command_line.specs.declared.status.Status.TheVariants.{Done, ReadFault, WriteFault}
 use Rattle.command_files.specs.Texts.{ControllerRight, ControllerWrong}
 use Rattle.command_files.specs.Reading.{IsControllerRead, EndsController}
 use Rattle.command_design_files.proofs.Stopping.{why_refused, not_done, no_write, its_fault, then_telling}

@@ -73,9 +73,9 @@ fn answer<S: Store, O: Sink>(
 /// prints the report and four plans of a made design. `list`, a controller file and a listing file: writes the listing of the controller's step.
 /// `play`, a listing file and a states file: prints a line for each state, what the listing's machine puts out from it. `stay`, the files of `generate`,
 /// a file of faces of the box, and one of a range of disturbances or none: does what `generate` does, where the faces show that the closed loop stays
-/// in the box. `lean`, a design file, a policy file, a file of reference plans, a controller file and a report file: does what `generate` does, with the
-/// fewest steps that the reference plans show to be enough; with a file of faces, and one of a range of disturbances or none, where these show that the
-/// closed loop stays in the box. `split`, a design file, a file of cuts, a file of policies, a file of cells and a report file: does what `generate` does
+/// in the box. `lean`, a design file, a policy file, a file of reference plans, a controller file and a report file: does what `generate` does, with as many
+/// steps as the policy's excess over the reference plans asks for; with a file of faces, and one of a range of disturbances or none, where these show that
+/// the closed loop stays in the box. `split`, a design file, a file of cuts, a file of policies, a file of cells and a report file: does what `generate` does
 /// for each cell of the design's box that the cuts make. `serve`, a file of cells and a states file: prints a line for each state, the averaged plan of
 /// the first cell's controller whose box holds it. `c`, a controller file, a name, a source file and a header file: writes the controller's program in C,
 /// whose functions have that name. `settle`, a design file, a controller file and a certificate file, and one of a range of disturbances or
@@ -137,6 +137,8 @@ pub fn run<S: Store, O: Sink>(alloc: Global, words: &Words, store: &mut S, out: 
     // Why: this answer is called for by what the files hold, and no other. Out of memory and a fault have no cause in them.
     ensures called { (c : Command) → AreOf c words.now → IsCaused result
         → ForContents words.now (S.held store.old) (λ contents. IsAnswer ((deeds_of c).calls contents) result) }
+    // No text is told to be wrong for want of memory. What the files call for never is such an answer, so this follows from `called` and `usage`, but only by the
+    // row of every command; it stands here so that who reads this contract needs none of them.
     ensures no_inner_memory { (file : ℕ) → (result ≢ Status.Text file no_room) × (result ≢ Status.Controller file no_space) }
 
     // It doesn't give up: where whatever the files may hold calls for an answer, and no count rises that the command can raise, the answer is that one,
