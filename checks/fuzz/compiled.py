@@ -1,6 +1,6 @@
 """An independent model of the program that `c` writes: the source and the header of a controller of at most 64 bits, in C99.
 
-All in exact whole numbers, by the definitions of crates/c_program/specs (`Of` and `Text`), and with no code of the program's. An expression is a pair of its text and of
+All in exact whole numbers, by the definitions of crates/c_program/specs (`Of`, `Needed` and `Text`), and with no code of the program's. An expression is a pair of its text and of
 whether it is a sum, which stands in parentheses where it is an operand of a product or the second of a sum.
 """
 import re
@@ -58,6 +58,10 @@ class Program:
         self.partners = [next((k for k in range(c.m) if self.are_opposite(k, i)), c.m) for i in range(c.m)]
         self.is_second = [k < i and self.partners[k] == i for i, k in enumerate(self.partners)]
         self.is_first = [i < k < c.m and self.partners[k] == i for i, k in enumerate(self.partners)]
+        # a row whose multiplier moves no plan entry, and a coordinate of the state that moves none of what is left, are left out
+        self.rows = [i for i in range(c.m) if self.tops[i] and any(row[i] for row in c.w_mat)]
+        of_rows = [c.e_mat[i] for i in self.rows]
+        self.coordinates = [k for k in range(c.n) if self.state_tops[k] and any(row[k] for row in c.p_mat + of_rows)]
 
     def are_opposite(self, k, i):
         c = self.c
@@ -87,13 +91,13 @@ class Program:
     def before(self):
         c = self.c
         of_state = lambda a, factors: self.with_products(a, factors, self.state_tops, [f"x{k}" for k in range(c.n)])
-        for k in range(c.n):
+        for k in self.coordinates:
             yield self.declared(self.kind(self.state_tops[k]), f"x{k}", times(constant(1 << (c.f - c.g)), value(f"state[{k}]")))
         for j in range(c.nu):
             yield self.declared("int64_t", f"a{j}", of_state(constant(c.t[j] << (c.f + c.s)), [a << c.s for a in c.p_mat[j]]))
-        for i in range(c.m):
+        for i in self.rows:
             yield self.declared("int64_t", f"r{i}", of_state(constant(-c.bound[i] << c.f), c.e_mat[i]))
-        for i in range(c.m):
+        for i in self.rows:
             yield self.declared(self.kind(self.tops[i]), f"l{i}", constant(0))
         for j in range(c.nu):
             yield self.declared(self.kind(self.sum_tops[j]), f"s{j}", constant(0))
@@ -108,7 +112,7 @@ class Program:
 
     def body(self):
         c = self.c
-        for i in range(c.m):
+        for i in self.rows:
             if self.is_first[i]:
                 yield self.declared(self.kind(self.tops[i]), f"d{i}", minus(value(f"l{i}"), value(f"l{self.partners[i]}")))
         names = [f"{'d' if self.is_first[i] else 'l'}{i}" for i in range(c.m)]
@@ -118,7 +122,7 @@ class Program:
             yield self.declared(self.kind(self.entry_tops[j]), f"u{j}", minus(constant(0), moved))
         for j in range(c.nu):
             yield self.assigned(self.kind(self.sum_tops[j]), f"s{j}", plus(value(f"s{j}"), value(f"u{j}")))
-        for i in range(c.m):
+        for i in self.rows:
             if self.is_first[i]:
                 yield self.declared("int64_t", f"g{i}", self.of_plan(constant(0), i))
             kind, top = self.kind(self.row_tops[i]), constant(self.tops[i])

@@ -110,6 +110,17 @@ class Programs(unittest.TestCase):
                 tried.append(c.w)
         self.assertGreater(len(tried), 3)
 
+    def test_what_is_left_out(self):
+        """Rows that move no plan entry, and coordinates that move nothing, leave no variable that isn't used."""
+        bare = sub(CONTROLLER, (b"P 512", b"P 0"), (b"W 256 -256 256", b"W 0 -256 0"), (b"b 1024 1024 256", b"b 0 -1024 256"))
+        still = sub(CONTROLLER, (b"hi 1", b"hi 0"), (b"P 512", b"P %d" % -(2**127)), (b"E 1024", b"E %d" % (2**127 - 1)))
+        for text, has_first_row in ((bare, False), (still, True)):
+            c = control.read_controller(text)
+            self.runs_as_the_machine(c, random.Random(1), 0)
+            source = compiled.texts_of("made", c)[0].decode()
+            self.assertNotIn(" x0 = ", source)
+            self.assertEqual(" r0 = " in source, has_first_row)
+
     def test_averages(self):
         """Of step counts that are no power of two, too."""
         pick = random.Random(3)
