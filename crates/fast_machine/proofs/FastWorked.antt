@@ -133,3 +133,33 @@ greatest_of_nine = refl
 greatest_of_one : greatest_fast_sum short ≡ 16384
 unfolding all_weights
 greatest_of_one = refl
+
+-- the entries' sums are the greatest of three steps: 2^20, so 22 bits hold them
+greatest_of_followed : greatest_fast_sum followed ≡ 1048576
+unfolding all_weights
+greatest_of_followed = refl
+
+-- ---- three steps over 1024, with multipliers up to 16
+abbrev finer : Numbers
+finer = record followed {
+  fraction_bits = 10;
+  width = 26;
+  clamp = pos 32768;
+  state_gains = record { cols = 1; rows = (pos 512 ∷ []) ∷ [] };
+  dual_gains = one_row (pos 256 ∷ negsuc 255 ∷ pos 256 ∷ []);
+  plan_rows = one_column (pos 1024) (negsuc 1023) (pos 1024);
+  state_rows = one_column (pos 0) (pos 0) (pos 1024);
+  bounds = pos 1024 ∷ pos 1024 ∷ pos 256 ∷ [];
+}
+
+finer_at_one : fast_plan finer (pos 1 ∷ []) ≡ negsuc 4959 ∷ []
+unfolding fast_after
+finer_at_one = refl
+
+finer_over : fast_denominator finer ≡ 9216
+unfolding all_weights
+finer_over = refl
+
+greatest_of_finer : greatest_fast_sum finer ≡ 26214400
+unfolding all_weights
+greatest_of_finer = refl
