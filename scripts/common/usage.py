@@ -1,6 +1,5 @@
 """The program's commands, as commands.txt has them: what is not proved counts their arguments, and tells what they write, by that page."""
 import os
-import re
 
 TOP = os.path.dirname(os.path.dirname(os.path.dirname(os.path.realpath(__file__))))
 
