@@ -128,10 +128,10 @@ class Pages(unittest.TestCase):
     def test_examples_of_the_first_page(self):
         """The table of the first page has the figures that the examples' pages print."""
         form = r"^\| \[\w+\]\((examples/\w+)/README\.md\) \| (\d)/(\d)/(\d+) \| ([\d.]+) (m?s) "
-        form += r"\| (\d+) \| ([\d,]+) \| ([\d.]+) \| ([\d.]+) (\S+) \| ([\d.]+) \|$"
+        form += r"\| (\d+) \| ([\d,]+) \| ([\d.]+) \| ([\d.]+) (\S+) \| ([\d.]+) \| ([\d,]+) \|$"
         rows = re.findall(form, text_of("README.md"), re.MULTILINE)
         self.assertEqual(len(rows), 7)
-        for example, states, inputs, stages, time, unit, iterations, cycles, flash, promised, measure, measured in rows:
+        for example, states, inputs, stages, time, unit, iterations, cycles, flash, promised, measure, measured, peer in rows:
             measure = measure.replace("²", "^2")
             page, design = text_of(f"{example}/README.md"), text_of(f"{example}/design.toml")
             seconds = float(time) / (1000 if unit == "ms" else 1)
@@ -142,6 +142,7 @@ class Pages(unittest.TestCase):
                 self.assertRegex(page, rf"about {cycles} cycles a run, .* of a stage of {seconds:g} s; about {int(float(flash) * 1000):,} bytes of flash")
                 self.assertIn(f"is exceeded by at most {promised} {measure}", page)
                 self.assertIn(f"that is {measured} {measure}", page)
+                self.assertRegex(text_of("docs/SPEED.md"), rf"\n\| {example.split('/')[1]} \|.* {peer}; \d+ \|\n")
 
     def test_links(self):
         """Each link names a file of the repository and, where it has one, a heading of it."""
