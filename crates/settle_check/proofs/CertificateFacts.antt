@@ -14,7 +14,7 @@ use Rattle.policy_file.proofs.MatrixFacts.{same_matrix}
 use Rattle.policy_file.proofs.UniqueFacts.{IsFunctional, same_number, same_numbers, held_or_wrong, same_first_fault, both_ways}
 use Rattle.settle_check.specs.Still.{Box, box_of, IsPartOf}
 use Rattle.settle_check.specs.Certificates.{IsCertificateFor}
-use Rattle.settle_check.specs.CertificateText.{BoxNumbers, CertificateNumbers, box_numbers, certificate_numbers, HoldsBox, IsTurnCount, box_at, IsBoxOfRow, AreBoxesInRange, IsFirstOutOfRange, IsCertificateText, IsCertificateFault}
+use Rattle.settle_check.specs.CertificateText.{BoxNumbers, CertificateNumbers, box_numbers, certificate_numbers, HoldsBox, IsTurnCount, box_at, HasState, IsStartRecord, IsBoxOfRow, AreBoxesInRange, IsFirstOutOfRange, IsCertificateText, IsCertificateFault}
 use Rattle.settle_check.specs.declared.certificate.StateBox.{StateBox}
 use Rattle.settle_check.specs.declared.certificate.CertificateParts.{CertificateParts}
 
@@ -72,6 +72,14 @@ part_of_row n outer m e low high l h part i lt =
     let p = part i lt in
     (rw (l, get_or-take n (row_of m e) i (pos 0) lt) at p.0, rw (h, get_or-drop n (row_of m e) i (pos 0)) at p.1)
 
+state_by_row : (n : ℕ) (m : Matrix) (e : ℕ) (low high : List ℤ) → low ≡ take n (row_of m e) → high ≡ drop n (row_of m e) → HasState n (box_at n m e) → HasState n (box_of low high)
+state_by_row n m e low high l h state i lt = rw (l, get_or-take n (row_of m e) i (pos 0) lt, h, get_or-drop n (row_of m e) i (pos 0)) (state i lt)
+
+state_of_row : (n : ℕ) (m : Matrix) (e : ℕ) (low high : List ℤ) → low ≡ take n (row_of m e) → high ≡ drop n (row_of m e) → HasState n (box_of low high) → HasState n (box_at n m e)
+state_of_row n m e low high l h state i lt =
+    let p = state i lt in
+    rw (l, get_or-take n (row_of m e) i (pos 0) lt, h, get_or-drop n (row_of m e) i (pos 0)) at p
+
 -- two that hold the same record
 natural_same : (t u : ℕ) → pos t ≡ pos u → t ≡ u
 natural_same t u is = (let same : t ≡ u = cc in same)
@@ -101,7 +109,8 @@ module _ (bytes : List ℕ) (n : ℕ) (outer : Box) where
         start = box_held bytes n 0 p.turns p.start (at heads 0) (row_of m 0) (h.each 0 (omega arith)) turns start;
         still = box_held bytes n 1 0 p.still (at heads 1) (row_of m 1) (h.each 1 (omega arith)) (sym range.still.0) still;
         rest = box_held bytes n 2 p.back p.rest (at heads 2) (row_of m 2) (h.each 2 (omega arith)) back rest;
-        turns = omega (arith, ints, turns, range.turns.high);
+        turns = omega (arith, ints, turns, range.start.0.high);
+        starts = state_by_row n m 0 p.start.low.items p.start.high.items start.low start.high range.start.1;
         inside = part_by_row n outer m 1 p.still.low.items p.still.high.items still.low still.high range.still.1;
         some = omega (arith, ints, back, range.back.low);
         back = omega (arith, ints, back, range.back.high);
@@ -123,10 +132,13 @@ module _ (bytes : List ℕ) (n : ℕ) (outer : Box) where
   headed_of f h (suc (suc zero)) lt = (pos f.back ∷ f.rest.low ++ f.rest.high, h.rest.numbers)
   headed_of f h (suc (suc (suc e))) lt = absurd (omega (arith, lt))
 
-  first_in : (f : CertificateNumbers) (h : Right f) (heads : List ℤ) (m : Matrix) → Headed heads m → IsTurnCount (pos 0) (at heads 0)
+  first_in : (f : CertificateNumbers) (h : Right f) (heads : List ℤ) (m : Matrix) → Headed heads m → IsStartRecord n heads m
   first_in f h heads m k =
-      let same = turns_same bytes n 0 f.turns f.start h.start (at heads 0) (row_of m 0) (k.each 0 (omega arith)) in
-      record { low = omega (arith, ints, same); high = omega (arith, ints, same, h.turns) }
+      let held = k.each 0 (omega arith) in
+      let same = turns_same bytes n 0 f.turns f.start h.start (at heads 0) (row_of m 0) held in (
+        record { low = omega (arith, ints, same); high = omega (arith, ints, same, h.turns) },
+        state_of_row n m 0 f.start.low f.start.high (sym (low_same bytes n 0 f.turns f.start h.start (at heads 0) (row_of m 0) held)) (sym (high_same bytes n 0 f.turns f.start h.start (at heads 0) (row_of m 0) held)) h.starts,
+      )
 
   second_in : (f : CertificateNumbers) (h : Right f) (heads : List ℤ) (m : Matrix) → Headed heads m → (at heads 1 ≡ pos 0) × IsPartOf n outer (box_at n m 1)
   second_in f h heads m k =

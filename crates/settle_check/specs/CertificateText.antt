@@ -1,5 +1,5 @@
 -- A certificate's text: a record for each of its boxes, of a number of turns, the least number of each coordinate and then the greatest.
-use Rattle.std.specs.Prelude.{◌≡◌, ◌⊎◌, ℕ, ◌+◌, ◌*◌, ◌≤◌, ℤ, pos, ◌≤ℤ◌, List, ◌∷◌, ◌++◌, length, take, drop}
+use Rattle.std.specs.Prelude.{◌≡◌, ◌⊎◌, ℕ, ◌+◌, ◌*◌, ◌≤◌, ◌<◌, ℤ, pos, ◌≤ℤ◌, List, ◌∷◌, ◌++◌, length, take, drop}
 use Rattle.integer_algebra.specs.Sums.{at}
 use Rattle.mat_int.specs.Matrix.{Matrix, entry_of}
 use Rattle.number_text.specs.declared.text_fault.TextFault.{TextFault}
@@ -55,7 +55,11 @@ pub record HoldsBox (bytes : List ℕ) (n e turns : ℕ) (b : BoxNumbers) : Type
   pub high : length b.high ≡ n
   pub numbers : HoldsNumbers state_rule (2 * n + 1) (record_at (records_of bytes) e) (pos turns ∷ b.low ++ b.high)
 
--- The bytes are the text of this certificate: the turns from the start box and that box; 0 and the box where no multiplier moves, which is part of an outer
+-- a box of n coordinates holds a state
+abbrev pub HasState : ℕ → Box → Type 0
+HasState n b = (i : ℕ) → i < n → b.low i ≤ℤ b.high i
+
+-- The bytes are the text of this certificate: the turns from the start box and that box, which holds a state; 0 and the box where no multiplier moves, which is part of an outer
 -- one; the turns from the box of rest, some, and that box.
 pub record IsCertificateText (bytes : List ℕ) (n : ℕ) (outer : Box) (f : CertificateNumbers) : Type 0 where
   pub records : length (records_of bytes) ≡ 3
@@ -63,6 +67,7 @@ pub record IsCertificateText (bytes : List ℕ) (n : ℕ) (outer : Box) (f : Cer
   pub still : HoldsBox bytes n 1 0 f.still
   pub rest : HoldsBox bytes n 2 f.back f.rest
   pub turns : f.turns ≤ most_settling_turns
+  pub starts : HasState n (box_in f.start)
   pub inside : IsPartOf n outer (box_in f.still)
   pub some : 1 ≤ f.back
   pub back : f.back ≤ most_settling_turns
@@ -82,18 +87,22 @@ pub record IsTurnCount (least z : ℤ) : Type 0 where
 abbrev pub box_at : (n : ℕ) → Matrix → ℕ → Box
 box_at n boxes e = record { low = λ i. entry_of boxes e i; high = λ i. entry_of boxes e (n + i) }
 
+-- the first record is of turns in their range and a box that holds a state
+abbrev pub IsStartRecord : (n : ℕ) → (heads : List ℤ) → (boxes : Matrix) → Type 0
+IsStartRecord n heads boxes = IsTurnCount (pos 0) (at heads 0) × HasState n (box_at n boxes 0)
+
 -- record by record the numbers are in their ranges
 pub record AreBoxesInRange (n : ℕ) (outer : Box) (heads : List ℤ) (boxes : Matrix) : Type 0 where
-  pub turns : IsTurnCount (pos 0) (at heads 0)
+  pub start : IsStartRecord n heads boxes
   pub still : (at heads 1 ≡ pos 0) × IsPartOf n outer (box_at n boxes 1)
   pub back : IsTurnCount (pos 1) (at heads 2)
 
 -- the first record, from 1, with one that isn't
 abbrev pub IsFirstOutOfRange : (n : ℕ) → (outer : Box) → (heads : List ℤ) → (boxes : Matrix) → (place : ℕ) → Type 0
 IsFirstOutOfRange n outer heads boxes place =
-    ((place ≡ 1) × ¬ IsTurnCount (pos 0) (at heads 0)) ⊎
-    (((place ≡ 2) × IsTurnCount (pos 0) (at heads 0) × ¬ ((at heads 1 ≡ pos 0) × IsPartOf n outer (box_at n boxes 1))) ⊎
-    ((place ≡ 3) × IsTurnCount (pos 0) (at heads 0) × ((at heads 1 ≡ pos 0) × IsPartOf n outer (box_at n boxes 1)) × ¬ IsTurnCount (pos 1) (at heads 2)))
+    ((place ≡ 1) × ¬ IsStartRecord n heads boxes) ⊎
+    (((place ≡ 2) × IsStartRecord n heads boxes × ¬ ((at heads 1 ≡ pos 0) × IsPartOf n outer (box_at n boxes 1))) ⊎
+    ((place ≡ 3) × IsStartRecord n heads boxes × ((at heads 1 ≡ pos 0) × IsPartOf n outer (box_at n boxes 1)) × ¬ IsTurnCount (pos 1) (at heads 2)))
 
 -- there are three records of so many numbers, of which that one has one out of its range
 pub record IsBoxRangeFault (bytes : List ℕ) (n : ℕ) (outer : Box) (fault : TextFault) : Type 0 where

@@ -6,7 +6,7 @@ ghost use Rattle.number_text.specs.declared.text_fault.TextFault.{TextFault};
 ghost use Rattle.number_text.specs.declared.text_fault.TextFault.TheVariants.{Memory};
 ghost use Rattle.settle_check.specs.Still.{box_of, IsPartOf};
 ghost use Rattle.settle_check.specs.Certificates.{IsCertificateFor};
-ghost use Rattle.settle_check.specs.CertificateText.{CertificateNumbers, certificate_numbers, box_at, IsBoxOfRow, IsTurnCount, AreBoxesInRange, IsFirstOutOfRange, IsCertificateText, IsCertificateFault};
+ghost use Rattle.settle_check.specs.CertificateText.{CertificateNumbers, certificate_numbers, box_at, HasState, IsStartRecord, IsBoxOfRow, IsTurnCount, AreBoxesInRange, IsFirstOutOfRange, IsCertificateText, IsCertificateFault};
 
 use crate::certificate::{CertificateParts, StateBox};
 use mat_int::Mat;
@@ -18,7 +18,7 @@ use std::alloc::{AllocError, Global};
 const MOST_SETTLING_TURNS: i128 = 4096;
 
 /// The certificate of a text of three records, each of a number of turns, the least number of each coordinate of a box and then the greatest, over `2^grid`:
-/// the turns from the start box, 0 .. 4096; 0 and the box where no multiplier moves, a part of that from `low` to `high`; the turns from the box of rest,
+/// the turns from the start box, 0 .. 4096, which holds a state; 0 and the box where no multiplier moves, a part of that from `low` to `high`; the turns from the box of rest,
 /// 1 .. 4096. The text has fewer than `2^32` bytes.
 ///
 /// # Errors
@@ -77,7 +77,7 @@ fn place_out_of_range(read: &Headed, low: &[i128], high: &[i128]) -> Option<u32>
     ensures some { IfSome result (IsFirstOutOfRange (length low.now) (box_of low.now high.now) read.now.heads.items read.now.rows) }
     ensures none { IfNone result (AreBoxesInRange (length low.now) (box_of low.now high.now) read.now.heads.items read.now.rows) }
 {
-    if !has_turns(read) {
+    if !is_start_record(read, low) {
         return Some(1);
     }
     if !is_still_record(read, low, high) {
@@ -89,12 +89,38 @@ fn place_out_of_range(read: &Headed, low: &[i128], high: &[i128]) -> Option<u32>
     None
 }
 
-// Whether the turns from the start box are in their range.
-fn has_turns(read: &Headed) -> bool
-    requires { length read.now.heads.items ≡ 3 }
-    ensures { IsTrue result ↔ IsTurnCount (pos 0) (at read.now.heads.items 0) }
+// Whether the first record is of turns in their range and a box that holds a state, of as many coordinates as a list.
+fn is_start_record(read: &Headed, low: &[i128]) -> bool
+    requires heads { length read.now.heads.items ≡ 3 }
+    requires rows { length read.now.rows.rows ≡ 3 }
+    requires cols { read.now.rows.cols ≡ 2 * length low.now }
+    ensures { IsTrue result ↔ IsStartRecord (length low.now) read.now.heads.items read.now.rows }
 {
-    is_turn_count(read, 0, 0)
+    is_turn_count(read, 0, 0) && has_state(low, &read.rows)
+}
+
+// Whether the box of the first row holds a state.
+fn has_state(low: &[i128], rows: &Mat) -> bool
+    requires rows { length rows.now.rows ≡ 3 }
+    requires cols { rows.now.cols ≡ 2 * length low.now }
+    ensures { IsTrue result ↔ HasState (length low.now) (box_at (length low.now) rows.now 0) }
+{
+    for i in 0..low.len() {
+        if !is_ordered(low, rows, i) {
+            return false;
+        }
+    }
+    true
+}
+
+// Whether coordinate `i` of it has a number.
+fn is_ordered(low: &[i128], rows: &Mat, i: usize) -> bool
+    requires rows { length rows.now.rows ≡ 3 }
+    requires cols { rows.now.cols ≡ 2 * length low.now }
+    requires coordinate { i < length low.now }
+    ensures { IsTrue result ↔ (entry_of rows.now 0 i ≤ℤ entry_of rows.now 0 (length low.now + i)) }
+{
+    rows.at(0, i) <= rows.at(0, low.len() + i)
 }
 
 // Whether those from the box of rest are.
