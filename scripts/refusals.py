@@ -43,6 +43,8 @@ TEXTS = {
     "count-faces": "{file} has {entries} records, and the box has {wanted} faces: for each coordinate the upper one, then the lower.",
     "count-cuts": "{file} has {entries} records, and the design has {wanted} states: one record for each, how many cuts it has and the cuts.",
     "count-policies": "{file} has {entries} records, and {wanted} are needed: a plan for each corner of each cell, the policy of a cell after that of the one before.",
+    "range-certificate": "Record {entry} of {file} can't stand there: it needs {wanted}.",
+    "count-certificate": "{file} has {entries} records, and needs 3.",
     "cells": "The cuts of {file} make {cells} cells, and at most 64 are served.",
     "count-disturbances": "{file} has {entries} records, and two are needed: the least disturbances, then the greatest.",
     "count-turns": "{file} has {entries} records, and {wanted} are needed: one for each turn.",
@@ -103,6 +105,12 @@ LEFT = {
 # the commands that write two files, with how many files they have; and the files that hold plans
 COUNTS = {"generate": "four", "stay": "files", "lean": "five", "split": "five"}
 PLANS = ("policy", "reference", "policies")
+# what the records of a certificate need
+BOXES = (
+    "turns from 0 to 4096, and a box whose least numbers aren't above its greatest",
+    "a 0, and a box that is part of the controller's",
+    "turns from 1 to 4096",
+)
 # what K is made of, and which policy makes it less
 STEPS = {
     "generate": ("K = 2^(s+2) R / target", "a larger margin or a smaller cost"),
@@ -350,6 +358,8 @@ def text_fault(call: Call, file: int, fault: str, numbers: list[int]) -> str:
         return TEXTS["further-key"].format(file=name, fault=further_key(path))
     if fault == "range" and kind == "cuts":
         return TEXTS["cells"].format(file=name, cells=cell_count(call))
+    if fault == "range" and kind == "certificate":
+        return TEXTS["range-certificate"].format(entry=numbers[0], file=name, wanted=BOXES[numbers[0] - 1])
     if fault in ("key", "shape", "range"):
         key, shape, ranged = PLACES[numbers[0] - 1]
         lacking = f" (or the whole table [{key.split('.')[0]}])" if "." in key else ""
@@ -363,6 +373,8 @@ def text_fault(call: Call, file: int, fault: str, numbers: list[int]) -> str:
         return TEXTS["count-disturbances"].format(file=name, entries=entry)
     if fault == "count" and kind == "faces":
         return TEXTS["count-faces"].format(file=name, entries=entry, wanted=2 * design.states if design else "2n")
+    if fault == "count" and kind == "certificate":
+        return TEXTS["count-certificate"].format(file=name, entries=entry)
     if fault == "count" and kind == "cuts":
         return TEXTS["count-cuts"].format(file=name, entries=entry, wanted=design.states if design else "n")
     if fault == "count" and kind == "policies":
@@ -380,6 +392,8 @@ def text_fault(call: Call, file: int, fault: str, numbers: list[int]) -> str:
             if kind == "faces"
             else "how many cuts its coordinate has, and then so many cuts"
             if kind == "cuts"
+            else "a number of turns, and the least and then the greatest number of each state"
+            if kind == "certificate"
             else (
                 f"{1 + design.entries} numbers, a denominator and {design.stages} times {design.inputs} inputs"
                 if design
@@ -726,11 +740,11 @@ STATUSES = [
     (5, "text FILE not-toml", ["not-toml"]),
     (5, "text FILE key PLACE", ["key", "further-key"]),
     (5, "text FILE shape PLACE", ["shape"]),
-    (5, "text FILE range PLACE", ["range"]),
+    (5, "text FILE range PLACE", ["range", "range-certificate"]),
     (5, "text FILE fields ENTRY", ["fields"]),
     (5, "text FILE number ENTRY FIELD", ["number"]),
     (5, "text FILE range 0", ["cells"]),
-    (5, "text FILE count ENTRIES", ["count", "count-faces", "count-disturbances", "count-turns", "count-cuts", "count-policies"]),
+    (5, "text FILE count ENTRIES", ["count", "count-faces", "count-disturbances", "count-turns", "count-cuts", "count-policies", "count-certificate"]),
     (6, "no-margin CORNER ROW NUMERATOR DENOMINATOR", ["no-margin"]),
     (7, "curvature", ["curvature"]),
     (8, "too-many-steps K", ["too-many-steps"]),

@@ -65,7 +65,7 @@ def read_certificate(data, outer):
         raise Refused(5, "count", len(rows))
     start, still, rest = (Box(row[1 : n + 1], row[n + 1 :]) for row in rows)
     turns, none, back = column(rows, 0)
-    right = [0 <= turns <= MOST_TURNS, none == 0 and outer.holds(still), 1 <= back <= MOST_TURNS]
+    right = [0 <= turns <= MOST_TURNS and all(low <= high for low, high in zip(start.low, start.high)), none == 0 and outer.holds(still), 1 <= back <= MOST_TURNS]
     if not all(right):
         raise Refused(5, "range", right.index(False) + 1)
     return Certificate(turns, back, start, still, rest)

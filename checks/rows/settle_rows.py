@@ -72,6 +72,8 @@ def rows_of_one():
     yield "settle: the start's upper end before its lower", left("24 unsettled 0 1 40", "5,-40,40\n0,-31,32\n1,-2,2\n")
     yield "settle: rest beyond the box where none moves", left("25 no-return 0 1 -40", "3,-31,32\n0,-31,32\n1,-40,5\n")
     yield "settle: more than the most turns", left("5 text 3 range 1", "4097,-31,32\n0,-31,32\n1,-2,2\n")
+    yield "settle: a start box without a state", left("5 text 3 range 1", "5,32,31\n0,-31,32\n1,-2,2\n")
+    yield "settle: a start box of one state", settled("turn 5\nstate 1 -2 2\n", "5,31,31\n0,-31,32\n1,-2,2\n")
     yield "settle: the most turns", settled("turn 4096\nstate 1 -2 2\n", "4096,-31,32\n0,-31,32\n4096,-2,2\n")
     yield "settle: a box that holds from a later turn on", left("5 text 3 range 2", "5,-31,32\n1,-31,32\n1,-2,2\n")
     yield "settle: a box beyond the controller's", left("5 text 3 range 2", "5,-31,32\n0,-31,41\n1,-2,2\n")

@@ -353,6 +353,8 @@ class Explained(unittest.TestCase):
     def test_settling(self):
         words = ["settle", "d", "c", "z"]
         self.assertIn("that of row 2 of the controller may: 7 isn't below 5", refusals.explanation(23, "error 23 moves 2 7 5", words))
+        self.assertIn("Record 3 of the certificate file z can't stand there: it needs turns from 1 to 4096", refusals.explanation(5, "error 5 text 3 range 3", words))
+        self.assertIn("certificate file z has 2 records, and needs 3", refusals.explanation(5, "error 5 text 3 count 2", words))
         self.assertIn("After turn 3 a loop from the start box of the certificate file z may be as far as at -9 over 2^grid in x1", refusals.explanation(24, "error 24 unsettled 3 1 -9", words))
         self.assertIn("the box of rest itself", refusals.explanation(25, "error 25 no-return 3 1 -9", words))
 
