@@ -4,13 +4,14 @@ ghost use Rattle.design_engine.specs.Order.{CausesLaw, PassingLaw};
 ghost use Rattle.design_engine.specs.Promise.{CertifiedLaw, TargetsLaw};
 ghost use Rattle.design_engine.specs.Threshold.{CoverLaw, MadeAboveLaw, RepairsLaw, ThresholdCertifiedLaw, ThresholdTargetsLaw};
 
-/// A controller that is made for a design, with the margin of a policy, keeps the whole promise of the bounds that are printed of
-/// it, at every state of the box.
+/// A controller whose numbers are derived from a form of a design with the margin of a policy, and whose errors at each grid state and step
+/// are at most those that its bounds count, keeps the whole promise of these bounds, at every state of the box.
 pub fn certified_law()
     ensures { CertifiedLaw }
 {}
 
-/// With the steps and the errors that the targets ask for, the printed violation and gap are at most the targets.
+/// Where the steps are those that half of the violation's target asks for, and the errors cost at most the other half and the gap's target,
+/// the printed violation and gap are at most the targets. This is the rule of `generate`; that of `lean` has `threshold_law`.
 pub fn targets_law()
     ensures { TargetsLaw }
 {}

@@ -79,21 +79,21 @@ pub fn lean_multiplier(units: i128, excess: i128, share: i128) -> Result<i128, W
     Ok(bound as i128)
 }
 
-/// K, the steps of a run: `2^(s+41) r / half_target`, rounded up, for the step exponent `s`, the multiplier bound `r` and half the target
-/// of the violation over `2^40`.
+/// K, the steps of a run: `2^(s+41) r / step_target`, rounded up, for the step exponent `s`, the multiplier bound `r` and the steps' share of
+/// the violation's target over `2^40`.
 ///
 /// # Errors
 /// K is above 4194304.
-pub fn steps(s: u32, r: i128, half_target: i128) -> Result<u32, TooManySteps>
+pub fn steps(s: u32, r: i128, step_target: i128) -> Result<u32, TooManySteps>
     requires exponent { s ≤ 40 }
     requires some { pos 1 ≤ℤ r }
     requires narrow { r ≤ℤ pos (2 ^ 44) }
-    requires target { pos 1 ≤ℤ half_target }
-    ensures value { OkIff result (step_count s (unsigned_abs r) (unsigned_abs half_target) ≤ 2 ^ 22)
-        (step_count s (unsigned_abs r) (unsigned_abs half_target)) }
-    ensures told { IfErr result (λ e. e.k ≡ pos (step_count s (unsigned_abs r) (unsigned_abs half_target))) }
+    requires target { pos 1 ≤ℤ step_target }
+    ensures value { OkIff result (step_count s (unsigned_abs r) (unsigned_abs step_target) ≤ 2 ^ 22)
+        (step_count s (unsigned_abs r) (unsigned_abs step_target)) }
+    ensures told { IfErr result (λ e. e.k ≡ pos (step_count s (unsigned_abs r) (unsigned_abs step_target))) }
 {
-    let target = half_target.unsigned_abs();
+    let target = step_target.unsigned_abs();
     let count = whole(s + 41, r).div_ceil(target);
     if count > 1 << 22 {
         return Err(TooManySteps { k: count as i128 });

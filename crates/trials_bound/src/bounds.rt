@@ -40,14 +40,14 @@ static STEPS: [(u32, i128, i128, Result<u32, TooManySteps>); 8] = [
     (1, 159, 34359738368, Ok(20352)),
 ];
 
-fn is_count(s: u32, r: i128, half_target: i128, count: Result<u32, TooManySteps>) -> bool {
-    s <= 40 && r >= 1 && r <= 1 << 44 && half_target >= 1 && steps(s, r, half_target) == count
+fn is_count(s: u32, r: i128, step_target: i128, count: Result<u32, TooManySteps>) -> bool {
+    s <= 40 && r >= 1 && r <= 1 << 44 && step_target >= 1 && steps(s, r, step_target) == count
 }
 
 #[test]
 fn run_steps(rt: HostRuntime) {
-    for &(s, r, half_target, count) in &STEPS {
-        assert!(rt; is_count(s, r, half_target, count));
+    for &(s, r, step_target, count) in &STEPS {
+        assert!(rt; is_count(s, r, step_target, count));
     }
 }
 

@@ -18,9 +18,9 @@ multiplier_of m = multiplier_bound (unsigned_abs m.units) (unsigned_abs m.cost)
 abbrev pub multiplier_size_of : Margin → ℕ
 multiplier_size_of m = multiplier_size (unsigned_abs m.units) (unsigned_abs m.cost)
 
--- K: the steps of a run after which 2^(s+1) R / K is at most the half of the violation's target, in units of 2^-40
-abbrev pub step_count : (s r half_target : ℕ) → ℕ
-step_count s r half_target = ceil_div (2 ^ (s + 41) * r) half_target
+-- K: the steps of a run after which 2^(s+1) R / K is at most the steps' share of the violation's target, in units of 2^-40
+abbrev pub step_count : (s r step_target : ℕ) → ℕ
+step_count s r step_target = ceil_div (2 ^ (s + 41) * r) step_target
 
 -- by how much a plan exceeds a row with the step exponent e at most, in units of 2^-40, where s is the greatest exponent
 abbrev pub row_violation_bound : (e s r k eps : ℕ) → ℕ
