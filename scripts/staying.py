@@ -1,7 +1,6 @@
-#!/usr/bin/env python3
 """Proposes coordinates, limits on the next state and a box for which faces show that no loop ever leaves the box.
 
-    scripts/staying.py MODEL [NEW_MODEL] [--generate] [--steps N] [--clock MHZ] [--seconds S]
+    ./mpc staying MODEL [NEW_MODEL] [--generate] [--steps N] [--clock MHZ] [--seconds S]
 
 Each state whose faces don't hold by the model's own limits gets limits on the next state, by `stay` in the model's `[box]`: the next state is kept so much inside the box, and may exceed
 that by as much. From each corner some inputs must then lead back inside. Which box has such inputs at all its corners, and is the largest, a linear program says, of each choice of
@@ -12,7 +11,7 @@ A controller is one of `lean`, or with --generate of `stay`, of at most N steps 
 
 What was tried goes to standard error, and every few seconds how far the search is: it ends after S seconds (60), or by an interrupt. The model with what was found goes to NEW_MODEL, or
 is printed. Where `disturbed` stands in `[box]`, faces hold under it. Where nothing was found, NEW_MODEL gets the best that was seen, the status is 12, and it is said which corner,
-limit, coordinate or disturbance is in the way. Nothing rests on it: scripts/faces.py finds the faces of the design that is drafted of it.
+limit, coordinate or disturbance is in the way. Nothing rests on it: ./mpc faces finds the faces of the design that is drafted of it.
 """
 import contextlib
 import io
@@ -20,28 +19,28 @@ import math
 import sys
 from dataclasses import dataclass, field, replace
 
-from common.libraries import Refusal, need, run, say
+from .common.libraries import Refusal, need, run, say
 
 need("numpy", "scipy", "cvxopt", "jsonschema")
 import numpy
 import scipy.linalg
 
-import faces
-from common import files
-from common.arguments import Parser, positive, several
-from common.budget import Budget
-from common.c_costs import about_step
-from common.design_text import Design, plain
-from common.kept_boxes import Plant, covered, largest, short_of
-from common.lean_plans import LeanPlans
-from common.model_text import model_text
-from common.models import Model, grid_disturbances, neat, read_model
-from common.programs import Programs
-from common.turns import candidates
-from coordinates import COUPLED, TIMES, Choice, changed, four, told
-from draft import corner_plans, drafted, in_floats, too_wide
-from policy import find as find_policy
-from policy import find_lean, plans_with
+from . import faces
+from .common import files
+from .common.arguments import Parser, positive, several
+from .common.budget import Budget
+from .common.c_costs import about_step
+from .common.design_text import Design, plain
+from .common.kept_boxes import Plant, covered, largest, short_of
+from .common.lean_plans import LeanPlans
+from .common.model_text import model_text
+from .common.models import Model, grid_disturbances, neat, read_model
+from .common.programs import Programs
+from .common.turns import candidates
+from .coordinates import COUPLED, TIMES, Choice, changed, four, told
+from .draft import corner_plans, drafted, in_floats, too_wide
+from .policy import find as find_policy
+from .policy import find_lean, plans_with
 
 # the slack that a corner's inputs leave in each limit, in tolerances
 SLACK = 0.125
@@ -450,7 +449,7 @@ def main() -> int:
     found, holds = search(model, given.steps, given.seconds, given.generate, given.clock)
     if not holds:
         say("no coordinates, no limits and no box were found for which faces hold, and the best that was seen is kept: stronger inputs, a smaller box or a smaller `disturbed` (docs/BOXES.md)")
-    text = files.read_bytes(given.model).decode() if found is model.text else model_text(found, "a model whose loops never leave the box, by scripts/staying.py")
+    text = files.read_bytes(given.model).decode() if found is model.text else model_text(found, "a model whose loops never leave the box, by ./mpc staying")
     if given.new:
         files.write(given.new, text)
     else:

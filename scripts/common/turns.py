@@ -2,14 +2,14 @@
 import itertools
 from collections.abc import Iterator
 
-from common.libraries import need
+from .libraries import need
 
 need("numpy", "scipy")
 import numpy
 import scipy.optimize
 
-from common.design_text import Design
-from common.models import neat
+from .design_text import Design
+from .models import neat
 
 # the weights of inputs beside the design's own, and how often a gain is improved
 WEIGHTS = [10 ** (k / 2) for k in range(-6, 9)]
