@@ -1,5 +1,5 @@
 -- What the tests of a certificate answer, of the boxes in which loops lie.
-use Rattle.std.proofs.Common.{◌≡◌, inl, inr, ◌⊎◌, ℕ, zero, suc, ◌-◌, ◌<◌, ◌≤◌, ℤ, Bool, true, false, length, Result, Ok, Err, refl, subst, arith, ap, sym, ◌∙◌, if◌then◌else◌, nat_lt}
+use Rattle.std.proofs.Common.{◌≡◌, inl, inr, ◌⊎◌, ℕ, zero, suc, ◌-◌, ◌<◌, ◌≤◌, ℤ, Bool, true, false, length, Result, Ok, Err, refl, subst, arith, sym, ◌∙◌, if◌then◌else◌, nat_lt}
 use Rattle.std.proofs.lemmas.Bool.{cases_lt, lt-ltb, le-ltb}
 use Rattle.mat_int.specs.Matrix.{entry_of}
 use Rattle.qp_model.specs.problem.Design.{Design}
@@ -105,9 +105,6 @@ pub states_are : (l : ClosedLoop) (p : CertificateParts) → l.low.now ≡ p.sti
 states_are l p e f = rw (e, f) refl
 
 module _ (l : ClosedLoop) (s : Certificate) (e : states_box l ≡ s.still) where
-  -- where loops lie, by the certificate
-  tube_is : (from : Box) (k : ℕ) → tube_of l from k ≡ tube (plant l) (machine l) s.still (shifts_box l) from k
-  tube_is from k = ap (λ (z : Box). tube (plant l) (machine l) z (shifts_box l) from k) e
 
   room_is : (from : Box) (turns : ℕ) → TubeHasRoom l from turns → EndsHaveRoom (plant l) (machine l) s.still (shifts_box l) from turns
   room_is from turns = subst (λ (z : Box). EndsHaveRoom (plant l) (machine l) z (shifts_box l) from turns) e
