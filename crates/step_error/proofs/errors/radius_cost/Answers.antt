@@ -4,7 +4,7 @@ use Rattle.integer_algebra.proofs.PowerLaws.{pow-two}
 use Rattle.qp_model.specs.bounds.Errors.{radius_error, row_radii}
 use Rattle.step_error.specs.ErrorSums.{sums_of, radius_cost}
 use Rattle.step_error.proofs.Ceilings.{quotient_is, ceil_small}
-use Rattle.step_error.proofs.SumFacts.{bounded, radii_at, within_of}
+use Rattle.step_error.proofs.SumFacts.{bounded, radii_at}
 use Rattle.step_error.proofs.errors.radius_cost.Goals as goal
 
 squared : {a b : ℕ} → a ≡ b → a * a ≡ b ^ 2
