@@ -4,7 +4,7 @@ use Rattle.integer_algebra.specs.Division.{ceil_div}
 use Rattle.integer_algebra.proofs.PowerLaws.{pow-two}
 use Rattle.step_error.proofs.Ceilings.{quotient_is, ceil_small}
 use Rattle.step_error.proofs.SumFacts.{kept}
-use Rattle.step_error.proofs.sums.Whole.radius_squares.Goals as goal
+use Rattle.step_error.proofs.sums.ErrorSums.radius_squares.Goals as goal
 
 pub div_ceil-requires : goal.div_ceil-requires
 div_ceil-requires c = c.requires.room.radii.cost_some
