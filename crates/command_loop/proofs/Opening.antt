@@ -25,7 +25,8 @@ use Rattle.command_design_files.proofs.Designs.{same_design}
 use Rattle.command_loop.specs.Loop.{IsMismatch, LoopsCall, ReadsLoopShifts, LoopCalls, LoopReaches, HoldsLoopShifts, course_of}
 use Rattle.command_loop.specs.Files.{EndsMatching, AreShiftsTaken, EndsTakingShifts, EndsStarts, IsLoopRefused, EndsLoops}
 use Rattle.command_loop.specs.Printing.{AreRowsFor, AreShiftsFor}
-use Rattle.command_design_files.proofs.Stopping.{IsRefusal, design_refused}
+use Rattle.command_line.proofs.Doing.{IsRefusal}
+use Rattle.command_design_files.proofs.Stopping.{design_refused}
 use Rattle.command_files.proofs.Stopping.{controller_refused, states_refused, shifts_refused}
 use Rattle.command_loop.proofs.Refusals.{mismatch_refusal}
 use Rattle.command_loop.proofs.Uniqueness.{one_mismatch, not_matched}

@@ -26,7 +26,8 @@ use Rattle.command_loop.specs.DesignFiles.Reading.{IsDesignRead, EndsDesign}
 use Rattle.command_loop.specs.CommandFiles.Texts.{ControllerRight, ControllerWrong, RangeRight, RangeWrong}
 use Rattle.command_loop.specs.CommandFiles.Reading.{ReadsController, IsControllerRead}
 use Rattle.command_loop.proofs.DesignFiles.Designs.{same_design}
-use Rattle.command_loop.proofs.DesignFiles.Stopping.{IsRefusal, text_refused, design_refused}
+use Rattle.command_line.proofs.Doing.{IsRefusal}
+use Rattle.command_loop.proofs.DesignFiles.Stopping.{text_refused, design_refused}
 use Rattle.command_settle.specs.CertificateFile.{CertificateRight, CertificateWrong, ReadsCertificate, IsCertificateRead, EndsCertificate}
 use Rattle.command_settle.specs.Disturbances.{ReadsDisturbances, HoldsDisturbances, AreDisturbancesTaken, EndsDisturbances}
 use Rattle.command_settle.specs.Settle.{CertificateCalls, SettleCalls, HoldsCertificate}
