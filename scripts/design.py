@@ -1,7 +1,7 @@
 #!/usr/bin/env python3
 """From a model to a controller that is judged: each step shown as the command that it runs, so that you can go on by hand where you like.
 
-    ./mpc design MODEL FOLDER [--as-it-is | --stay] [--generate] [--gap PART] [--turns N] [--seconds S] [--corners N] [--random N] [--states N] [--seed N]
+    ./mpc design MODEL FOLDER [--as-it-is | --stay] [--same-cost] [--generate] [--gap PART] [--turns N] [--seconds S] [--corners N] [--random N] [--states N] [--seed N]
 
 In FOLDER, which is made where it isn't there, stand then
 
@@ -27,6 +27,7 @@ and where the model's `[box]` has `disturbed`, range.csv is the range of it unde
     --generate    makes the controller that keeps far from its limits, by `generate` or `stay`: of more steps, mostly far more, and with real violations far below the printed ones
     --as-it-is    takes the model's own coordinates and box, whatever its loops do
     --stay        searches limits on the next state, coordinates and a box for which faces hold
+    --same-cost   keeps the model's cost and stages where no loop is to leave the box and a run would take longer than a stage, in place of trying others
     --gap PART    the gap target, as a part of the greatest cost (0.1)
     --turns N     so many turns a loop (50)
     --seconds S   how long coordinates and a box are searched at most (60); Ctrl-C ends the search before, and what is best so far is taken
@@ -125,7 +126,8 @@ def fitted(steps: Steps, model: str, given: Namespace, stays: bool) -> str:
         return model
     seconds, path = ["--seconds", str(given.seconds)], steps.path("fitted.toml")
     if stays:
-        steps.must("scripts/staying.py", model, path, *(["--generate"] if given.generate else []), *seconds)
+        options = [option for option, asked in (("--generate", given.generate), ("--same-cost", given.same_cost)) if asked]
+        steps.must("scripts/staying.py", model, path, *options, *seconds)
         return path
     step = steps.run("scripts/coordinates.py", model, path, "--turns", str(given.turns), *seconds)
     if step.status not in (0, LEFT_THE_BOX):
@@ -247,6 +249,7 @@ def main() -> int:
     either = parser.add_mutually_exclusive_group()
     either.add_argument("--as-it-is", action="store_true")
     either.add_argument("--stay", action="store_true")
+    parser.add_argument("--same-cost", action="store_true")
     parser.add_argument("--generate", action="store_true")
     parser.add_argument("--gap", type=positive, default=0.1, metavar="PART")
     parser.add_argument("--turns", type=turns, default=50, metavar="N")
