@@ -1,4 +1,3 @@
-#!/usr/bin/env python3
 """Writes a controller as C99, NAME.h and NAME.c: no heap, no float, nothing but <stdint.h>, tables in flash and one struct of what changes.
 
     ./mpc c CONTROLLER [REPORT] [DESIGN] --name NAME --out FOLDER
@@ -16,15 +15,15 @@ import tempfile
 from collections.abc import Callable, Iterable, Iterator, Mapping
 from typing import Any
 
-from common import files
-from common.arguments import Parser
-from common.c_text import CText
-from common.c_words import Form
-from common.design_text import Design, design_of
-from explain import KINDS, refuse_others, report_words
-from common.libraries import Refusal, run
-from common.strict_texts import safe_controller, strict_report
-from common.texts import Controller, kind_of, report_of
+from .common import files
+from .common.arguments import Parser
+from .common.c_text import CText
+from .common.c_words import Form
+from .common.design_text import Design, design_of
+from .common.libraries import Refusal, run
+from .common.strict_texts import safe_controller, strict_report
+from .common.texts import Controller, kind_of, report_of
+from .explain import KINDS, refuse_others, report_words
 
 MARK = "by `./mpc c`"
 # headers of C that the compiler would find instead, or in the place of which it would find ours

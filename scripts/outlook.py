@@ -1,23 +1,22 @@
-#!/usr/bin/env python3
 """Says within seconds what can be said of a model before anything is searched: its units, the poles and the growth of a stage, whether each corner of the box has a plan, and sizes.
 
-    scripts/outlook.py MODEL
+    ./mpc outlook MODEL
 
 A pole by which a stage or the horizon multiplies so much that no plan could follow is refused, with the pole; what is odd is a warning. Where no plan keeps every limit from a
-corner, the corner is named, with the limits that meet there: scripts/coordinates.py and scripts/staying.py look for other coordinates and for a smaller box.
+corner, the corner is named, with the limits that meet there: ./mpc coordinates and ./mpc staying look for other coordinates and for a smaller box.
 """
 import math
 
-from common.libraries import need, run
+from .common.libraries import need, run
 
 need("numpy", "scipy", "cvxopt", "jsonschema")
 import numpy
 
-from common.arguments import Parser
-from common.design_text import Design, plain
-from common.models import Model, poles_of, read_model
-from common.programs import Programs
-from draft import choices, corner_plans, in_floats, too_wide, whole
+from .common.arguments import Parser
+from .common.design_text import Design, plain
+from .common.models import Model, poles_of, read_model
+from .common.programs import Programs
+from .draft import choices, corner_plans, in_floats, too_wide, whole
 
 # what is left of a state after a stage where a period is odd; and where others add up
 LEFT, NOTHING = 0.02, 1e-6
@@ -52,7 +51,7 @@ def corner_words(design: Design) -> list[str]:
 
 
 def size_words(model: Model, exact: Design) -> list[str]:
-    """Which sizes the program would refuse with the first choice of denominators; a coarser one is searched by scripts/draft.py."""
+    """Which sizes the program would refuse with the first choice of denominators; a coarser one is searched by ./mpc draft."""
     first = choices(model)[0]
     design = whole(model, exact, *first, False, 0)
     wide = too_wide(design, corner_plans(design))

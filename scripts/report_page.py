@@ -1,7 +1,6 @@
-#!/usr/bin/env python3
 """Makes one page of what `./mpc design` wrote: for a review, with all that it shows in itself.
 
-    scripts/report_page.py FOLDER [PAGE]
+    ./mpc report_page FOLDER [PAGE]
 
 Warnings come first: what makes the controller of no use, or its promises of less. Then K and what a run takes, each limit with what is promised of it, what was measured, the box and
 what it bears, the loops beside exact model predictive control, where they settle, and where K comes from. It reads design.toml, controller.txt, report.txt, judged.txt, explained.txt,
@@ -16,12 +15,12 @@ from collections.abc import Iterable
 from dataclasses import dataclass
 from fractions import Fraction
 
-from common import files
-from common.arguments import Parser
-from common.design_text import Design, plain, read_design
-from common.libraries import Refusal, run
-from common.promises import certificate_of, promise_of, promise_words
-from common.texts import loop_lines_of, read_text, records_of, report_of
+from .common import files
+from .common.arguments import Parser
+from .common.design_text import Design, plain, read_design
+from .common.libraries import Refusal, run
+from .common.promises import certificate_of, promise_of, promise_words
+from .common.texts import loop_lines_of, read_text, records_of, report_of
 
 TEMPLATE = os.path.join(os.path.dirname(os.path.realpath(__file__)), "common", "page.html")
 SETTLES = "settle.csv", "settled.txt"

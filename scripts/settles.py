@@ -1,7 +1,6 @@
-#!/usr/bin/env python3
 """Proposes a certificate that closed loops settle: from which part of the box they all lie in a small box from a turn on, under every disturbance of a range.
 
-    scripts/settles.py DESIGN CONTROLLER [CERTIFICATE] [--within PART] [--disturbances FILE] [--turns N] [--promise FILE]
+    ./mpc settles DESIGN CONTROLLER [CERTIFICATE] [--within PART] [--disturbances FILE] [--turns N] [--promise FILE]
 
 In a box in which no multiplier of the controller moves, the still box, the closed loop is a matrix, but for floors and rounding; so whole numbers show where its loops lie turn by turn. The box
 of rest is PART of the controller's box, and the start box another part of it, both about the state at which the loop rests: the largest from which loops come to the box of rest, and on their
@@ -24,14 +23,14 @@ import sys
 from dataclasses import dataclass
 from fractions import Fraction
 
-from common import files, matching
-from common.arguments import Parser, whole
-from common.design_text import Design, read_design
-from common.disturbances import box_in
-from common.libraries import Refusal, run, say
-from common.promises import Promise, certificate_text, ends_of, percent, promise_text, time_of
-from common.texts import Controller, controller_of, kind_of, read_text
-from common.tubes import Box, Certificate, Loop, Stillness, Tubes, first_fault, hull, settled_box
+from .common import files, matching
+from .common.arguments import Parser, whole
+from .common.design_text import Design, read_design
+from .common.disturbances import box_in
+from .common.libraries import Refusal, run, say
+from .common.promises import Promise, certificate_text, ends_of, percent, promise_text, time_of
+from .common.texts import Controller, controller_of, kind_of, read_text
+from .common.tubes import Box, Certificate, Loop, Stillness, Tubes, first_fault, hull, settled_box
 
 # parts of the box that are tried for the box of rest, and how finely other parts are found
 RESTS = tuple(Fraction(part, 100) for part in (5, 10, 15, 20, 30, 40, 50))

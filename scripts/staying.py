@@ -1,4 +1,3 @@
-#!/usr/bin/env python3
 """Proposes coordinates, limits on the next state and a box for which faces show that no loop ever leaves the box.
 
     scripts/staying.py MODEL [NEW_MODEL] [--generate] [--steps N] [--clock MHZ] [--seconds S] [--same-cost]
@@ -13,7 +12,7 @@ limits: inputs that weigh more, and costs of the box's coordinates; and then hal
 
 What was tried goes to standard error, and every few seconds how far the search is: it ends after S seconds (60), or by an interrupt. The model with what was found goes to NEW_MODEL, or
 is printed. Where `disturbed` stands in `[box]`, faces hold under it. Where nothing was found, NEW_MODEL gets the best that was seen, the status is 12, and it is said which corner,
-limit, coordinate or disturbance is in the way. Nothing rests on it: scripts/faces.py finds the faces of the design that is drafted of it.
+limit, coordinate or disturbance is in the way. Nothing rests on it: ./mpc faces finds the faces of the design that is drafted of it.
 """
 import contextlib
 import io
@@ -21,7 +20,7 @@ import math
 import sys
 from dataclasses import dataclass, field, replace
 
-from common.libraries import Refusal, need, run, say
+from .common.libraries import Refusal, need, run, say
 
 need("numpy", "scipy", "cvxopt", "jsonschema")
 import numpy

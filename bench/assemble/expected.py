@@ -5,7 +5,7 @@ The plant is x+ = (a x + b u) / D. A cost row (c, t, w) costs w (c x - t)^2 at s
 A limit row of stage 0 is (p x + q u) / L <= v / L, one of stage 1 is p x / L <= v / L. Gains solve H over D^2 exactly, up to half.
 """
 from fractions import Fraction as Q
-from math import floor, ceil
+from math import ceil, floor
 
 D, A, B = 2, 3, 1
 COSTS = [(1, 1, 5), (2, -1, 2)]

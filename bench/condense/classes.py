@@ -1,7 +1,6 @@
-#!/usr/bin/env python3
 """Which class some designs are condensed in, by their quantities alone, and the first number of the hessian. The plant is x+ = x + u, written over a
 denominator, so each response is whole and no radius of the enclosures is above 0. Prints what the tests of trials_condense compare with."""
-from expected import BASE, LIMIT, condensed
+from .expected import BASE, LIMIT, condensed
 
 
 def design(stages, den, limit_den):

@@ -1,16 +1,16 @@
-#!/usr/bin/env python3
 """What run.sh times, and what it compares the exponents with.
 
-    make.py FOLDER              writes the crate `curvature_bench`, which times the step exponent of one design of the greatest size of version 1
-    make.py --designs FOLDER    writes designs, each with a policy, whose rows have exponents of their own
-    make.py --expected          prints the exponents of their rows, as exponents.py computes them in some minutes: rows.txt
+    python3 -m bench.curvature.make FOLDER              writes the crate `curvature_bench`, which times the step exponent of one design of the greatest size of version 1
+    python3 -m bench.curvature.make --designs FOLDER    writes designs, each with a policy, whose rows have exponents of their own
+    python3 -m bench.curvature.make --expected          prints the exponents of their rows, as exponents.py computes them in some minutes: rows.txt
 
 The first has 60 plan entries and 252 limit rows: no gap is dominant, s1 is 38, and the certificate is found at 32, so 33 roots are tried. The designs are of the greatest
 sizes of both versions, and one of them is fine. A stage row of each is so steep that most others are lowered four times, each time with a root: no matrix is dominant.
 """
 import os
 import sys
-from exponents import exponents, row_exponents
+
+from .exponents import exponents, row_exponents
 
 INPUTS = 8000
 A = [[1, 1, 0, 0], [0, 0, 1, 0], [0, 0, 0, 1], [0, 0, 0, 0]]

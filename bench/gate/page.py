@@ -1,4 +1,4 @@
-"""bench/gate/COSTS.md, as bench/gate/run.py writes it of what it measured."""
+"""bench/gate/COSTS.md, as python3 -m bench.gate.run writes it of what it measured."""
 import os
 import re
 from dataclasses import dataclass
@@ -15,7 +15,7 @@ PACE = {"integer_algebra": 12, "word_region": 15, "frac_scaled": 19}
 FIRST_ANSWER = "The first answer"
 HEAD = """# What proofs cost
 
-Written by `bench/gate/run.py --page`. [PROOFS.md](../../docs/PROOFS.md#what-keeps-a-proof-short) says what keeps a proof short.
+Written by `python3 -m bench.gate.run --page`. [PROOFS.md](../../docs/PROOFS.md#what-keeps-a-proof-short) says what keeps a proof short.
 """
 
 
@@ -99,7 +99,7 @@ def first_answer(look: float, first: tuple[float, float], others: tuple[float, f
         f"{FIRST_ANSWER} (`./mpc generate` in a fresh clone, with nothing kept, which proves that command's program) takes {first[0] / 60:.1f} processor minutes and "
         f"{first[1] / 60:.1f} minutes on {processors} processors; the first of another command, which proves the rest, takes {others[0] / 60:.1f} processor minutes and {others[1] / 60:.1f} minutes more: "
         f"{(first[0] + others[0]) / 60:.1f} in all, where {minutes(FIRST)} are the mark for `generate` and {minutes(BOTH)} for all{slower}. A look before any proof, `./mpc try demo 7`, takes {look:.0f} processor "
-        f"seconds, where {LOOK} are the mark{slower} (`bench/gate/run.py --first`)."
+        f"seconds, where {LOOK} are the mark{slower} (`python3 -m bench.gate.run --first`)."
     )
 
 

@@ -1,11 +1,10 @@
-#!/usr/bin/env python3
 """Measures in a fresh clone, with nothing kept, what the first answers and the gate take, each beside its mark at the pace of this machine.
 
-    bench/gate/run.py [--processors N] [--page [FILE] [--note TEXT]]       one run of all: the pace, a look, the first answers, the gate
-    bench/gate/run.py --pace                                               the pace alone, by the proofs of three crates that seldom change
-    bench/gate/run.py --first [--page [FILE]]                              the pace; a look, ./mpc try demo 7; the first answer, ./mpc generate, which proves and builds that command's
+    python3 -m bench.gate.run [--processors N] [--page [FILE] [--note TEXT]]       one run of all: the pace, a look, the first answers, the gate
+    python3 -m bench.gate.run --pace                                               the pace alone, by the proofs of three crates that seldom change
+    python3 -m bench.gate.run --first [--page [FILE]]                              the pace; a look, ./mpc try demo 7; the first answer, ./mpc generate, which proves and builds that command's
                                                                            program; and then that of ./mpc demo 7, which proves and builds the rest
-    bench/gate/run.py --gate [--kept] [--lanes N] [--log FILE] [NAME ..]   the pace; the gate, `rt ci --anew`: every proof, every test, every must-fail edit
+    python3 -m bench.gate.run --gate [--kept] [--lanes N] [--log FILE] [NAME ..]   the pace; the gate, `rt ci --anew`: every proof, every test, every must-fail edit
 
 What is measured is what is committed. The clone has no kept work, the first answers are those of a kit that has kept nothing, and the gate reads nothing that was kept but with --kept, as it does in a
 checkout: then the table has what is left. With names, these crates and those below them are proved, and the others are taken out of the clone. With --processors N all runs on N of the processors alone,
@@ -33,9 +32,8 @@ import tempfile
 import threading
 import time
 
-sys.path.insert(0, os.path.dirname(os.path.abspath(__file__)))
-import page
-from page import BOTH, FIRST, LOOK, PACE, PROOF, TESTS, WHOLE
+from . import page
+from .page import BOTH, FIRST, LOOK, PACE, PROOF, TESTS, WHOLE
 
 HERE = os.path.dirname(os.path.abspath(__file__))
 PARTS = ("proof", "tests", "edits")
@@ -332,7 +330,7 @@ def pace():
 
 def measured_pace():
     """The pace, measured in a process of its own, since what watches the commands stays."""
-    said = subprocess.run([sys.executable, os.path.abspath(__file__), "--pace"], stdout=subprocess.PIPE, text=True, check=True).stdout
+    said = subprocess.run([sys.executable, "-m", "bench.gate.run", "--pace"], cwd=os.path.dirname(os.path.dirname(HERE)), stdout=subprocess.PIPE, text=True, check=True).stdout
     print(said, end="", flush=True)
     return float(re.search(r": ([0-9.]+) times the marks' time", said)[1])
 

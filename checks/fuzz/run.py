@@ -1,8 +1,7 @@
-#!/usr/bin/env python3
 """Runs the program's commands on changed and random texts, and compares each answer with the independent model beside this file, to the byte.
 
-    checks/fuzz/run.py PROGRAM [--cases COUNT] [--seed SEED] [--jobs JOBS] [--kind KIND] [--loop-products COUNT] [--case NUMBER]
-    checks/fuzz/run.py PROGRAM --table NAME [--jobs JOBS] [--case NUMBER]
+    python3 -m checks.fuzz.run PROGRAM [--cases COUNT] [--seed SEED] [--jobs JOBS] [--kind KIND] [--loop-products COUNT] [--case NUMBER]
+    python3 -m checks.fuzz.run PROGRAM --table NAME [--jobs JOBS] [--case NUMBER]
 
 For each of COUNT (1000) cases the exit status, the line on standard error, standard output and every file that is left must be the model's. A design's gains aren't
 determined: they are taken from the controller that the program wrote, once they are known to solve their systems. Each run of a controller is made with every
@@ -34,22 +33,7 @@ import subprocess
 import sys
 import tempfile
 
-sys.path.insert(0, os.path.dirname(os.path.abspath(__file__)))
-import at_corners
-import cases
-import control
-import forms
-import listing
-import listing_cases
-import model
-import program
-import settle_cases
-import settling
-import stay_cases
-import tables
-import held_boxes
-import split_boxes
-import split_cases
+from . import at_corners, cases, control, forms, held_boxes, listing, listing_cases, model, program, settle_cases, settling, split_boxes, split_cases, stay_cases, tables
 
 KINDS = ["generate"] * 22 + ["lean"] * 12 + ["border"] * 4 + ["stay"] * 14 + ["lean_stay"] * 6 + ["solve"] * 26 + ["controller"] * 18 + ["loop"] * 22 + ["list"] * 6 + ["play"] * 16
 KINDS += ["split"] * 12 + ["serve"] * 16 + ["c"] * 8 + ["usage"] * 4

@@ -1,11 +1,8 @@
 """Designs, controllers, certificates and disturbances for run.py: most of them are accepted, or would be but for a number; and such whose numbers are large."""
 from itertools import product
 
-import cases
-import control
-import model
-import settling
-from stay_cases import records_text
+from . import cases, control, model, settling
+from .stay_cases import records_text
 
 MOST = 2**31 - 1
 

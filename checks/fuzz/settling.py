@@ -5,7 +5,7 @@ the box that loops begin in; what rounding leaves of a row is paid over the stil
 """
 from dataclasses import dataclass
 
-from model import LIMIT, Refused, read_records
+from .model import LIMIT, Refused, read_records
 
 # what a row of a coordinate is over
 ROW = 2**24

@@ -1,6 +1,6 @@
 """Rows of certificates that loops settle: of one state by hand, of two states with the numbers of a model in whole numbers."""
-from texts import put, refused, sub
-from worked_texts import AXIS, DESIGN
+from .texts import put, refused, sub
+from .worked_texts import AXIS, DESIGN
 
 SETTLE, UNDER = ["settle", "d", "c", "f"], ["settle", "d", "c", "f", "w"]
 # x+ = x + u, of 40 over 2^4 to both sides, and u = -x/2 between -1 and 1

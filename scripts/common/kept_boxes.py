@@ -6,7 +6,7 @@ import functools
 import itertools
 from dataclasses import dataclass, field
 
-from common.libraries import need
+from .libraries import need
 
 need("numpy", "scipy")
 import numpy

@@ -3,12 +3,12 @@ import difflib
 import math
 import re
 
-from common.libraries import need
+from .libraries import need
 
 need("jsonschema")
 import jsonschema
 
-from common.design_text import STAGES, STATES
+from .design_text import STAGES, STATES
 
 GREATEST = 1e15
 LEAST = 1e-15

@@ -67,16 +67,16 @@ import tomllib
 from dataclasses import dataclass
 from typing import Any
 
-from common.libraries import Refusal, need
+from .libraries import Refusal, need
 
 need("numpy", "scipy", "jsonschema")
 import numpy
 import scipy.io
 import scipy.linalg
 
-from common.design_text import Design, Name, plain
-from common.files import read_bytes
-from common.model_schema import changed, faults_of, version_of
+from .design_text import Design, Name, plain
+from .files import read_bytes
+from .model_schema import changed, faults_of, version_of
 
 NUMERATOR = 2147483647
 # by how much a pole may multiply in a stage, and over the horizon

@@ -4,10 +4,10 @@ from __future__ import annotations
 from dataclasses import dataclass
 from fractions import Fraction
 
-from common.design_text import Design, plain
-from common.libraries import Refusal
-from common.texts import records_of
-from common.tubes import Box, Certificate
+from .design_text import Design, plain
+from .libraries import Refusal
+from .texts import records_of
+from .tubes import Box, Certificate
 
 
 @dataclass(frozen=True)

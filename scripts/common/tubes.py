@@ -10,9 +10,9 @@ from dataclasses import dataclass
 from fractions import Fraction
 from math import ceil, floor
 
-from common.design_text import Design
-from common.sizes import LIMIT
-from common.texts import Controller
+from .design_text import Design
+from .sizes import LIMIT
+from .texts import Controller
 
 ROW = 2**24
 

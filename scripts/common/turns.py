@@ -2,7 +2,7 @@
 import itertools
 from collections.abc import Iterator
 
-from common.libraries import need
+from .libraries import need
 
 need("numpy", "scipy")
 import numpy

@@ -1,14 +1,15 @@
 """What can be said of a model at once: poles, the growth of a stage, corners without a plan; and what is refused by name."""
 import unittest
 
-from common.libraries import PACKAGES, Refusal, missing
-from tests.test_design import MASS
+from scripts.common.libraries import PACKAGES, Refusal, missing
+
+from .test_design import MASS
 
 LACKING = missing(*PACKAGES)
 if not LACKING:
-    import outlook
-    from common.models import Model
-    from draft import draft
+    from scripts import outlook
+    from scripts.common.models import Model
+    from scripts.draft import draft
 
 
 def said(text):

@@ -5,9 +5,10 @@ import subprocess
 import unittest
 import xml.dom.minidom
 
-import report_page
-from common.libraries import Refusal
-from tests.worked import FIRST, FIRST_CONTROLLER, FIRST_REPORT, folder_with
+from scripts import report_page
+from scripts.common.libraries import Refusal
+
+from .worked import FIRST, FIRST_CONTROLLER, FIRST_REPORT, as_command, folder_with
 
 SVG = '<?xml version="1.0"?>\n<svg xmlns="http://www.w3.org/2000/svg" width="4" height="4"><rect width="4" height="4"/></svg>\n'
 JUDGED = "at 2 states, at 1 of which a limit binds:\ngreatest violation 0.25 & more < 1\n"
@@ -74,7 +75,7 @@ class Pages(unittest.TestCase):
         self.assertEqual(self.run_page(os.path.join(folder, "nowhere")).returncode, 1)
 
     def run_page(self, *words):
-        return subprocess.run([report_page.__file__, *words], capture_output=True, text=True)
+        return subprocess.run([*as_command("report_page"), *words], capture_output=True, text=True)
 
     @unittest.skipUnless(BROWSER, "no Chromium is installed")
     def test_in_a_browser(self):

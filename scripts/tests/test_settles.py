@@ -2,25 +2,17 @@
 import os
 import random
 import subprocess
-import sys
 import unittest
 
-from tests.worked import EXAMPLES, TOP, folder_with
+from checks.fuzz import control, model, program, settle_cases, settling
+from scripts import settles
+from scripts.common import promises
+from scripts.common.design_text import design_of
+from scripts.common.libraries import missing
+from scripts.common.texts import controller_of
+from scripts.common.tubes import Box, Certificate, Loop, Stillness, Tubes, first_fault, settled_box
 
-sys.path.insert(0, os.path.join(TOP, "scripts"))
-sys.path.append(os.path.join(TOP, "checks", "fuzz"))
-import control
-import model
-import program
-import settle_cases
-import settling
-
-import settles
-from common import promises
-from common.design_text import design_of
-from common.libraries import missing
-from common.texts import controller_of
-from common.tubes import Box, Certificate, Loop, Stillness, Tubes, first_fault, settled_box
+from .worked import EXAMPLES, as_command, folder_with
 
 WORDS = {10: "too-wide", 23: "moves", 24: "unsettled", 25: "no-return"}
 STILL = [0] * 6
@@ -130,7 +122,7 @@ class Command(unittest.TestCase):
         folder, paths = folder_with(self, d=design, c=controller, **texts)
         paths["s"] = os.path.join(folder, "s")
         self.paths = paths
-        got = subprocess.run([sys.executable, os.path.join(TOP, "scripts", "settles.py"), *(paths.get(word, word) for word in ("d", "c", *words))], capture_output=True, text=True)
+        got = subprocess.run([*as_command("settles"), *(paths.get(word, word) for word in ("d", "c", *words))], capture_output=True, text=True)
         written = ""
         if os.path.exists(paths["s"]):
             with open(paths["s"], encoding="utf-8") as file:
@@ -162,14 +154,14 @@ class Command(unittest.TestCase):
         design, promise = self.paths["d"], self.paths["p"]
         with open(promise, encoding="ascii") as file:
             self.assertEqual(file.read(), "turn 9\nstate 1 -25 25\nstate 2 -57 57\n")
-        explain = lambda *paths: subprocess.run([sys.executable, os.path.join(TOP, "scripts", "explain.py"), *paths], capture_output=True, text=True)
+        explain = lambda *paths: subprocess.run([*as_command("explain"), *paths], capture_output=True, text=True)
         words = "every loop from its certificate's start box lies after 9 turns (0.045 s), for ever, with angle in 8 ms within 0.02441 rad, speed within 4.453 rad/s\n"
         self.assertEqual(explain(promise, design).stdout, words)
         self.assertIn("is explained with its design", explain(promise).stderr)
 
     @unittest.skipIf(missing("matplotlib"), "no matplotlib")
     def test_picture(self):
-        import plot
+        from scripts import plot
 
         design = design_of(lean_texts("motor")[0])
         certificate = promises.certificate_of("9,-448,-1009,448,1009\n0,-448,-1009,448,1009\n1,-25,-57,25,57\n", 2)

@@ -11,11 +11,12 @@ import unittest
 from dataclasses import replace
 from fractions import Fraction
 
-from common.libraries import PACKAGES, Refusal, missing
-from common.trajectories import dot, next_state
-from tests.changed_models import changed_text, changed_value
-from tests.test_design import MASS
-from tests.worked import EXAMPLES
+from scripts.common.libraries import PACKAGES, Refusal, missing
+from scripts.common.trajectories import dot, next_state
+
+from .changed_models import changed_text, changed_value
+from .test_design import MASS
+from .worked import EXAMPLES
 
 LACKING = missing(*PACKAGES)
 if not LACKING:

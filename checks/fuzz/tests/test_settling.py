@@ -3,11 +3,9 @@ import itertools
 import random
 import unittest
 
-import control
-import model
-import settle_cases
-import settling
-from tests.worked import told
+from checks.fuzz import control, model, settle_cases, settling
+
+from .worked import told
 
 # x+ = x + u with the limits -1 and 1 on the input, from -2.5 to 2.5, and its plan -x / 2 where no multiplier moves
 DESIGN = b"""version = 2
