@@ -9,8 +9,7 @@ same, it makes the box smaller in one coordinate after the other, held states am
 corners, N turns (50).
 
 What was tried goes to standard error, and every few seconds how far the search is: it ends after S seconds (60), or by an interrupt. The model with what was found goes to NEW_MODEL, or
-is printed; where loops stay in the model as it is, it is MODEL's own. Where half-planes say which states of the box are meant (`region`), the search begins with a box of coordinates that holds
-these and has plans at all corners, where there is one. Where no loops were found to stay, that is the best that was seen, the status is 12, and what leads out is
+is printed; where loops stay in the model as it is, it is MODEL's own. Where no loops were found to stay, that is the best that was seen, the status is 12, and what leads out is
 said. Nothing rests on it: `./mpc loop` shows the controller's own loops.
 """
 import itertools
@@ -294,18 +293,14 @@ def main() -> int:
     parser.add_argument("--turns", type=turns, default=50, metavar="N")
     parser.add_argument("--seconds", type=positive, default=60.0, metavar="S")
     given = parser.parse_args()
-    # it stands on this module
-    from common import regions
-
     files.keep_apart({"MODEL": given.model}, {"NEW_MODEL": given.new or files.STANDARD_OUTPUT})
-    model, words = regions.within_region(asked := read_model(given.model))
-    say(*[words] * bool(words))
+    model = read_model(given.model)
     choice, far = search(model, draft(model), given.turns, given.seconds)
     if far.max() > 1:
         say(f"no coordinates and no box were found in which loops stay; the best is kept, {told(model, choice)}: {to_blame(Model(changed(model, choice)), far)}")
         say("what helps: weights that move these less, more stages, limits on what overshoots, or --stay, which limits the next state (docs/BOXES.md)")
     changes = bool(choice.times) or min(choice.kept) < 1
-    text = changed_text(model, choice) if changes or model is not asked else files.read_bytes(given.model).decode()
+    text = changed_text(model, choice) if changes else files.read_bytes(given.model).decode()
     if given.new:
         files.write(given.new, text)
     else:

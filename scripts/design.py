@@ -4,6 +4,7 @@
 
 In FOLDER, which is made where it isn't there, stand then
 
+    covered.toml      the model with a box that holds its starts, where half-planes say which these are (`region`, ./mpc regions)
     fitted.toml       the model in coordinates and a box in which its loops stay (./mpc coordinates), or the best that was seen; with --as-it-is MODEL itself is taken
     design.toml       the design (./mpc draft)
     policy.csv        a plan for each corner, and reference.csv the best ones without limits (./mpc policy --lean)
@@ -42,6 +43,7 @@ import sys
 import tempfile
 import time
 from argparse import Namespace
+from collections.abc import Callable
 from dataclasses import dataclass
 from typing import IO
 
@@ -52,9 +54,9 @@ from .common import files, usage
 from .common.arguments import Parser, count, positive, turns
 from .common.design_text import read_design
 from .common.launcher import LAUNCHER
-from .common.models import grid_disturbances, read_model
+from .common.models import Model, grid_disturbances, read_model
 
-MADE = ["fitted.toml", "design.toml", "policy.csv", "reference.csv", "controller.txt", "report.txt", "states.csv", "loop.txt", "exact.txt", "loop.svg", "judged.txt", "explained.txt", "report.html"]
+MADE = ["covered.toml", "fitted.toml", "design.toml", "policy.csv", "reference.csv", "controller.txt", "report.txt", "states.csv", "loop.txt", "exact.txt", "loop.svg", "judged.txt", "explained.txt", "report.html"]
 STAYS = ["faces.csv", "disturbances.csv"]
 SETTLES = ["settle.csv", "settled.txt"]
 RANGE = "range.csv"
@@ -125,12 +127,20 @@ def fitted(steps: Steps, model: str, given: Namespace, stays: bool) -> str:
     seconds, path = ["--seconds", str(given.seconds)], steps.path("fitted.toml")
     if stays:
         options = [option for option, asked in (("--generate", given.generate), ("--same-cost", given.same_cost)) if asked]
-        steps.must("scripts/staying.py", model, path, *options, *seconds)
+        steps.must("staying", model, path, *options, *seconds)
         return path
     step = steps.run("coordinates", model, path, "--turns", str(given.turns), *seconds)
     if step.status not in (0, LEFT_THE_BOX):
         raise Refusal(f"./mpc coordinates ended with status {step.status}: what stands above says why", step.status)
     return path
+
+
+def covering(steps: Steps, model: str, given: Namespace) -> str:
+    """The model with a box that holds its starts, where these are no box."""
+    if given.as_it_is or not says(model, lambda found: found.text.get("region")):
+        return model
+    steps.must("regions", model, steps.path("covered.toml"))
+    return steps.path("covered.toml")
 
 
 def make(steps: Steps, model: str, given: Namespace, stays: bool) -> None:
@@ -232,10 +242,10 @@ def looped(design: str, controller: str, starts: list[str], count: int) -> tuple
     return got.returncode, got.stdout.splitlines()
 
 
-def asks_to_stay(path: str) -> bool:
-    """Whether a model's box has limits on the next state; what is wrong with it is said by the step that drafts it."""
+def says(path: str, what: Callable[[Model], object]) -> bool:
+    """Whether a model says something; what is wrong with it is said by the first step that reads it."""
     try:
-        return any(read_model(path).stay)
+        return bool(what(read_model(path)))
     except Refusal:
         return False
 
@@ -260,9 +270,9 @@ def main() -> int:
     files.keep_apart({"MODEL": given.model}, {name: steps.path(name) for name in [*MADE, *STAYS, *SETTLES, RANGE]})
     files.read_bytes(given.model)
     os.makedirs(given.folder, exist_ok=True)
-    began, stays = time.monotonic(), given.stay or asks_to_stay(given.model)
+    began, stays = time.monotonic(), given.stay or says(given.model, lambda found: any(found.stay))
     steps.must("outlook", given.model)
-    model = fitted(steps, given.model, given, stays)
+    model = fitted(steps, covering(steps, given.model, given), given, stays)
     make(steps, model, given, stays)
     settled = show(steps, model, given)
     print("\n".join(settled) or "no certificate was found that loops settle: what ./mpc settles says above is in the way")

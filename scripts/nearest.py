@@ -1,7 +1,6 @@
-#!/usr/bin/env python3
 """Writes a fallback beside the C of a controller, for states outside its box: the first inputs of the nearest state of the box. Nothing is promised of them.
 
-    scripts/nearest.py CONTROLLER NAME FOLDER
+    ./mpc nearest CONTROLLER NAME FOLDER
 
 NAME is that of `./mpc c CONTROLLER NAME SOURCE HEADER`, whose NAME_solve refuses a state outside the box. In FOLDER stand then NAME_nearest.h and NAME_nearest.c:
 
@@ -12,14 +11,14 @@ these answers. It needs NAME.h and NAME.c, has no heap, and holds all sums on th
 """
 import os
 
-from common import files
-from common.arguments import Parser
-from common.libraries import Refusal, run
-from common.strict_texts import safe_controller
-from common.texts import Controller
-from c_source import MARK, check_name, commented, read, write_all
+from .c_source import MARK, check_name, commented, read, write_all
+from .common import files
+from .common.arguments import Parser
+from .common.libraries import Refusal, run
+from .common.strict_texts import safe_controller
+from .common.texts import Controller
 
-HEADER = """/* A fallback beside the controller of {path}, {mark} by scripts/nearest.py. Tested, not proved. */
+HEADER = """/* A fallback beside the controller of {path}, {mark} by ./mpc nearest. Tested, not proved. */
 #ifndef {name}_nearest_H
 #define {name}_nearest_H
 
@@ -40,7 +39,7 @@ int {name}_nearest_inputs(const int32_t state[{states}], int64_t inputs[{inputs}
 #endif
 """
 
-SOURCE = """/* A fallback beside the controller of {path}, {mark} by scripts/nearest.py. Tested, not proved. */
+SOURCE = """/* A fallback beside the controller of {path}, {mark} by ./mpc nearest. Tested, not proved. */
 #include "{name}_nearest.h"
 
 static const int32_t lowest[{states}] = {{ {low} }};

@@ -1,6 +1,6 @@
 """Proposes coordinates, limits on the next state and a box for which faces show that no loop ever leaves the box.
 
-    scripts/staying.py MODEL [NEW_MODEL] [--generate] [--steps N] [--clock MHZ] [--seconds S] [--same-cost]
+    ./mpc staying MODEL [NEW_MODEL] [--generate] [--steps N] [--clock MHZ] [--seconds S] [--same-cost]
 
 Each state whose faces don't hold by the model's own limits gets limits on the next state, by `stay` in the model's `[box]`: the next state is kept so much inside the box, and may exceed
 that by as much. From each corner some inputs must then lead back inside. Which box has such inputs at all its corners, and is the largest, a linear program says, of each choice of
@@ -26,24 +26,23 @@ need("numpy", "scipy", "cvxopt", "jsonschema")
 import numpy
 import scipy.linalg
 
-import faces
-from common import files
-from common.arguments import Parser, positive, several
-from common.budget import Budget
-from common.c_costs import about_step
-from common.design_text import Design, plain
-from common.kept_boxes import Plant, covered, largest, short_of
-from common.lean_plans import LeanPlans
-from common.model_text import model_text
-from common.models import Model, grid_disturbances, neat, read_model
-from common.programs import Programs
-from common.regions import within_region
-from common.run_costs import SAME, Weighing, weighings
-from common.turns import candidates
-from coordinates import COUPLED, TIMES, Choice, changed, four, told
-from draft import corner_plans, drafted, in_floats, too_wide
-from policy import find as find_policy
-from policy import find_lean, plans_with
+from . import faces
+from .common import files
+from .common.arguments import Parser, positive, several
+from .common.budget import Budget
+from .common.c_costs import about_step
+from .common.design_text import Design, plain
+from .common.kept_boxes import Plant, covered, largest, short_of
+from .common.lean_plans import LeanPlans
+from .common.model_text import model_text
+from .common.models import Model, grid_disturbances, neat, read_model
+from .common.programs import Programs
+from .common.run_costs import SAME, Weighing, weighings
+from .common.turns import candidates
+from .coordinates import COUPLED, TIMES, Choice, changed, four, told
+from .draft import corner_plans, drafted, in_floats, too_wide
+from .policy import find as find_policy
+from .policy import find_lean, plans_with
 
 # the slack that a corner's inputs leave in each limit, in tolerances
 SLACK = 0.125
@@ -504,12 +503,11 @@ def main() -> int:
     parser.add_argument("--same-cost", action="store_true")
     given = parser.parse_args()
     files.keep_apart({"MODEL": given.model}, {"NEW_MODEL": given.new or files.STANDARD_OUTPUT})
-    model, words = within_region(asked := read_model(given.model))
-    say(*[words] * bool(words))
+    model = read_model(given.model)
     found, holds = search(model, given.steps, given.seconds, given.generate, given.clock, given.same_cost)
     if not holds:
         say("no coordinates, no limits and no box were found for which faces hold, and the best that was seen is kept: stronger inputs, a smaller box or a smaller `disturbed` (docs/BOXES.md)")
-    text = files.read_bytes(given.model).decode() if found is asked.text else model_text(found, "a model whose loops never leave the box, by scripts/staying.py")
+    text = files.read_bytes(given.model).decode() if found is model.text else model_text(found, "a model whose loops never leave the box, by ./mpc staying")
     if given.new:
         files.write(given.new, text)
     else:

@@ -5,13 +5,13 @@ from __future__ import annotations
 import math
 from dataclasses import dataclass
 
-from common.libraries import need
+from .libraries import need
 
 need("numpy")
 import numpy
 
-from common.design_text import plain
-from common.models import Model
+from .design_text import plain
+from .models import Model
 
 # how much more inputs weigh, and how much the coordinates of the box together with them
 HEAVIER, PARTS = (4.0, 16.0, 64.0), (1.0, 3.0, 0.3, 10.0, 0.1)

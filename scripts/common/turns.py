@@ -8,7 +8,7 @@ need("numpy", "scipy")
 import numpy
 import scipy.optimize
 
-from common.design_text import Design
+from .design_text import Design
 
 # the weights of inputs beside the design's own, and how often a gain is improved
 WEIGHTS = [10 ** (k / 2) for k in range(-6, 9)]

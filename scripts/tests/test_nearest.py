@@ -9,10 +9,11 @@ import unittest
 import unittest.mock
 from dataclasses import replace
 
-import nearest
-from common.libraries import Refusal, answered
-from tests.controllers import random_controller
-from tests.worked import FIRST_CONTROLLER, folder_with
+from scripts import nearest
+from scripts.common.libraries import Refusal, answered
+
+from .controllers import random_controller
+from .worked import FIRST_CONTROLLER, folder_with
 
 # NAME.h and NAME.c of two states and one input: the sums are the state, and the first input is 65536 times the first number and the second
 STUB = """#include <stdint.h>

@@ -1,19 +1,24 @@
 """Start states that are no box: half-planes in a model, and the boxes of other coordinates that hold what they leave."""
+import contextlib
+import io
 import itertools
 import os
 import subprocess
-import sys
+import tomllib
 import unittest
+from argparse import Namespace
 
-from common.libraries import PACKAGES, Refusal, missing
-from tests.worked import TOP, folder_with
+from scripts.common.libraries import PACKAGES, Refusal, missing
+
+from .worked import as_command, folder_with
 
 LACKING = missing(*PACKAGES)
 if not LACKING:
     import numpy
 
-    from common.models import Model
-    from common.regions import Region, least_slack, outward, within_region
+    from scripts import design
+    from scripts.common.models import Model, read_model
+    from scripts.regions import Region, least_slack, outward, within_region
 
 # a cell that is charged: at rest its voltage comes to 110 mV above where it begins, which a full charge and much polarisation pass
 CELL = """period = 10.0
@@ -99,16 +104,24 @@ class Regions(unittest.TestCase):
             with self.assertRaisesRegex(Refusal, fault):
                 within_region(Model(CELL + words))
 
-    def test_the_searches_begin_with_it(self):
-        """What is written is in these coordinates, where nothing better is found at once."""
-        folder, paths = folder_with(self, model=CELL + REGION)
-        for name in ("coordinates", "staying"):
+    def test_command(self):
+        folder, paths = folder_with(self, model=CELL + REGION, plain=CELL)
+        for name, words in (("model", "the states of the box within voltage at rest lie in a box with charge + 0.1429"), ("plain", "the model has no half-planes, and stays as it is")):
             new = os.path.join(folder, name + ".toml")
-            got = subprocess.run([sys.executable, os.path.join(TOP, "scripts", name + ".py"), paths["model"], new, "--seconds", "0.1"], capture_output=True, text=True)
-            self.assertIn(got.returncode, (0, 12), got.stderr)
-            self.assertIn("the states of the box within voltage at rest lie in a box with charge + 0.1429 polarisation %", got.stderr)
+            got = subprocess.run([*as_command("regions"), paths[name], new], capture_output=True, text=True, check=True)
+            self.assertIn(words, got.stderr)
             with open(new, encoding="utf-8") as file:
-                self.assertNotIn("[[region]]", file.read())
+                text = file.read()
+            self.assertEqual((Model(tomllib.loads(text)).hi[0], "[[region]]" in text, text == CELL), (15.72, False, False) if name == "model" else (20.0, False, True))
+
+    def test_design_takes_it(self):
+        """Only where the model has half-planes, and isn't to be taken as it is."""
+        folder, paths = folder_with(self, model=CELL + REGION, plain=CELL)
+        steps = design.Steps(folder)
+        with contextlib.redirect_stdout(io.StringIO()):
+            found = [design.covering(steps, paths[name], Namespace(as_it_is=given)) for name, given in (("model", False), ("model", True), ("plain", False))]
+        self.assertEqual(found, [os.path.join(folder, "covered.toml"), paths["model"], paths["plain"]])
+        self.assertGreater(least_slack(read_model(found[0])), 0)
 
 
 if __name__ == "__main__":

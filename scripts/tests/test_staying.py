@@ -22,16 +22,15 @@ LACKING = missing(*PACKAGES)
 if not LACKING:
     import numpy
 
-    import faces
-    import staying
-    from common.budget import Budget
-    from common.disturbances import box_in
-    from common.design_text import read_design
-    from common.kept_boxes import Plant, covered, largest, short_of
-    from common.models import Model, read_model
-    from common.run_costs import SAME, Weighing, weighings
-    from common.texts import read_text, records_of
-    from draft import draft
+    from scripts import faces, staying
+    from scripts.common.budget import Budget
+    from scripts.common.design_text import read_design
+    from scripts.common.disturbances import box_in
+    from scripts.common.kept_boxes import Plant, covered, largest, short_of
+    from scripts.common.models import Model, read_model
+    from scripts.common.run_costs import SAME, Weighing, weighings
+    from scripts.common.texts import read_text, records_of
+    from scripts.draft import draft
 
 # the folders of the examples whose loops never leave the box
 STAY = ("antenna/stay", "kiln", "motor/stay", "satellite/stay")

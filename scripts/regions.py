@@ -1,20 +1,27 @@
-"""Start states that are no box: a box of other coordinates that holds all of a box's states at which half-planes hold, and from whose corners there are plans, where there is one.
+"""Proposes a box for start states that are no box: the least, in the model's coordinates or in others, that holds all states of the model's box at which its half-planes hold (`region`).
 
-What is no start state may lie in that box, too; it is to be little.
+    ./mpc regions MODEL [NEW_MODEL]
+
+Each half-plane takes the place of a state that it has, or of none. Of the boxes with a plan from each corner the smallest is taken, else that which lacks least, with a warning; it may hold
+states, too, that weren't meant. The model with that box and without half-planes goes to NEW_MODEL, or is printed; one that has none stays as it is. `./mpc design` searches on from there.
 """
 import itertools
 import math
+import sys
 
-from common.libraries import Refusal, need
+from .common.libraries import Refusal, need, run, say
 
-need("numpy", "scipy")
+need("numpy", "scipy", "cvxopt", "jsonschema")
 import numpy
 import scipy.optimize
 
-from common.models import Model
-from common.programs import Programs
-from coordinates import Choice, changed, told
-from draft import in_floats
+from .common import files
+from .common.arguments import Parser
+from .common.model_text import model_text
+from .common.models import Model, read_model
+from .common.programs import Programs
+from .coordinates import Choice, changed, told
+from .draft import in_floats
 
 # what counts as a plan's slack, in tolerances
 SOME = 2**-16
@@ -102,3 +109,23 @@ def within_region(model: Model) -> tuple[Model, str]:
     if good:
         return made, f"{part}, and each of its corners has a plan"
     return made, f"warning: {part}; but a corner of it has no plan, {-worth:.3g} tolerances short, and so has one of each other box that was tried"
+
+
+def main() -> int:
+    parser = Parser(__doc__)
+    parser.add_argument("model", metavar="MODEL")
+    parser.add_argument("new", metavar="NEW_MODEL", nargs="?")
+    given = parser.parse_args()
+    files.keep_apart({"MODEL": given.model}, {"NEW_MODEL": given.new or files.STANDARD_OUTPUT})
+    made, words = within_region(asked := read_model(given.model))
+    say(words or "the model has no half-planes, and stays as it is")
+    text = files.read_bytes(given.model).decode() if made is asked else model_text(made.text, "a model with a box that holds its starts, by ./mpc regions")
+    if given.new:
+        files.write(given.new, text)
+    else:
+        sys.stdout.write(text)
+    return 0
+
+
+if __name__ == "__main__":
+    run(main)
