@@ -56,10 +56,10 @@ from .common.design_text import read_design
 from .common.launcher import LAUNCHER
 from .common.models import Model, grid_disturbances, read_model
 
-MADE = ["covered.toml", "fitted.toml", "design.toml", "policy.csv", "reference.csv", "controller.txt", "report.txt", "states.csv", "loop.txt", "exact.txt", "loop.svg", "judged.txt", "explained.txt", "report.html"]
+MADE = ["fitted.toml", "design.toml", "policy.csv", "reference.csv", "controller.txt", "report.txt", "states.csv", "loop.txt", "exact.txt", "loop.svg", "judged.txt", "explained.txt", "report.html"]
 STAYS = ["faces.csv", "disturbances.csv"]
 SETTLES = ["settle.csv", "settled.txt"]
-RANGE = "range.csv"
+RANGE, COVERED = "range.csv", "covered.toml"
 LEFT_THE_BOX = 12
 
 
@@ -139,8 +139,8 @@ def covering(steps: Steps, model: str, given: Namespace) -> str:
     """The model with a box that holds its starts, where these are no box."""
     if given.as_it_is or not says(model, lambda found: found.text.get("region")):
         return model
-    steps.must("regions", model, steps.path("covered.toml"))
-    return steps.path("covered.toml")
+    steps.must("regions", model, steps.path(COVERED))
+    return steps.path(COVERED)
 
 
 def make(steps: Steps, model: str, given: Namespace, stays: bool) -> None:
@@ -267,7 +267,7 @@ def main() -> int:
     parser.add_argument("--seed", type=int, default=1, metavar="N")
     given = parser.parse_args()
     steps = Steps(given.folder)
-    files.keep_apart({"MODEL": given.model}, {name: steps.path(name) for name in [*MADE, *STAYS, *SETTLES, RANGE]})
+    files.keep_apart({"MODEL": given.model}, {name: steps.path(name) for name in [*MADE, *STAYS, *SETTLES, RANGE, COVERED]})
     files.read_bytes(given.model)
     os.makedirs(given.folder, exist_ok=True)
     began, stays = time.monotonic(), given.stay or says(given.model, lambda found: any(found.stay))

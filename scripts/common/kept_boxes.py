@@ -16,7 +16,7 @@ import scipy.optimize
 LEAST_COUNTS = 20.0
 SAMPLES = 2048
 # what inputs move a coordinate by less than, as a part of half its box, is nothing that a limit can be put on
-LITTLE = 0.002
+LITTLE = 0.01
 # and what they move it by less than, nothing at all
 STANDS = 1e-5
 MOST_TURNED = 1e6

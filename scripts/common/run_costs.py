@@ -13,8 +13,9 @@ import numpy
 from .design_text import plain
 from .models import Model
 
-# how much more inputs weigh, and how much the coordinates of the box together with them
-HEAVIER, PARTS = (4.0, 16.0, 64.0), (1.0, 3.0, 0.3, 10.0, 0.1)
+# how much more inputs weigh, and how much the coordinates of the box together with them, what served most plants first
+HEAVIER = (4.0, 16.0)
+OF_BOX = ((3.0, "final"), (1.0, "rows"), (1.0, "final"), (0.3, "rows"), (10.0, "final"), (3.0, "rows"), (0.3, "final"), (0.1, "rows"))
 # what counts as nothing beside numbers that meet in a sum
 NOTHING = 1e-6
 
@@ -78,4 +79,4 @@ def weighings(model: Model, reach: list[float]) -> list[Weighing]:
     """What can be tried in place of a model's cost; where it has targets other than 0, or nowhere rests whatever is held, with its own rows alone."""
     targets = any(row.get("target", 0) for key in ("rows", "final") for row in model.text["cost"].get(key, []))
     of_box = not targets and all(map(math.isfinite, reach)) and rests(model)[1] < NOTHING
-    return [Weighing(times) for times in HEAVIER] + [Weighing(times, key) for times in PARTS if of_box for key in ("rows", "final")]
+    return [Weighing(times) for times in HEAVIER] + [Weighing(times, key) for times, key in OF_BOX if of_box]

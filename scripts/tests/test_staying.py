@@ -240,8 +240,8 @@ class Costs(unittest.TestCase):
 
     def test_a_target_keeps_its_rows(self):
         model = Model(SLOW.replace("weight = 2.0", "weight = 2.0, target = 0.3"))
-        self.assertEqual([one.key for one in weighings(model, [1.1])], [""] * 3)
-        self.assertEqual([one.key for one in weighings(Model(SLOW), [math.inf])], [""] * 3)
+        self.assertEqual([one.key for one in weighings(model, [1.1])], [""] * 2)
+        self.assertEqual([one.key for one in weighings(Model(SLOW), [math.inf])], [""] * 2)
         self.assertIn(Weighing(1.0, "final"), weighings(Model(SLOW), [1.1]))
 
 
