@@ -23,6 +23,7 @@ if not LACKING:
     import numpy
 
     from scripts import faces, staying
+    from scripts.common import turns
     from scripts.common.budget import Budget
     from scripts.common.design_text import read_design
     from scripts.common.disturbances import box_in
@@ -366,6 +367,41 @@ class Boxes(unittest.TestCase):
         found = largest(plant, turn, numpy.zeros(2), 0.0)
         self.assertAlmostEqual(found.least, 1.0)
         self.assertEqual(covered(plant, turn, found.parts), 1.0)
+
+    # what leaves one comes to the other, and a third of a second's flow of it moves the box by little
+    EXCHANGED = ([[1.0, 0.0], [0.0, 1.0]], [[1.0], [-0.5]])
+
+    def test_what_no_input_moves(self):
+        """A sum that stays as it is is kept in its box, whatever rounding adds, but under no disturbance."""
+        plant = replace(self.plant(*self.EXCHANGED, [4.0, 4.0], 1.0, 0.01), disturbed=numpy.zeros(2))
+        turn = numpy.array([[1.0, 0.0], [0.5, 1.0]])
+        self.assertEqual([plant.turned(turn).stands(i) for i in range(2)], [False, True])
+        self.assertIsNone(largest(plant, numpy.eye(2), numpy.array([0.02, 0.02]), 0.0))
+        found = largest(plant, turn, numpy.array([0.02, 0.0]), 0.0)
+        self.assertAlmostEqual(found.least, 1.0)
+        disturbed = replace(plant, disturbed=numpy.array([0.0, 0.001]))
+        self.assertFalse(disturbed.turned(turn).stands(1))
+        self.assertIsNone(largest(disturbed, turn, numpy.array([0.02, 0.0]), 0.0))
+
+    def test_sums_that_are_kept(self):
+        a, b = map(numpy.array, self.EXCHANGED)
+        for row, wanted in (([0.5, 1.0], True), ([0.5, 1.00001], False), ([1.0, 0.0], False)):
+            self.assertEqual(turns.is_kept(numpy.array(row), a, b), wanted)
+        # all digits of what is kept, two of what only shrinks
+        units = numpy.ones(2)
+        self.assertEqual([turns.short(numpy.array([0.349066, 1.0]), 1, units, units, digits) for digits in (2, 9)], [{0: 0.35}, {0: 0.349066}])
+
+    def test_what_inputs_move_by_little(self):
+        """A next state is kept inside the box by no more than a part of what inputs move it by."""
+        plant = self.plant(*self.EXCHANGED, [4.0, 100.0], 1.0)
+        # the limit of 1 and its tolerance: 2 of 4, and 1 of 100
+        self.assertEqual(plant.within_reach(numpy.eye(2), 0.5).tolist(), [0.25, 0.005])
+        self.assertEqual([plant.moves(i) for i in range(2)], [True, False])
+        model = Model(Coordinates.FILLED)
+        with Budget(1000) as budget:
+            found = staying.Search(model, budget, False, 100.0).larger({(0, 1): 0.05 * model.state_units[1] / model.state_units[0]}, 0.2)
+        # half of 0.25 s and 0.05 s of the change of 0.3 m/s
+        self.assertAlmostEqual(found.stay[0], 0.045)
 
     def test_interrupted(self):
         with contextlib.redirect_stderr(io.StringIO()) as said, Budget(1000) as budget:
