@@ -34,7 +34,7 @@ from .common.c_costs import about_step
 from .common.design_text import Design, plain
 from .common.kept_boxes import Plant, covered, largest, short_of
 from .common.lean_plans import LeanPlans
-from .common.model_text import model_text
+from .common.model_text import TIMELY, model_text
 from .common.models import Model, grid_disturbances, neat, read_model
 from .common.programs import Programs
 from .common.run_costs import SAME, Weighing, weighings
@@ -441,7 +441,7 @@ def words_of(model: Model, choice: Staying) -> str:
     """A choice in words."""
     kept = [f"the next {model.names[i][0]} {plain(part)} of the box inside it" for i, part in enumerate(choice.stay) if part]
     others = [f"{choice.stages} stages in place of {model.stages}"] * bool(choice.stages) + [choice.weighing.words] * (choice.weighing != SAME)
-    told_others = f"; so that a run ends in time, {' and '.join(others)}" if others else ""
+    told_others = f"; {TIMELY}, {' and '.join(others)}" if others else ""
     return told(model, choice) + (", and " if kept else "") + ", ".join(kept) + told_others
 
 
@@ -492,6 +492,12 @@ def search(model: Model, most: float = 20000.0, seconds: float = 60.0, generate:
     return (with_limits(model, found.best) if found.best else model.text), False
 
 
+def others_words(model: Model, keys: dict) -> str:
+    """What isn't the model's of cost and stages, as a page of the design has to say."""
+    others = [f"its {key}" for key in ("cost", "stages") if keys.get(key) != model.text.get(key)]
+    return f"; {TIMELY} {' and '.join(others)} {'are' if len(others) > 1 else 'is'} not what was asked for" if others else ""
+
+
 def main() -> int:
     parser = Parser(__doc__)
     parser.add_argument("model", metavar="MODEL")
@@ -507,7 +513,7 @@ def main() -> int:
     found, holds = search(model, given.steps, given.seconds, given.generate, given.clock, given.same_cost)
     if not holds:
         say("no coordinates, no limits and no box were found for which faces hold, and the best that was seen is kept: stronger inputs, a smaller box or a smaller `disturbed` (docs/BOXES.md)")
-    text = files.read_bytes(given.model).decode() if found is model.text else model_text(found, "a model whose loops never leave the box, by ./mpc staying")
+    text = files.read_bytes(given.model).decode() if found is model.text else model_text(found, "a model whose loops never leave the box, by ./mpc staying" + others_words(model, found))
     if given.new:
         files.write(given.new, text)
     else:

@@ -191,6 +191,8 @@ class Search(unittest.TestCase):
         self.assertIn("so that a run ends in time", staying.words_of(model, quick))
         text = staying.with_limits(model, quick)
         self.assertNotEqual((text["cost"], text.get("stages")), (model.text["cost"], 4))
+        self.assertRegex(staying.others_words(model, text), "^; so that a run ends in time its (cost|stages|cost and its stages) (is|are) not what was asked for$")
+        self.assertEqual(staying.others_words(model, staying.with_limits(model, slow)), "")
         # what the faces rest on is the same
         self.assertEqual((text["box"], text["limit"]), (staying.with_limits(model, slow)["box"], model.text["limit"]))
 
