@@ -1,4 +1,4 @@
-"""python3 -m checks.plants.run [NAME ..] [--folder FOLDER] [--seconds S] [--tables]: designs each plant of this folder by `./mpc design --stay`, and prints a table of what it came to.
+"""python3 -m checks.plants.run [NAME ..] [--folder FOLDER] [--seconds S] [--tables] [--plain]: designs each plant of this folder by `./mpc design --stay`, with --plain by `./mpc design`, and prints a table of what it came to.
 
 The models are as a new user writes them: a plant, limits with the tolerances of a data sheet, weights, a box. `--seconds` is the time of each search (40). A line has K; cycles of a run of the straight C of `./mpc c`, counted on
 an emulated Cortex-M4 where gcc-arm-none-eabi and qemu-system-arm are installed, else (or with --tables) about those of tables; their share of a stage at 100 MHz; of the limit that is exceeded most of what is asked of it the
@@ -31,11 +31,11 @@ def text_of(folder, name):
         return file.read()
 
 
-def designed(name, folder, seconds):
+def designed(name, folder, seconds, options):
     """What `./mpc design` said, its status, and its seconds by the clock and of the processor."""
     used = lambda: sum(resource.getrusage(resource.RUSAGE_CHILDREN)[:2])
     began, before = time.monotonic(), used()
-    command = [MPC, "design", os.path.join(HERE, name + ".toml"), folder, "--stay", "--seconds", str(seconds)]
+    command = [MPC, "design", os.path.join(HERE, name + ".toml"), folder, *options, "--seconds", str(seconds)]
     got = subprocess.run(command, stdout=subprocess.PIPE, stderr=subprocess.STDOUT, text=True)
     return got.returncode, got.stdout.splitlines(), f"{time.monotonic() - began:.0f}, {used() - before:.0f}"
 
@@ -78,8 +78,8 @@ def figures(folder, said, tables):
     return [re.search(r"K = (\d+)", explained)[1], cycles, part, *most_exceeded(folder), f"{box[-1]} %", ", ".join(bears)]
 
 
-def line_of(name, folder, seconds, tables):
-    status, said, took = designed(name, folder, seconds)
+def line_of(name, folder, seconds, tables, options):
+    status, said, took = designed(name, folder, seconds, options)
     if status:
         cause = [line.strip() for line in said if line.startswith("    ")][-2:]
         return f"| {name.replace('_', ' ')} | {' '.join(cause)} |" + " |" * 8 + f" {took} |"
@@ -93,6 +93,7 @@ def main():
     parser.add_argument("--folder")
     parser.add_argument("--seconds", type=float, default=40)
     parser.add_argument("--tables", action="store_true")
+    parser.add_argument("--plain", action="store_true")
     given = parser.parse_args()
     for name in given.names:
         if name not in names:
@@ -102,7 +103,7 @@ def main():
     for name in given.names:
         place = os.path.join(folder, name)
         shutil.rmtree(place, ignore_errors=True)
-        print(line_of(name, place, given.seconds, given.tables), flush=True)
+        print(line_of(name, place, given.seconds, given.tables, [] if given.plain else ["--stay"]), flush=True)
     print(f"the designs are in {folder}", file=sys.stderr)
 
 
