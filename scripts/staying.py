@@ -55,6 +55,8 @@ LED = 0.5
 FACTORS, PARTS = (0.5, 0.8, 1.25, 2.0), (1.4, 0.7)
 # up to which part of the time coordinates are tried, made better, priced, and priced again with other parts
 TRIED, BETTER, PRICED, FINE = 0.25, 0.5, 0.7, 0.85
+# the most steps of a controller, where nothing else is asked for
+MOST_STEPS = 20000.0
 # how many choices are made better, and how many priced
 FEW, SOME = 2, 3
 # e times the part of a stage, and e times the steps, are worth so much of the box, as a logarithm; less than so much of a stage, and fewer than so many steps, are worth nothing
@@ -233,19 +235,14 @@ def priced(model: Model, choice: Staying, generate: bool, clock: float) -> Stayi
     return replace(choice, steps=steps, share=share_of(design, steps, model.period, clock))
 
 
-def is_timely(choice: Staying) -> bool:
-    """Whether a run ends within its stage."""
-    return choice.share <= ENOUGH and math.isfinite(choice.steps)
-
-
 # ---- the search
 
 
 class Search:
     """Choices for a model, and the best of them."""
 
-    def __init__(self, model: Model, budget: Budget, generate: bool, clock: float, same: bool = False) -> None:
-        self.model, self.budget, self.generate, self.clock, self.plant = model, budget, generate, clock, plant_of(model)
+    def __init__(self, model: Model, budget: Budget, generate: bool, clock: float, same: bool = False, most: float = MOST_STEPS) -> None:
+        self.model, self.budget, self.generate, self.clock, self.most, self.plant = model, budget, generate, clock, most, plant_of(model)
         # costs beside the model's, and counts of stages; and what served last
         self.others = [] if same else weighings(model, reach_of_inputs(model))
         self.counts = [None] + ([] if same else [-(-model.stages // part) for part in (2, 4) if model.stages >= part])
@@ -365,22 +362,26 @@ class Search:
         best = priced_as(self.weighing, self.stages)
         for stages in self.counts[self.counts.index(self.stages) :]:
             for weighing in [SAME, *self.others]:
-                if is_timely(best) or math.isinf(best.steps) or not self.budget.goes_on(PRICED):
+                if self.is_timely(best) or math.isinf(best.steps) or not self.budget.goes_on(PRICED):
                     break
                 trial = priced_as(weighing, stages)
-                best = trial if trial.share < best.share else best
+                best = trial if trial.steps <= self.most and trial.share < best.share or self.is_timely(trial) else best
         self.weighing, self.stages = best.weighing, best.stages
         return best
 
-    def run(self, most: float) -> dict | None:
-        """The keys of the model with the best choice whose faces are found, of at most so many steps."""
+    def is_timely(self, choice: Staying) -> bool:
+        """Whether a run ends within its stage, and takes no more steps than it may."""
+        return choice.share <= ENOUGH and choice.steps <= self.most
+
+    def run(self) -> dict | None:
+        """The keys of the model with the best choice whose faces are found."""
         found = self.coordinates()
         self.best = found[0] if found else None
         parts = [TRIED + (BETTER - TRIED) * (place + 1) / len(found) for place in range(len(found))]
         found = sorted((self.better(choice, part) for choice, part in zip(found, parts)), key=lambda one: -one.covers)
         for place, choice in enumerate(self.prices(found)):
             # the best is drafted, however late it is
-            if not math.isfinite(choice.worth) or choice.steps > most or (place and not self.budget.goes_on()):
+            if not math.isfinite(choice.worth) or choice.steps > self.most or (place and not self.budget.goes_on()):
                 continue
             say(f"{words_of(self.model, choice)}: {plain(100 * choice.covers)} % of the model's box, {choice.run_words}")
             wide = [replace(choice, stay=choice.wide)] * (choice.stay != choice.wide)
@@ -474,7 +475,7 @@ def limit_words(model: Model, row: int) -> str:
     return f"the limit {in_floats(model).name('stage row', row + 1).word}"
 
 
-def search(model: Model, most: float = 20000.0, seconds: float = 60.0, generate: bool = False, clock: float = 100.0, same: bool = False) -> tuple[dict, bool]:
+def search(model: Model, most: float = MOST_STEPS, seconds: float = 60.0, generate: bool = False, clock: float = 100.0, same: bool = False) -> tuple[dict, bool]:
     """The keys of a model whose design has faces, and whether they hold; else of the best that was seen."""
     if any(model.stay) and found_faces(model, generate):
         say("as it is: the faces hold")
@@ -483,8 +484,8 @@ def search(model: Model, most: float = 20000.0, seconds: float = 60.0, generate:
         say("the model's own limits keep it in the box")
         return model.text, True
     with Budget(seconds) as budget:
-        found = Search(model, budget, generate, clock, same)
-        keys = found.run(most)
+        found = Search(model, budget, generate, clock, same, most)
+        keys = found.run()
     if keys is not None:
         return keys, True
     for words in in_the_way(model, found.plant, found.best):
@@ -503,7 +504,7 @@ def main() -> int:
     parser.add_argument("model", metavar="MODEL")
     parser.add_argument("new", metavar="NEW_MODEL", nargs="?")
     parser.add_argument("--generate", action="store_true")
-    parser.add_argument("--steps", type=several, default=20000, metavar="N")
+    parser.add_argument("--steps", type=several, default=MOST_STEPS, metavar="N")
     parser.add_argument("--clock", type=positive, default=100.0, metavar="MHZ")
     parser.add_argument("--seconds", type=positive, default=60.0, metavar="S")
     parser.add_argument("--same-cost", action="store_true")
