@@ -17,8 +17,8 @@ use Rattle.command_line.proofs.Counts.{rose_later}
 use Rattle.command_line.specs.declared.status.Status.{Status}
 use Rattle.command_line.specs.declared.status.Status.TheVariants.{Memory, WriteFault, Refused, OutsideBox}
 use Rattle.qp_model.specs.declared.refusal.Refusal.TheVariants.{TooWide}
-use Rattle.command_loop.specs.Loop.{Course, AllStay, FitsTurn, TellsLeavingLater, record_lines}
-use Rattle.command_loop.specs.Printing.{loop_status, RecordShows, IsBeforeLines, LoopsEnd, LoopsPrint}
+use Rattle.command_loop.specs.Loop.{Course, AllStay, FitsTurn, TellsLeavingLater, LoopsPrint, record_lines}
+use Rattle.command_loop.specs.Printing.{loop_status, RecordShows, IsBeforeLines, LoopsEnd}
 
 -- `turn` is within its limit where a loop is not refused for it
 pub narrow : (size : ℕ) (r : Result (Unit {0}) LoopFault) → ((quantity : Quantity) → (r ≡ Err (faults.TooWide quantity)) ↔ ((quantity ≡ Turn) × (2 ^ 126 < size))) →

@@ -2,14 +2,14 @@ use Rattle.std.proofs.Common.{inr, refl, le_refl}
 use Rattle.qp_model.specs.problem.Parts.{design_of}
 use Rattle.settle_check.specs.CertificateText.{certificate_numbers}
 use Rattle.command_settle.proofs.Answering.{put_ends, put_prints, put_or_not, untold_ends, untold_prints, untold_fault}
-use Rattle.command_settle.proofs.command.print_settled.Goals as goal
+use Rattle.command_settle.proofs.printing.print_settled.Goals as goal
 
 pub returns-in-Ok : goal.returns-in-Ok
 returns-in-Ok g c =
-    let d = design_of c.args.s.now.design in
-    let n = c.args.s.now.controller in
-    let f = certificate_numbers c.args.s.now.under.certificate in
-    let range = c.args.s.now.under.range in
+    let d = design_of c.args.design.now in
+    let n = c.args.controller.now in
+    let f = certificate_numbers c.args.certificate.now in
+    let range = c.args.range.now in
     let told = c.in-Ok.ensures in
     let put = rw c.deref.ensures.value at c.put_text.ensures in
     let s = c.put_text.result in
@@ -24,10 +24,10 @@ returns-in-Ok g c =
 
 pub returns-in-Err : goal.returns-in-Err
 returns-in-Err g c =
-    let d = design_of c.args.s.now.design in
-    let n = c.args.s.now.controller in
-    let f = certificate_numbers c.args.s.now.under.certificate in
-    let range = c.args.s.now.under.range in
+    let d = design_of c.args.design.now in
+    let n = c.args.controller.now in
+    let f = certificate_numbers c.args.certificate.now in
+    let range = c.args.range.now in
     let s = c.in-Err.status in
     let ends = c.in-Err.ensures.ends in
     record {
