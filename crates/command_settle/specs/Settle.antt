@@ -10,9 +10,9 @@ use Rattle.qp_model.specs.declared.design_parts.DesignParts.{DesignParts}
 use Rattle.qp_model.specs.declared.quantity.Quantity.TheVariants as quantities
 use Rattle.qp_model.specs.declared.refusal.Refusal.TheVariants.{TooWide}
 use Rattle.settle_check.specs.Still.{Box, box_of}
-use Rattle.settle_check.specs.Settling.{LoopsSettle, settled_box}
+use Rattle.settle_check.specs.Settling.{LoopsSettle, settled_box, told_rows, cost_box}
 use Rattle.settle_check.specs.Settles.{PassesSettling, IsSettleFault}
-use Rattle.settle_check.specs.CertificateText.{CertificateNumbers, certificate_in}
+use Rattle.settle_check.specs.CertificateText.{CertificateNumbers, box_in, certificate_in}
 use Rattle.settle_check.specs.declared.fault.SettleFault.{SettleFault}
 use Rattle.settle_check.specs.declared.fault.SettleFault.TheVariants as faults
 use Rattle.command_line.specs.Limit.{file_limit}
@@ -71,11 +71,15 @@ pub record OfCertificate (disturbed : Bool) (contents : Contents) (P : Design �
 abbrev pub told_box : Design → Numbers → CertificateNumbers → (range : Matrix) → Box
 told_box d c f range = settled_box d c (range_box range) (certificate_in f)
 
+-- and where the rows of the cost lie that the certificate tells
+abbrev pub told_costs : Design → Numbers → CertificateNumbers → (range : Matrix) → Box
+told_costs d c f range = cost_box d c (box_in f.still) (range_box range) f.after
+
 abbrev pub told_text : Design → Numbers → CertificateNumbers → (range : Matrix) → List ℕ
-told_text d c f range = settled_text f.turns d.states (told_box d c f range)
+told_text d c f range = settled_text f.turns d.states (told_box d c f range) f.after (told_rows d f.after) (told_costs d c f range)
 
 -- Every closed loop of the plant and the controller from the start box, under every list of shifts of the range, lies at each turn in the box where no
--- multiplier moves, and from the printed turn on in the printed box.
+-- multiplier moves, and from the printed turn on in the printed box; and what is printed of a row of the cost holds from the turn on that is printed with it.
 pub record IsToldSettled (d : Design) (c : Numbers) (f : CertificateNumbers) (range : Matrix) (old new : List ℕ) : Type 0 where
   pub settles : LoopsSettle d c (range_box range) (certificate_in f)
   pub printed : new ≡ old ++ told_text d c f range

@@ -47,7 +47,8 @@ fn certificate_for(
     controller: &Controller,
 ) -> Result<CertificateParts, TextFault>
     requires { length bytes.now < 2 ^ 32 }
-    ensures found { IfOk result (λ p. IsCertificateText bytes.now controller.now.states (box_of controller.now.low controller.now.high) (certificate_numbers p)) }
+    ensures found { IfOk result (λ p.
+        IsCertificateText bytes.now controller.now.states (box_of controller.now.low controller.now.high) (certificate_numbers p)) }
     ensures sized { IfOk result (IsCertificateFor controller.now.states) }
     ensures fault { IfErr result (λ e. (e ≡ Memory)
         ⊎ IsCertificateFault bytes.now controller.now.states (box_of controller.now.low controller.now.high) e) }
