@@ -78,6 +78,15 @@ class Costs(unittest.TestCase):
         self.assertEqual(told, self.written("The first answer takes 7 minutes."))
         self.assertEqual(page.first_line(page.with_first(told, "The first answer takes 6 minutes.")), "The first answer takes 6 minutes.")
 
+    def test_rows_of_more_than_one_run(self):
+        """What was measured stays, what is gone falls away, and what is new has an empty row."""
+        costs = page.rows_in(self.written())
+        self.assertEqual(costs, {"low": page.Cost(30, 0, 2, 61, 0.7), "mid": page.Cost(121, 0, 0, 0, 1.5), "trials_low": page.Cost(3, 181, 0, 0, 2)})
+        told = page.renewed({"low": costs["low"], "new": page.Cost(), "mid": page.Cost(100, memory=1)}, (130, ["low", "mid"]), "The first answer takes 7 minutes.", "Of two runs.", 1)
+        self.assertEqual(told.split("\n")[-4:], ["| `low` | 30 |  | 2 | 61 | 0.7 | 0 |", "| `new` |  |  |  |  |  | 0 |", "| `mid` | 100 |  |  |  | 1.0 | 0 |", ""])
+        for words in ("one check in GB. Of two runs.\n", "Of 3 crates 2 were measured: their proofs take 2 processor minutes", "Not measured: `new`.", "is 2.2 minutes: `low`, `mid`.\nThe first answer takes 7"):
+            self.assertIn(words, told)
+
     def test_pace(self):
         """Twice the marks' time for the three crates is a pace of 2, and what is measured is told beside its mark at that pace."""
         seconds = {name: 2 * mark for name, mark in page.PACE.items()}
@@ -89,7 +98,9 @@ class Costs(unittest.TestCase):
     def test_the_page_has_the_form(self):
         text = page.read(os.path.join(TOP, "bench", "gate", "COSTS.md"))
         self.assertTrue(text.startswith(page.HEAD) and page.first_line(text))
-        self.assertGreater(len(re.findall(r"^\| `[a-z_]+` \|(?: [*0-9]* \|){4} [0-9.]+ \| [0-9]+ \|$", text, re.M)), 60)
+        rows = re.findall(r"^\| `([a-z_]+)` \|(?: [*0-9]* \|){4} [0-9.]* \| [0-9]+ \|$", text, re.M)
+        with open(os.path.join(TOP, "crates.txt"), encoding="utf-8") as file:
+            self.assertEqual(sorted(rows), sorted(re.findall(r"^([a-z]\w*)[^:\n]*:", file.read(), re.M)))
 
 
 if __name__ == "__main__":
