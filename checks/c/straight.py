@@ -92,7 +92,7 @@ def controllers(paths, count, r):
 
 
 def main():
-    parser = argparse.ArgumentParser(prog="checks/c/straight.py", description=__doc__, formatter_class=argparse.RawDescriptionHelpFormatter)
+    parser = argparse.ArgumentParser(prog="python3 -m checks.c.straight", description=__doc__, formatter_class=argparse.RawDescriptionHelpFormatter)
     parser.add_argument("program")
     parser.add_argument("controllers", nargs="*")
     parser.add_argument("--count", type=int, default=30)
