@@ -158,14 +158,19 @@ def c_texts(name: str, found: Mapping[str, tuple[str, str]]) -> tuple[str, str]:
     return text.header(header_notes(text, found["controller"][0], report, design)), source
 
 
+def check_name(name: str) -> None:
+    """A refusal of what is no name of a controller's C."""
+    if not re.fullmatch(r"[a-z][a-z0-9_]{0,15}", name) or name in TAKEN:
+        raise Refusal(f"{name}: the name should be a small letter and up to 15 small letters, digits and _, and not that of a header of C")
+
+
 def main() -> int:
     parser = Parser(__doc__, prog="./mpc c", usage="./mpc c CONTROLLER [REPORT] [DESIGN] --name NAME --out FOLDER")
     parser.add_argument("files", nargs="+", metavar="FILE")
     parser.add_argument("--name", required=True)
     parser.add_argument("--out", required=True)
     given = parser.parse_args()
-    if not re.fullmatch(r"[a-z][a-z0-9_]{0,15}", given.name) or given.name in TAKEN:
-        raise Refusal(f"{given.name}: the name should be a small letter and up to 15 small letters, digits and _, and not that of a header of C")
+    check_name(given.name)
     if not os.path.isdir(given.out):
         raise Refusal(f"{given.out}: there is no such folder")
     header, source = (os.path.join(given.out, given.name + end) for end in (".h", ".c"))

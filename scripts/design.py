@@ -1,9 +1,10 @@
 """From a model to a controller that is judged: each step shown as the command that it runs, so that you can go on by hand where you like.
 
-    ./mpc design MODEL FOLDER [--as-it-is | --stay] [--generate] [--gap PART] [--turns N] [--seconds S] [--corners N] [--random N] [--states N] [--seed N]
+    ./mpc design MODEL FOLDER [--as-it-is | --stay] [--same-cost] [--generate] [--gap PART] [--turns N] [--seconds S] [--corners N] [--random N] [--states N] [--seed N]
 
 In FOLDER, which is made where it isn't there, stand then
 
+    covered.toml      the model with a box that holds its starts, where half-planes say which these are (`region`, ./mpc regions)
     fitted.toml       the model in coordinates and a box in which its loops stay (./mpc coordinates), or the best that was seen; with --as-it-is MODEL itself is taken
     design.toml       the design (./mpc draft)
     policy.csv        a plan for each corner, and reference.csv the best ones without limits (./mpc policy --lean)
@@ -26,6 +27,7 @@ and where the model's `[box]` has `disturbed`, range.csv is the range of it unde
     --generate    makes the controller that keeps far from its limits, by `generate` or `stay`: of more steps, mostly far more, and with real violations far below the printed ones
     --as-it-is    takes the model's own coordinates and box, whatever its loops do
     --stay        searches limits on the next state, coordinates and a box for which faces hold
+    --same-cost   keeps the model's cost and stages where no loop is to leave the box and a run would take longer than a stage, in place of trying others
     --gap PART    the gap target, as a part of the greatest cost (0.1)
     --turns N     so many turns a loop (50)
     --seconds S   how long coordinates and a box are searched at most (60); Ctrl-C ends the search before, and what is best so far is taken
@@ -41,6 +43,7 @@ import sys
 import tempfile
 import time
 from argparse import Namespace
+from collections.abc import Callable
 from dataclasses import dataclass
 from typing import IO
 
@@ -51,12 +54,12 @@ from .common import files, usage
 from .common.arguments import Parser, count, positive, turns
 from .common.design_text import read_design
 from .common.launcher import LAUNCHER
-from .common.models import grid_disturbances, read_model
+from .common.models import Model, grid_disturbances, read_model
 
 MADE = ["fitted.toml", "design.toml", "policy.csv", "reference.csv", "controller.txt", "report.txt", "states.csv", "loop.txt", "exact.txt", "loop.svg", "judged.txt", "explained.txt", "report.html"]
 STAYS = ["faces.csv", "disturbances.csv"]
 SETTLES = ["settle.csv", "settled.txt"]
-RANGE = "range.csv"
+RANGE, COVERED = "range.csv", "covered.toml"
 LEFT_THE_BOX = 12
 
 
@@ -123,12 +126,21 @@ def fitted(steps: Steps, model: str, given: Namespace, stays: bool) -> str:
         return model
     seconds, path = ["--seconds", str(given.seconds)], steps.path("fitted.toml")
     if stays:
-        steps.must("staying", model, path, *(["--generate"] if given.generate else []), *seconds)
+        options = [option for option, asked in (("--generate", given.generate), ("--same-cost", given.same_cost)) if asked]
+        steps.must("staying", model, path, *options, *seconds)
         return path
     step = steps.run("coordinates", model, path, "--turns", str(given.turns), *seconds)
     if step.status not in (0, LEFT_THE_BOX):
         raise Refusal(f"./mpc coordinates ended with status {step.status}: what stands above says why", step.status)
     return path
+
+
+def covering(steps: Steps, model: str, given: Namespace) -> str:
+    """The model with a box that holds its starts, where these are no box."""
+    if given.as_it_is or not says(model, lambda found: found.text.get("region")):
+        return model
+    steps.must("regions", model, steps.path(COVERED))
+    return steps.path(COVERED)
 
 
 def make(steps: Steps, model: str, given: Namespace, stays: bool) -> None:
@@ -230,10 +242,10 @@ def looped(design: str, controller: str, starts: list[str], count: int) -> tuple
     return got.returncode, got.stdout.splitlines()
 
 
-def asks_to_stay(path: str) -> bool:
-    """Whether a model's box has limits on the next state; what is wrong with it is said by the step that drafts it."""
+def says(path: str, what: Callable[[Model], object]) -> bool:
+    """Whether a model says something; what is wrong with it is said by the first step that reads it."""
     try:
-        return any(read_model(path).stay)
+        return bool(what(read_model(path)))
     except Refusal:
         return False
 
@@ -245,6 +257,7 @@ def main() -> int:
     either = parser.add_mutually_exclusive_group()
     either.add_argument("--as-it-is", action="store_true")
     either.add_argument("--stay", action="store_true")
+    parser.add_argument("--same-cost", action="store_true")
     parser.add_argument("--generate", action="store_true")
     parser.add_argument("--gap", type=positive, default=0.1, metavar="PART")
     parser.add_argument("--turns", type=turns, default=50, metavar="N")
@@ -254,12 +267,12 @@ def main() -> int:
     parser.add_argument("--seed", type=int, default=1, metavar="N")
     given = parser.parse_args()
     steps = Steps(given.folder)
-    files.keep_apart({"MODEL": given.model}, {name: steps.path(name) for name in [*MADE, *STAYS, *SETTLES, RANGE]})
+    files.keep_apart({"MODEL": given.model}, {name: steps.path(name) for name in [*MADE, *STAYS, *SETTLES, RANGE, COVERED]})
     files.read_bytes(given.model)
     os.makedirs(given.folder, exist_ok=True)
-    began, stays = time.monotonic(), given.stay or asks_to_stay(given.model)
+    began, stays = time.monotonic(), given.stay or says(given.model, lambda found: any(found.stay))
     steps.must("outlook", given.model)
-    model = fitted(steps, given.model, given, stays)
+    model = fitted(steps, covering(steps, given.model, given), given, stays)
     make(steps, model, given, stays)
     settled = show(steps, model, given)
     print("\n".join(settled) or "no certificate was found that loops settle: what ./mpc settles says above is in the way")

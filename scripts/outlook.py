@@ -1,4 +1,4 @@
-"""Says within seconds what can be said of a model before anything is searched: its units, the poles and the growth of a stage, whether each corner of the box has a plan, and sizes.
+"""Says within seconds what can be said of a model before anything is searched: its units, the poles and the growth of a stage, whether each corner of the box has a plan, what a run takes, and sizes.
 
     ./mpc outlook MODEL
 
@@ -16,8 +16,12 @@ from .common.arguments import Parser
 from .common.design_text import Design, plain
 from .common.models import Model, poles_of, read_model
 from .common.programs import Programs
+from .common.run_costs import weighings
 from .draft import choices, corner_plans, in_floats, too_wide, whole
+from .staying import ENOUGH, reach_of_inputs, share_of, steps_of
 
+# MHz
+CLOCK = 100.0
 # what is left of a state after a stage where a period is odd; and where others add up
 LEFT, NOTHING = 0.02, 1e-6
 
@@ -59,6 +63,25 @@ def size_words(model: Model, exact: Design) -> list[str]:
     return [f"a plant over {first[0]} with numbers that move by at most {plain(100 * first[1])} % {fits}"]
 
 
+def run_words(model: Model, exact: Design) -> list[str]:
+    """About what a run of a lean controller takes of a stage; where it doesn't end in time, a cost by which it does."""
+    told = lambda steps, share: f"K about {steps:.0f}, {plain(float(f'{100 * share:.2g}'))} % of a stage"
+    steps = steps_of(exact, False)
+    share = share_of(exact, steps, model.period, CLOCK)
+    if not math.isfinite(steps):
+        return []
+    if share <= ENOUGH:
+        return [f"a run of a lean controller: {told(steps, share)} of a Cortex-M4 of {plain(CLOCK)} MHz"]
+    reach, words = reach_of_inputs(model), f"warning: a run of a lean controller doesn't end in time: {told(steps, share)} of a Cortex-M4 of {plain(CLOCK)} MHz"
+    for weighing in weighings(model, reach):
+        other = in_floats(Model(model.text | {"cost": weighing.cost(model, model.text, reach)}))
+        fewer = steps_of(other, False)
+        less = share_of(other, fewer, model.period, CLOCK)
+        if less <= ENOUGH:
+            return [f"{words}; with {weighing.words} {told(fewer, less)}"]
+    return [f"{words}; fewer stages, larger tolerances or a smaller box make it less (docs/TARGETS.md)"]
+
+
 def words_of(model: Model):
     yield "1 of the design is " + ", ".join(f"{plain(size)} {unit or 'units'} of {name}" for (name, unit), size in zip(model.names, model.state_units))
     yield "and of its inputs " + ", ".join(f"{plain(size)} {unit or 'units'} of {name}" for (name, unit), size in zip(model.planned_names, model.input_units))
@@ -67,6 +90,7 @@ def words_of(model: Model):
     if not numpy.all(numpy.isfinite(exact.a)):
         return
     yield from corner_words(exact)
+    yield from run_words(model, exact)
     yield from size_words(model, exact)
 
 

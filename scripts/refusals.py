@@ -107,7 +107,7 @@ PLANS = ("policy", "reference", "policies")
 # what the records of a certificate need
 BOXES = (
     "turns from 0 to 4096, and a box whose least numbers aren't above its greatest",
-    "a 0, and a box that is part of the controller's",
+    "turns from 0 to 4096, and a box that is part of the controller's",
     "turns from 1 to 4096",
 )
 # what K is made of, and which policy makes it less

@@ -310,7 +310,7 @@ class Program:
         d, c = self.plant_and_controller()
         s = self.text(3, lambda data: settling.read_certificate(data, settling.Box(c.lo, c.hi)))
         shifts = self.text(4, lambda data: held_boxes.read_shift_box(data, d.states)) if len(self.words) > 4 else [[0] * d.states] * 2
-        for line in settling.lines_of(s, settling.check(d, c, s, settling.Box(*shifts))):
+        for line in settling.lines_of(s, *settling.check(d, c, s, settling.Box(*shifts))):
             self.put(line)
 
     def loop(self):

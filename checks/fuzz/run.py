@@ -359,7 +359,7 @@ class Runner:
         pick, d, c = random.Random(repr(case.files)), model.read_design(case.files["d"]), control.read_controller(case.files["c"])
         s = settling.read_certificate(case.files["s"], settling.Box(c.lo, c.hi))
         shifts = held_boxes.read_shift_box(case.files["w"], d.states) if "w" in case.files else [[0] * d.states] * 2
-        box, starts = settling.check(d, c, s, settling.Box(*shifts)), settle_cases.starts(pick, s.start)
+        (box, costs), starts = settling.check(d, c, s, settling.Box(*shifts)), settle_cases.starts(pick, s.start)
         files = {"d": case.files["d"], "c": case.files["c"], "t": stay_cases.records_text(starts), "v": stay_cases.records_text(stay_cases.shifts_within(pick, *shifts, TURNS))}
         words = ["loop", "d", "c", "t", str(TURNS), "v"]
         self.lay(files)
@@ -370,7 +370,7 @@ class Runner:
             return f"loop: {wrong or ''} of {TURNS * len(starts)} lines there are {len(found)}, and the status is {ran.returncode} {ran.stderr[:200]!r}", []
         for start, turn, *rest in found:
             here = settling.Box(rest[: d.states], rest[: d.states])
-            if not s.still.holds(here) or turn > s.turns and not box.holds(here):
+            if not s.still.holds(here) or turn > s.turns and not box.holds(here) or turn > s.after and not costs.holds(settling.cost_numbers(d, s, here.low)):
                 return f"loop: at turn {turn} of start {start} the state {here.low} is outside", []
         told = f"loops that settle{', under disturbances' if 'w' in case.files else ''}"
         return wrong and f"loop: {wrong}", [told] + [f"its loops: {note}" for note in notes if note == "too long for the model"]

@@ -7,6 +7,9 @@ from collections.abc import Callable
 from typing import NoReturn
 
 PACKAGES = {"numpy": "python3-numpy", "scipy": "python3-scipy", "cvxopt": "python3-cvxopt", "matplotlib": "python3-matplotlib", "jsonschema": "python3-jsonschema"}
+# these matrices are small, and threads for them only wait for each other
+for _name in ("OMP_NUM_THREADS", "OPENBLAS_NUM_THREADS"):
+    os.environ.setdefault(_name, "1")
 SYSTEM = "/usr/bin/python3"
 # names the Python that the launcher runs scripts with; where it is set, no other is tried
 PYTHON = "MPC_PYTHON"

@@ -216,7 +216,7 @@ class WholeWay(unittest.TestCase):
 
     def test_asks_to_stay(self):
         _, paths = folder_with(self, plain=MASS, stays=MASS + "stay = [0.1, 0.0]\n", bad=MASS.replace("period = 0.2", "period = -1"))
-        self.assertEqual([design.asks_to_stay(paths[name]) for name in ("plain", "stays", "bad")], [False, True, False])
+        self.assertEqual([design.says(paths[name], lambda found: any(found.stay)) for name in ("plain", "stays", "bad")], [False, True, False])
 
     @unittest.skipUnless(os.path.exists(os.path.join(TOP, "crates/mpc_cli/out/mpc_cli")), "the program isn't built")
     def test_a_box_that_no_loop_leaves(self):

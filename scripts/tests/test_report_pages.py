@@ -37,6 +37,12 @@ class Pages(unittest.TestCase):
         # nothing is fetched from anywhere
         self.assertNotRegex(text, r'(?:src|href)="http')
 
+    def test_another_cost(self):
+        head = "# a model whose loops never leave the box, by ./mpc staying"
+        self.assertNotIn("asked for", self.warned(fitted_toml=head + "\n"))
+        told = self.warned(fitted_toml=head + "; so that a run ends in time its cost and its stages are not what was asked for\n")
+        self.assertIn("So that a run ends in time its cost and its stages are not what was asked for: what is promised of the cost is promised of this one.", told)
+
     def test_promises_by_row(self):
         # 8850854903808 over 2^40 of 16, in units of 2 N
         self.assertEqual(report_page.limit_rows(report_page.read_folder(self.folder()))[0], ["force above", "32 N", "16.1 N", "50.31 %"])

@@ -10,7 +10,7 @@ from scripts.common import promises
 from scripts.common.design_text import design_of
 from scripts.common.libraries import missing
 from scripts.common.texts import controller_of
-from scripts.common.tubes import Box, Certificate, Loop, Stillness, Tubes, first_fault, settled_box
+from scripts.common.tubes import Box, Certificate, Loop, Stillness, Tubes, cost_box, first_fault, settled_box
 
 from .worked import EXAMPLES, as_command, folder_with
 
@@ -30,7 +30,7 @@ def lean_texts(name):
 
 def as_ours(s):
     box = lambda b: Box(tuple(b.low), tuple(b.high))
-    return Certificate(s.turns, s.back, box(s.start), box(s.still), box(s.rest))
+    return Certificate(s.turns, s.back, box(s.start), box(s.still), box(s.rest), s.after)
 
 
 class Examples(unittest.TestCase):
@@ -85,9 +85,19 @@ class Examples(unittest.TestCase):
         self.settles("satellite/stay", 98, "0.25", 12, shift=(4, 1))
         self.settles("motor/stay", 90, "0.25", 6, shift=(9, 9))
 
-    def test_no_rest(self):
-        with self.assertRaisesRegex(settles.Refusal, "the loop has no one state at which it rests"):
-            self.settles("kiln", 0, "0.05", 0)
+    def test_held_states(self):
+        """A target or a disturbance that is a state: the rows of the cost tell how near to it loops come."""
+        for name, kept, turns, back, after, costs in (("kiln", 0.4, 15, 14, 27, [3]), ("tracking", 1, 11, 1, 24, [7])):
+            design, controller = map(lambda read, text: read(text), (design_of, controller_of), lean_texts(name))
+            still = STILL[: design.states]
+            found = settles.proposed(design, controller, still, still, 1000, settles.RESTS)
+            s, loop = found.certificate, Loop(design, controller, still, still)
+            self.assertEqual((float(found.kept), s.turns, s.back, s.after, list(found.costs.high)), (kept, turns, back, after, costs))
+            self.assertEqual(cost_box(loop, s.still, s.after)[0], found.costs)
+            self.assertIsNone(first_fault(loop, Stillness(controller), s))
+            promise = promises.Promise(s.turns, found.settled, s.after, found.costs)
+            self.assertEqual(promises.promise_of(promises.promise_text(promise), design.states), promise)
+            self.assertEqual(promises.certificate_of(promises.certificate_text(s), design.states), s)
 
 
 class BesideTheModel(unittest.TestCase):
@@ -101,7 +111,7 @@ class BesideTheModel(unittest.TestCase):
                 continue
             design, text, s, shifts = made
             try:
-                box, told = settling.check(model.read_design(design), control.read_controller(text), s, shifts), None
+                (box, costs), told = settling.check(model.read_design(design), control.read_controller(text), s, shifts), None
             except model.Refused as refused:
                 told = (WORDS[refused.args[0]], *(refused.args[1:] if refused.args[0] != 10 else ()))
             ours, c = as_ours(s), controller_of(text.decode())
@@ -111,6 +121,8 @@ class BesideTheModel(unittest.TestCase):
             if told is None:
                 found = settled_box(Tubes(loop, ours.still), ours)
                 self.assertEqual((list(found.low), list(found.high)), (box.low, box.high))
+                rows = cost_box(loop, ours.still, ours.after)[0]
+                self.assertEqual((list(rows.low), list(rows.high)), (costs.low, costs.high))
         self.assertEqual(seen, {None, *WORDS.values()})
 
 
@@ -179,7 +191,7 @@ class Command(unittest.TestCase):
 
     def test_refused(self):
         for name, words, line in (
-            ("kiln", ("s",), "one of its states stands still wherever it is"),
+            ("kiln", ("s", "--within", "0.05"), "loops from within 5 % of the box aren't shown to be back there"),
             ("motor/stay", ("s", "--disturbances", "w"), "after 1000 turns angle in 12 ms may be 0.291 rad"),
             ("motor", ("s", "--within", "0.9"), "a multiplier may move within 90 % of the box: none moves in 87.67 % of it"),
         ):

@@ -7,12 +7,11 @@ use Rattle.command_line.specs.Limit.{file_limit}
 use Rattle.command_line.specs.Answers.{ForContents, IsWrongBy, IsAnswer}
 use Rattle.command_line.specs.Does.{IsTelling}
 use Rattle.command_line.proofs.Composing.{told_at, told, some_contents, for_contents, stop, go_on_whole}
-use Rattle.command_line.proofs.Doing.{done_telling}
+use Rattle.command_line.proofs.Doing.{IsRefusal, done_telling}
 use Rattle.command_line.specs.declared.status.Status.{Status}
 use Rattle.command_line.specs.declared.status.Status.TheVariants.{Done, Memory, TooWideForC}
 use Rattle.command_files.specs.Texts.{ControllerRight, ControllerWrong}
 use Rattle.command_files.specs.Reading.{IsControllerRead, EndsController}
-use Rattle.command_design_files.proofs.Stopping.{IsRefusal}
 use Rattle.command_files.proofs.Stopping.{controller_refused}
 use Rattle.command_generate.specs.Ending.{IsFaultless}
 use Rattle.command_c.specs.Compiled.{program_width, ProgramCalls, CompileCalls}

@@ -8,7 +8,8 @@ use Rattle.cell_file.specs.Text.{IsBadCellsLine, AreUnsafe}
 use Rattle.command_line.specs.Limit.{file_limit, cells_limit}
 use Rattle.command_line.specs.Answers.{IsFileRefused}
 use Rattle.command_line.specs.declared.status.Status.{Status}
-use Rattle.command_design_files.proofs.Stopping.{IsRefusal, long_refusal, controller_refusal, text_refused}
+use Rattle.command_line.proofs.Doing.{IsRefusal}
+use Rattle.command_design_files.proofs.Stopping.{long_refusal, controller_refusal, text_refused}
 use Rattle.command_files.specs.Texts.{ControllerWrong, StatesWrong, CellsWrong, IsFaultBy, ShiftsWrong, FacesWrong, RangeWrong, CutsWrong, CellPoliciesWrong}
 
 -- a fault of a text of controllers isn't that memory ran out

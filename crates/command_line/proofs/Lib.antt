@@ -5,3 +5,8 @@ pub mod OneCommand
 pub mod Counts
 pub mod Results
 pub mod Doing
+-- what follows from the script that a command runs along
+pub mod Gathering
+pub mod Following
+-- beside any output
+pub mod Beside

@@ -6,4 +6,7 @@ pub mod Status
 pub mod StatusLine
 pub mod Answers
 pub mod Deeds
+pub mod Kind
+pub mod Script
 pub mod Does
+pub mod Running

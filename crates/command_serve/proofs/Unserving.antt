@@ -11,7 +11,8 @@ use Rattle.cell_file.specs.Finding.{NoneHolds}
 use Rattle.command_line.specs.declared.status.Status.{Status}
 use Rattle.command_line.specs.declared.status.Status.TheVariants.{OutsideBox}
 use Rattle.command_serve.specs.Served.{IsHeldBySome, AreServed}
-use Rattle.command_serve.specs.Unserved.{IsHeldByNone, IsUnserved, ServedCall}
+use Rattle.command_serve.specs.Unserved.{IsHeldByNone, IsUnserved}
+use Rattle.command_serve.specs.Serve.{serve_act}
 use Rattle.command_serve.proofs.Serving.{none_never}
 
 -- what is found in the first cell's box of a state that no cell's box holds
@@ -39,7 +40,7 @@ module _ (c : Numbers) (cells : List Numbers) (states : Matrix) where
       ]
 
   -- cells and states call for one answer
-  pub one_call : (s t : Status) → ServedCall cells states s → ServedCall cells states t → t ≡ s
+  pub one_call : (s t : Status) → (serve_act cells states).calls s → (serve_act cells states).calls t → t ≡ s
   one_call s t (inl out) (inl other) = one_unserved t s other out
   one_call s t (inl out) (inr all) = absurd (not_served cells states s (length states.rows) out out.there all.1)
   one_call s t (inr all) (inl other) = absurd (not_served cells states t (length states.rows) other other.there all.1)

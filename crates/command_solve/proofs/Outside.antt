@@ -6,7 +6,8 @@ use Rattle.qp_model.specs.machine.Controller.{Numbers}
 use Rattle.qp_model.specs.machine.Machine.{IsAdmissible}
 use Rattle.fixed_kernel.specs.Outside.{IsFirstOutside}
 use Rattle.plan_lines.specs.Inside.{AreInside}
-use Rattle.command_solve.specs.Inside.{IsOutside, RunsCall}
+use Rattle.command_solve.specs.Inside.{IsOutside}
+use Rattle.command_solve.specs.Solve.{solve_act}
 use Rattle.command_line.specs.declared.status.Status.{Status}
 use Rattle.command_line.specs.declared.status.Status.TheVariants.{OutsideBox}
 
@@ -41,7 +42,7 @@ one_outside c states t s out other =
     ∙ ap (λ (k : ℕ). OutsideBox (other.index + 1) 0 k) (one_coordinate c (row_of states other.index) out.coordinate other.coordinate moved other.here) ∙ sym other.is
 
 -- a controller and states call for one answer
-pub one_call : (c : Numbers) (states : Matrix) (s t : Status) → RunsCall c states s → RunsCall c states t → t ≡ s
+pub one_call : (c : Numbers) (states : Matrix) (s t : Status) → (solve_act c states).calls s → (solve_act c states).calls t → t ≡ s
 one_call c states s t (inl out) (inl other) = one_outside c states t s other out
 one_call c states s t (inl out) (inr all) = absurd (not_inside c states s (length states.rows) out out.there all.1)
 one_call c states s t (inr all) (inl other) = absurd (not_inside c states t (length states.rows) other other.there all.1)

@@ -1,4 +1,3 @@
-pub mod Solve
 pub mod Inside
-pub mod Printing
+pub mod Solve
 pub mod Deeds

@@ -103,7 +103,7 @@ residual_averaged d h c xi n i =
     ∙ (scaling_law d (part h c n) (pos (average_denominator c)) (at xi) (at (averaged_plan c xi))).residuals i
 
 -- a sum of squares of multiples
-squares_scaled : (m : ℕ) (s : ℕ → ℤ) (a : ℤ) (w : ℕ → ℤ) → total m (λ i. s i *ℤ square (a *ℤ w i)) ≡ square a *ℤ total m (λ i. s i *ℤ square (w i))
+pub squares_scaled : (m : ℕ) (s : ℕ → ℤ) (a : ℤ) (w : ℕ → ℤ) → total m (λ i. s i *ℤ square (a *ℤ w i)) ≡ square a *ℤ total m (λ i. s i *ℤ square (w i))
 squares_scaled m s a w = total_same m _ _ (λ i l. apart (s i) a (w i)) ∙ total_scale m (square a) (λ i. s i *ℤ square (w i))
   where
     apart : (s a w : ℤ) → s *ℤ square (a *ℤ w) ≡ square a *ℤ (s *ℤ square w)

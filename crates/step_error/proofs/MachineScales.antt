@@ -21,7 +21,7 @@ use Rattle.qp_model.specs.problem.Sound.{IsSound}
 use Rattle.qp_model.specs.form.Quantities.{input_floor}
 use Rattle.qp_model.specs.machine.Controller.{Numbers}
 use Rattle.qp_model.specs.form.Form.{Form, IsFormFor}
-use Rattle.qp_model.specs.bounds.Errors.{gradient_squares, first_cost, radius_error, residual_error, row_radii, ErrorSums, error_sums_of, StepErrors, cost_of_errors}
+use Rattle.qp_model.specs.bounds.Errors.{gradient_squares, first_cost, radius_error, residual_error, row_radii, ErrorSums, error_sums_of, errors_cost, StepErrors, cost_of_errors}
 use Rattle.qp_model.proofs.ScalingLaws.{scaling_law}
 use Rattle.step_error.specs.Carried.{Misses}
 use Rattle.step_error.specs.MachineLaws.{machine_scale, row_radius}
@@ -67,8 +67,10 @@ misses_are n g m s k f t radius h =
 abbrev pub most_over : Form → Numbers → ℕ → ℕ → ℤ
 most_over h c n most = pos most *ℤ (pos 2 *ℤ (pos (2 ^ c.fraction_bits) *ℤ (pos (2 ^ c.step_exponent) *ℤ (pos h.rows_scale *ℤ pos n))))
 
-module _ (d : Design) (h : Form) (r : ℕ) (c : Numbers) (e : StepErrors) (most n : ℕ) (well : IsSound d (input_floor d)) (form : IsFormFor d h)
-    (cheap : cost_of_errors d h r c.fraction_bits e ≤ most) where
+-- those of the gradient count by a weight, and cost `first` over 4^fraction_bits
+module _ (d : Design) (h : Form) (r : ℕ) (c : Numbers) (e : StepErrors) (most n weight first : ℕ) (well : IsSound d (input_floor d)) (form : IsFormFor d h)
+    (squares : weight * gradient_squares d e.gradient ≤ 2 * input_floor d * first)
+    (cheap : errors_cost (record (error_sums_of d h r) { weight_scale = weight }) first e.plan c.fraction_bits ≤ most) where
   abbrev sums : ErrorSums
   sums = error_sums_of d h r
 
@@ -87,22 +89,22 @@ module _ (d : Design) (h : Form) (r : ℕ) (c : Numbers) (e : StepErrors) (most 
 
   -- their four sums are at most `most`
   sums_bounded :
-      d.cost_denominator * amount (entries d) (λ j. (2 * h.rows_scale * (2 ^ c.step_exponent * n) * (2 ^ 40 * e.gradient j + 2 ^ c.fraction_bits * radius_error sums e.plan)) ^ 2) +
+      weight * amount (entries d) (λ j. (2 * h.rows_scale * (2 ^ c.step_exponent * n) * (2 ^ 40 * e.gradient j + 2 ^ c.fraction_bits * radius_error sums e.plan)) ^ 2) +
       2 * input_floor d * (2 * r * (2 * 2 ^ c.fraction_bits * 2 ^ 40 * h.rows_scale * (2 ^ c.step_exponent * n))) *
       (2 ^ 40 * (2 ^ c.step_exponent * n) * (rows d * h.rows_scale * residual_error sums e.plan + 2 * 2 ^ c.fraction_bits * row_radii sums e.plan)) ≤
       2 * input_floor d * (2 * 2 ^ c.fraction_bits * 2 ^ 40 * h.rows_scale * (2 ^ c.step_exponent * n)) * (most * (2 * 2 ^ c.fraction_bits * h.rows_scale * (2 ^ c.step_exponent * n)))
   sums_bounded =
       through (2 * input_floor d * (2 * 2 ^ c.fraction_bits * 2 ^ 40 * h.rows_scale * (2 ^ c.step_exponent * n))) (2 * 2 ^ c.fraction_bits * h.rows_scale * (2 ^ c.step_exponent * n)) cheap
-      (laws.epsilon missed d.cost_denominator (input_floor d) (2 * r) c.fraction_bits (first_cost d e.gradient)
-      (ceil_div (h.spread * 2 ^ 40 * first_cost d e.gradient) (4 ^ c.fraction_bits))
+      (laws.epsilon missed weight (input_floor d) (2 * r) c.fraction_bits first
+      (ceil_div (h.spread * 2 ^ 40 * first) (4 ^ c.fraction_bits))
       (ceil_div (2 ^ 40 * sums.top_rows * residual_error sums e.plan) (2 ^ (c.fraction_bits + 1)))
-      (ceil_div (sums.plan_entries * sums.weight_scale * radius_error sums e.plan ^ 2) (2 ^ 40 * sums.rho))
+      (ceil_div (sums.plan_entries * weight * radius_error sums e.plan ^ 2) (2 ^ 40 * sums.rho))
       (ceil_div (sums.top * row_radii sums e.plan) sums.row_scale) (2 ^ c.step_exponent * n)
       (record {
-        squares = le-mul-ceil_div (d.cost_denominator * gradient_squares d e.gradient) (2 * input_floor d) (let o = well.rho_positive in omega (arith, o));
-        gradients = le-mul-ceil_div (h.spread * 2 ^ 40 * first_cost d e.gradient) (4 ^ c.fraction_bits) (pow_positive 4 c.fraction_bits (omega arith));
+        squares = squares;
+        gradients = le-mul-ceil_div (h.spread * 2 ^ 40 * first) (4 ^ c.fraction_bits) (pow_positive 4 c.fraction_bits (omega arith));
         residuals = le-mul-ceil_div (2 ^ 40 * sums.top_rows * residual_error sums e.plan) (2 ^ (c.fraction_bits + 1)) (pow_positive 2 (c.fraction_bits + 1) (omega arith));
-        gradient_radii = le-mul-ceil_div (sums.plan_entries * sums.weight_scale * radius_error sums e.plan ^ 2) (2 ^ 40 * sums.rho) (scaled (input_floor d) well.rho_positive);
+        gradient_radii = le-mul-ceil_div (sums.plan_entries * weight * radius_error sums e.plan ^ 2) (2 ^ 40 * sums.rho) (scaled (input_floor d) well.rho_positive);
         residual_radii = residual_radius d h r e.plan well form;
       }))
     where
@@ -112,12 +114,12 @@ module _ (d : Design) (h : Form) (r : ℕ) (c : Numbers) (e : StepErrors) (most 
       scaled : (n : ℕ) → 1 ≤ n → 0 < 2 ^ 40 * n
       scaled n k = omega (arith, k)
 
-  pub errors_are :
-      (pos d.cost_denominator *ℤ total (entries d) (λ j. square (gradient_over d h r c e n j)) +ℤ
+  pub errors_by :
+      (pos weight *ℤ total (entries d) (λ j. square (gradient_over d h r c e n j)) +ℤ
       pos 2 *ℤ pos (input_floor d) *ℤ (pos (2 * r) *ℤ scale_over c (units h n)) *ℤ total (rows d) (misses_over d h r c e n)) ≤ℤ
       (pos 2 *ℤ pos (input_floor d) *ℤ scale_over c (units h n) *ℤ most_over h c n most)
-  errors_are =
-      closed (pos d.cost_denominator) (pos (input_floor d)) (pos (2 * r)) (pos most) (pos (2 ^ 40)) (pos h.rows_scale) (pos n)
+  errors_by =
+      closed (pos weight) (pos (input_floor d)) (pos (2 * r)) (pos most) (pos (2 ^ 40)) (pos h.rows_scale) (pos n)
       (pos (2 ^ c.fraction_bits)) (pos (2 ^ c.step_exponent)) _ _ (scale_is c.fraction_bits c.step_exponent)
       (squares_are (entries d) h.rows_scale n c.fraction_bits c.step_exponent (radius_error sums e.plan) e.gradient)
       (misses_are (rows d) h.rows_scale n c.step_exponent (residual_error sums e.plan) c.fraction_bits (row_radii sums e.plan) (row_radius d h e.plan)
@@ -131,6 +133,15 @@ module _ (d : Design) (h : Form) (r : ℕ) (c : Numbers) (e : StepErrors) (most 
           (pos 2 *ℤ o *ℤ (pos 2 *ℤ (p *ℤ (g *ℤ n)) *ℤ m) *ℤ (z *ℤ (pos 2 *ℤ (f *ℤ (s *ℤ (g *ℤ n))))))
       closed w o t z p g n f s x y i j k l = rw (i, j, k) (le_by l
           (by_ring (w ∷ o ∷ t ∷ z ∷ p ∷ g ∷ n ∷ f ∷ s ∷ x ∷ y ∷ []) (search quotes depth 90 fits 20000) refl))
+
+-- each by what the weights are over
+pub errors_are : (d : Design) (h : Form) (r : ℕ) (c : Numbers) (e : StepErrors) (most n : ℕ) → IsSound d (input_floor d) → IsFormFor d h → cost_of_errors d h r c.fraction_bits e ≤ most →
+    (pos d.cost_denominator *ℤ total (entries d) (λ j. square (gradient_over d h r c e n j)) +ℤ
+    pos 2 *ℤ pos (input_floor d) *ℤ (pos (2 * r) *ℤ scale_over c (units h n)) *ℤ total (rows d) (misses_over d h r c e n)) ≤ℤ
+    (pos 2 *ℤ pos (input_floor d) *ℤ scale_over c (units h n) *ℤ most_over h c n most)
+errors_are d h r c e most n well form cheap =
+    errors_by d h r c e most n d.cost_denominator (first_cost d e.gradient) well form
+    (le-mul-ceil_div (d.cost_denominator * gradient_squares d e.gradient) (2 * input_floor d) (let o = well.rho_positive in omega (arith, o))) cheap
 
 -- ---- one denominator for all
 -- 2 * 2^40 * rows_scale * n times the machine's scale; and what plans and multipliers over n are times

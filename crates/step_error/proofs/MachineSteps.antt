@@ -59,7 +59,7 @@ misses_over d h r c e n i = pos (2 ^ 40) *ℤ pos n *ℤ pos (2 ^ c.step_exponen
 
 -- ---- factors
 -- the slant of numbers times a factor
-slant_scaled : (d : Design) (k : Condensed) (a q : ℤ) (xi u y : ℕ → ℤ) (j : ℕ) →
+pub slant_scaled : (d : Design) (k : Condensed) (a q : ℤ) (xi u y : ℕ → ℤ) (j : ℕ) →
     slant d k (a *ℤ q) xi (λ j. a *ℤ u j) (λ i. a *ℤ y i) j ≡ a *ℤ slant d k q xi u y j
 slant_scaled d k a q xi u y j = closed a q (pos (residual_scale d)) (pos (cost_scale d)) (pos (4 ^ d.grid)) (pos (2 ^ d.grid))
     (image (entries d) k.hessian u j) (slope_at d k xi j) (coimage (rows d) k.by_plan y j)

@@ -42,7 +42,7 @@ box_reach d xi i inside h =
     between low x high h l = omega (arith, ints, h, l)
 
 -- the same over 2^fraction_bits
-state_reach : (d : Design) (f : ℕ) (xi : ℕ → ℤ) (i : ℕ) → d.grid ≤ f → IsGridState d xi → i < d.states →
+pub state_reach : (d : Design) (f : ℕ) (xi : ℕ → ℤ) (i : ℕ) → d.grid ≤ f → IsGridState d xi → i < d.states →
     unsigned_abs (xi i *ℤ pos (2 ^ (f - d.grid))) ≤ state_bound d * 2 ^ f
 state_reach d f xi i le inside h =
     let split : 2 ^ f ≡ 2 ^ d.grid * 2 ^ (f - d.grid) =

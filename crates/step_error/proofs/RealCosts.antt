@@ -63,7 +63,7 @@ module _ (p : DesignParts) (h : Form) (r f : ℕ) (x : ℕ → ℕ → ℤ) (des
           (λ t. form.encloses.state_count t * state_bound d + 1 + form.encloses.row_count t * (2 * r))
 
 -- ---- the law
-real_gradient_le : (p : DesignParts) (h : Form) (r : ℕ) (c : Numbers) → IsDesign p → IsFormFor (design_of p) h → IsDerivedFrom (design_of p) h r c →
+pub real_gradient_le : (p : DesignParts) (h : Form) (r : ℕ) (c : Numbers) → IsDesign p → IsFormFor (design_of p) h → IsDerivedFrom (design_of p) h r c →
     (j : ℕ) → j < entries (design_of p) → real_gradient (design_of p) h r c j ≤ gradient_error (design_of p) h r j
 real_gradient_le p h r c design form made j l =
     lesser (has_residual_room (design_of p) h r) (missed_gradient_le p h r c.fraction_bits (gain_column c) design form made.gains j l)
@@ -72,7 +72,7 @@ real_gradient_le p h r c design form made j l =
     lesser true {x} {y} h = h
     lesser false {x} {y} h = omega arith
 
-plan_le : (d : Design) (h : Form) (r : ℕ) (c : Numbers) → real_plan d h r c ≤ plan_bound (error_sums_of d h r) c.fraction_bits
+pub plan_le : (d : Design) (h : Form) (r : ℕ) (c : Numbers) → real_plan d h r c ≤ plan_bound (error_sums_of d h r) c.fraction_bits
 plan_le d h r c = omega arith
 
 pub cost : RealCostLaw

@@ -34,20 +34,20 @@ use Rattle.step_error.proofs.GainErrors.{real_middle}
 
 -- ---- choices
 -- of two errors
-chosen : (d : Design) (h : Form) (c : Numbers) (x l : List ℤ) (b : Bool) (e f : ℕ → ℕ) → IsMiddle d h c x l e → IsMiddle d h c x l f →
+pub chosen : (d : Design) (h : Form) (c : Numbers) (x l : List ℤ) (b : Bool) (e f : ℕ → ℕ) → IsMiddle d h c x l e → IsMiddle d h c x l f →
     IsMiddle d h c x l (λ j. if b then e j else f j)
 chosen d h c x l true e f he hf = he
 chosen d h c x l false e f he hf = hf
 
 -- of two bounds
-lesser : (t a b m : ℕ) → t ≤ a * m → t ≤ b * m → t ≤ min a b * m
+pub lesser : (t a b m : ℕ) → t ≤ a * m → t ≤ b * m → t ≤ min a b * m
 lesser t a b m h k = elim (cases_lt a b) [
   | inl o ↦ (let e : min a b ≡ a = omega (arith, o) in rw e h)
   | inr o ↦ (let e : min a b ≡ b = omega (arith, o) in rw e k)
 ]
 
 -- a number of a list, by the greatest
-greatest_at : (t m : ℕ) (xs : List ℕ) (i : ℕ) → 0 < m → t ≤ get_or xs i 0 → t ≤ ceil_div (greatest_of xs) m * m
+pub greatest_at : (t m : ℕ) (xs : List ℕ) (i : ℕ) → 0 < m → t ≤ get_or xs i 0 → t ≤ ceil_div (greatest_of xs) m * m
 greatest_at t m xs i p h = omega (arith, h, get_or-le-greatest xs i, le-mul-ceil_div (greatest_of xs) m p)
 
 -- ---- a step

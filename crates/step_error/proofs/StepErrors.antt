@@ -26,14 +26,14 @@ use Rattle.step_error.proofs.Plans.{plan_small}
 use Rattle.step_error.proofs.Magnitudes.{loaded_is, multipliers_box, reached}
 
 -- ---- plans with the same entries
-slant_same : (d : Design) (k : Condensed) (q : ℤ) (xi u v y : ℕ → ℤ) (j : ℕ) → ((i : ℕ) → i < entries d → u i ≡ v i) →
+pub slant_same : (d : Design) (k : Condensed) (q : ℤ) (xi u v y : ℕ → ℤ) (j : ℕ) → ((i : ℕ) → i < entries d → u i ≡ v i) →
     slant d k q xi u y j ≡ slant d k q xi v y j
 slant_same d k q xi u v y j h =
     ap (λ (z : ℤ). pos (residual_scale d) *ℤ (pos (4 ^ d.grid) *ℤ z +ℤ (pos (2 ^ d.grid) *ℤ q) *ℤ slope_at d k xi j) +ℤ
     pos (cost_scale d) *ℤ (pos (2 ^ d.grid) *ℤ coimage (rows d) k.by_plan y j))
     (image_same (entries d) k.hessian u v j h)
 
-residual_same : (d : Design) (k : Condensed) → IsCondensed d k → (q : ℤ) (xi u v : ℕ → ℤ) (i : ℕ) → i < rows d → ((j : ℕ) → j < entries d → u j ≡ v j) →
+pub residual_same : (d : Design) (k : Condensed) → IsCondensed d k → (q : ℤ) (xi u v : ℕ → ℤ) (i : ℕ) → i < rows d → ((j : ℕ) → j < entries d → u j ≡ v j) →
     residual d q xi u i ≡ residual d q xi v i
 residual_same d k condensed q xi u v i inside h =
     condensed.rows q xi u i inside

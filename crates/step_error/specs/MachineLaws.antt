@@ -104,17 +104,19 @@ StatedStepLaw = (p : DesignParts) (h : Form) (r : ℕ) (c : Numbers) (xi : List 
     MachineStepBound (design_of p) c xi k q t w (epsilon (error_sums_of (design_of p) h r) c.fraction_bits)
 
 -- ---- a whole run
--- V(avg) + w'c(avg) ≤ V(t) + sum 2^s_i w_i^2 / (2 K) + cost / 2^40, for the averaged plan, the multipliers w and the plan t over q; times
--- 2^41 K cost_scale residual_scale q^2 (K 2^fraction_bits)^2
+-- V(u) + w'c(u) ≤ V(t) + sum 2^e_i w_i^2 / (2 n) + cost / 2^40, for a plan u over a, the multipliers w and the plan t over q; times
+-- 2^41 n cost_scale residual_scale q^2 a^2
+abbrev pub BoundsPlan : (d : Design) (xi : ℕ → ℤ) (n : ℕ) (exponent : ℕ → ℕ) (a : ℤ) (u : ℕ → ℤ) (q : ℤ) (t w : ℕ → ℤ) (cost : ℕ) → Type 0
+BoundsPlan d xi n exponent a u q t w most =
+    (pos (2 ^ 41) *ℤ pos n *ℤ pos (residual_scale d) *ℤ square q *ℤ cost d a xi u +ℤ
+    pos (2 ^ 41) *ℤ pos n *ℤ pos (cost_scale d) *ℤ a *ℤ q *ℤ dot (rows d) w (residual d a xi u)) ≤ℤ
+    (pos (2 ^ 41) *ℤ pos n *ℤ pos (residual_scale d) *ℤ square a *ℤ cost d q xi t +ℤ
+    pos (2 ^ 40) *ℤ pos (cost_scale d) *ℤ pos (residual_scale d) *ℤ square a *ℤ total (rows d) (λ i. pos (2 ^ exponent i) *ℤ square (w i)) +ℤ
+    pos 2 *ℤ pos n *ℤ pos (cost_scale d) *ℤ pos (residual_scale d) *ℤ square q *ℤ square a *ℤ pos most)
+
+-- of the averaged plan, by the steps and the step exponents
 abbrev pub MachineRunBound : (d : Design) (c : Numbers) (xi : List ℤ) (q : ℤ) (t w : ℕ → ℤ) (cost : ℕ) → Type 0
-MachineRunBound d c xi q t w most =
-    (pos (2 ^ 41) *ℤ pos c.steps *ℤ pos (residual_scale d) *ℤ square q *ℤ cost d (pos (average_denominator c)) (at xi) (at (averaged_plan c xi)) +ℤ
-    pos (2 ^ 41) *ℤ pos c.steps *ℤ pos (cost_scale d) *ℤ pos (average_denominator c) *ℤ q *ℤ
-    dot (rows d) w (residual d (pos (average_denominator c)) (at xi) (at (averaged_plan c xi)))) ≤ℤ
-    (pos (2 ^ 41) *ℤ pos c.steps *ℤ pos (residual_scale d) *ℤ square (pos (average_denominator c)) *ℤ cost d q (at xi) t +ℤ
-    pos (2 ^ 40) *ℤ pos (cost_scale d) *ℤ pos (residual_scale d) *ℤ square (pos (average_denominator c)) *ℤ
-    total (rows d) (λ i. pos (2 ^ exponent_of c i) *ℤ square (w i)) +ℤ
-    pos 2 *ℤ pos c.steps *ℤ pos (cost_scale d) *ℤ pos (residual_scale d) *ℤ square q *ℤ square (pos (average_denominator c)) *ℤ pos most)
+MachineRunBound d c xi = BoundsPlan d (at xi) c.steps (exponent_of c) (pos (average_denominator c)) (at (averaged_plan c xi))
 
 -- a run, the errors of each step of which cost at most `most`, has its bound
 abbrev pub MachineRunLaw : Type 0

@@ -2,12 +2,13 @@ use Rattle.std.proofs.Common.{refl}
 use Rattle.command_line.specs.Answers.{IsAnswer}
 use Rattle.command_line.specs.declared.status.Status.TheVariants.{Done}
 use Rattle.command_line.proofs.Composing.{some_contents}
+use Rattle.command_line.proofs.Beside.{beside}
 use Rattle.command_line.proofs.Doing.{printing, beside_output, shown_anyhow, none_falls}
 use Rattle.command_generate.specs.Deeds.{generate_deeds}
 use Rattle.command_demo.specs.Demo.{DemoCalls, DemoPrints}
 use Rattle.command_demo.specs.Deeds.{demo_deeds}
 use Rattle.command_demo.proofs.Row.{demo_row}
-use Rattle.command_list.specs.Deeds.{list_deeds}
+use Rattle.command_list.specs.Deeds.{list_work}
 use Rattle.command_stay.specs.Deeds.{stay_deeds}
 use Rattle.command_lean.specs.Deeds.{lean_deeds}
 use Rattle.command_lean_stay.specs.Deeds.{lean_stay_deeds}
@@ -24,7 +25,7 @@ returns-in-Generate g c =
 pub returns-in-List : goal.returns-in-List
 returns-in-List g c =
     rw c.in-List.is
-    (beside_output g.S.Store g.O.Sink c.args.words.now list_deeds (λ never. never) (λ contents s old. refl) c.args.store.now c.list.new.store c.args.out.now c.list.result c.list.ensures)
+    (beside g.S.Store g.O.Sink c.args.words.now list_work (λ never. never) (λ n s old. refl) c.args.store.now c.list.new.store c.args.out.now c.list.result c.list.ensures)
 
 pub returns-in-Stay : goal.returns-in-Stay
 returns-in-Stay g c =

@@ -1,0 +1,8 @@
+-- The lemmas by topic.
+
+-- ---- the errors of a plan at any multipliers
+pub mod PlanErrors
+-- ---- what rounding the means adds
+pub mod MeanErrors
+-- ---- a run
+pub mod FastDesignRuns

@@ -1,0 +1,2 @@
+pub mod CarriedErrors
+pub mod FastDesign

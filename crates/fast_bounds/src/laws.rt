@@ -1,0 +1,24 @@
+// The errors of the accelerated machine's steps on a design, and the bound of its runs.
+ghost use Rattle.fast_bounds.specs.FastDesign.{PlanErrorsLaw, FastCarriedLaw, FastDesignRunLaw, FastStatedRunLaw};
+
+/// The plan that a machine makes from a state of its design's box at any multipliers in 0 .. 2 r is within the plan bound, its gradient and residuals are
+/// within their errors: by the stated ones, and by what the residuals of the controller's gains come to.
+pub fn plan_errors_law()
+    ensures { PlanErrorsLaw }
+{}
+
+/// So is the plan of each step of the accelerated machine of a controller that is made for a design.
+pub fn fast_carried_law()
+    ensures { FastCarriedLaw }
+{}
+
+/// A run of it bounds the Lagrangian of its design at the averaged plan, against every feasible plan and all multipliers in 0 .. 2 r, whatever bounds the
+/// errors of its steps: those of the gradient count J times, and more by what rounding the means adds.
+pub fn fast_design_run_law()
+    ensures { FastDesignRunLaw }
+{}
+
+/// It has that bound by the stated errors.
+pub fn fast_stated_run_law()
+    ensures { FastStatedRunLaw }
+{}
