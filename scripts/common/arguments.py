@@ -14,8 +14,8 @@ class Parser(argparse.ArgumentParser):
     """A parser whose description stands as written, whose name is that of the command by the launcher, and whose help fails where it can't be printed."""
 
     def __init__(self, description: str | None, **given: Any) -> None:
-        name = os.path.basename(sys.argv[0]).removesuffix(".py")
-        super().__init__(**{"prog": f"./mpc {name}"} | given, description=description, formatter_class=argparse.RawDescriptionHelpFormatter)
+        given.setdefault("prog", "./mpc " + os.path.basename(sys.argv[0]).removesuffix(".py"))
+        super().__init__(description=description, formatter_class=argparse.RawDescriptionHelpFormatter, **given)
 
     def print_help(self, file: Any = None) -> None:
         (file or sys.stdout).write(self.format_help())

@@ -29,8 +29,8 @@ def certificate_of(text: str, states: int) -> Certificate:
     records = records_of(text)
     if [len(record) for record in records] != [2 * states + 1] * 3:
         raise Refusal(f"a certificate of this design has three records of {2 * states + 1} numbers: turns, and the least and the greatest of each state")
-    boxes = [Box(tuple(record[1 : states + 1]), tuple(record[states + 1 :])) for record in records]
-    return Certificate(records[0][0], records[2][0], *boxes, records[1][0])
+    start, still, rest = (Box(tuple(record[1 : states + 1]), tuple(record[states + 1 :])) for record in records)
+    return Certificate(records[0][0], records[2][0], start, still, rest, records[1][0])
 
 
 def promise_text(promise: Promise) -> str:
@@ -81,8 +81,8 @@ def costs_of(design: Design, costs: Box) -> str:
         words = " ".join(f"{'+' if row[i] > 0 else '-'} {'' if abs(row[i]) == 1 else f'{abs(row[i])} '}{name.word}" for i, name in names.items())
         own = {(name.size, name.unit) for name in names.values()}
         shown = Name("", *own.pop()).shown if len(own) == 1 else plain
-        low, high = (Fraction(v, design.row_den * 2**design.grid) for v in (low, high))
-        out.append(f"{words.removeprefix('+ ')} {f'within {shown(high)}' if low == -high else f'from {shown(low)} to {shown(high)}'}")
+        least, greatest = (shown(Fraction(v, design.row_den * 2**design.grid)) for v in (low, high))
+        out.append(f"{words.removeprefix('+ ')} {f'within {greatest}' if low == -high else f'from {least} to {greatest}'}")
     return ", ".join(out)
 
 

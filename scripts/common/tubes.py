@@ -241,7 +241,8 @@ def settled_box(tubes: Tubes, s: Certificate) -> Box:
 
 def cost_box(loop: Loop, still: Box, turns: int) -> tuple[Box, int]:
     """Where the rows of the cost lie so many turns after states in the still box, none for 0 turns; and what numbers come to at most on the way."""
-    design, ends, sizes, far = loop.design, {1: [], -1: []}, [0], still.far()
+    ends: dict[int, list[int]] = {1: [], -1: []}
+    design, sizes, far = loop.design, [0], still.far()
     for numbers in design.stage_cost + design.final_cost if turns else []:
         for sign, found in ends.items():
             row, added, size = Row(loop, 0, sign), 0, 0
