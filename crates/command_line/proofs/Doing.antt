@@ -6,7 +6,7 @@ use Rattle.io_edge.specs.declared.store.Store.{Ghosts as Disk}
 use Rattle.io_edge.specs.declared.sink.Sink.{Ghosts as Screen}
 use Rattle.command_line.specs.Words.{word_of}
 use Rattle.command_line.specs.Answers.{Contents, ForContents, IsAnswer, IsCaused}
-use Rattle.command_line.specs.Deeds.{Deeds, IsCalledFor, UsesNoFile, IsUnwritten, IsBeforePrinting, IsUnprinted, WriteFailed, NoneRises}
+use Rattle.command_line.specs.Deeds.{Deeds, IsCalledFor, UsesNoFile, IsBeforePrinting, WriteFailed, NoneRises}
 use Rattle.command_line.specs.Does.{IsTelling, Does, DoesInStore}
 use Rattle.command_line.proofs.Composing.{some_contents}
 use Rattle.command_line.specs.declared.status.Status.{Status}
