@@ -11,7 +11,7 @@ use Rattle.command_line.specs.Answers.{ReadsThen, IsFileRefused, IsCaused, IsWro
 use Rattle.command_line.specs.Does.{IsTelling}
 use Rattle.command_line.proofs.Doing.{IsRefusal}
 use Rattle.command_line.specs.declared.status.Status.{Status}
-use Rattle.command_line.specs.declared.status.Status.TheVariants.{Done, Memory, ReadFault, WriteFault, Text, Controller, OutsideBox, Long}
+use Rattle.command_line.specs.declared.status.Status.TheVariants.{Done, ReadFault, WriteFault, Controller, Long}
 use Rattle.command_design_files.specs.Texts.{TellsFault, DesignWrong, PolicyWrong}
 
 pub long_refusal : (file : ℕ) (s : Status) → s ≡ Long file → IsRefusal s
