@@ -1,4 +1,3 @@
-#!/usr/bin/env python3
 """Writes a controller as C99, NAME.h and NAME.c: no heap, no float, nothing but <stdint.h>, tables in flash and one struct of what changes.
 
     ./mpc c CONTROLLER [REPORT] [DESIGN] --name NAME --out FOLDER
@@ -16,15 +15,15 @@ import tempfile
 from collections.abc import Callable, Iterable, Iterator, Mapping
 from typing import Any
 
-from common import files
-from common.arguments import Parser
-from common.c_text import CText
-from common.c_words import Form
-from common.design_text import Design, design_of
-from explain import KINDS, refuse_others, report_words
-from common.libraries import Refusal, run
-from common.strict_texts import safe_controller, strict_report
-from common.texts import Controller, kind_of, report_of
+from .common import files
+from .common.arguments import Parser
+from .common.c_text import CText
+from .common.c_words import Form
+from .common.design_text import Design, design_of
+from .common.libraries import Refusal, run
+from .common.strict_texts import safe_controller, strict_report
+from .common.texts import Controller, kind_of, report_of
+from .explain import KINDS, refuse_others, report_words
 
 MARK = "by `./mpc c`"
 # headers of C that the compiler would find instead, or in the place of which it would find ours
@@ -159,14 +158,19 @@ def c_texts(name: str, found: Mapping[str, tuple[str, str]]) -> tuple[str, str]:
     return text.header(header_notes(text, found["controller"][0], report, design)), source
 
 
+def check_name(name: str) -> None:
+    """A refusal of what is no name of a controller's C."""
+    if not re.fullmatch(r"[a-z][a-z0-9_]{0,15}", name) or name in TAKEN:
+        raise Refusal(f"{name}: the name should be a small letter and up to 15 small letters, digits and _, and not that of a header of C")
+
+
 def main() -> int:
     parser = Parser(__doc__, prog="./mpc c", usage="./mpc c CONTROLLER [REPORT] [DESIGN] --name NAME --out FOLDER")
     parser.add_argument("files", nargs="+", metavar="FILE")
     parser.add_argument("--name", required=True)
     parser.add_argument("--out", required=True)
     given = parser.parse_args()
-    if not re.fullmatch(r"[a-z][a-z0-9_]{0,15}", given.name) or given.name in TAKEN:
-        raise Refusal(f"{given.name}: the name should be a small letter and up to 15 small letters, digits and _, and not that of a header of C")
+    check_name(given.name)
     if not os.path.isdir(given.out):
         raise Refusal(f"{given.out}: there is no such folder")
     header, source = (os.path.join(given.out, given.name + end) for end in (".h", ".c"))

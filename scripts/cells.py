@@ -1,7 +1,6 @@
-#!/usr/bin/env python3
 """Proposes cells of a design's box, each with a controller of its own: a smaller box has a smaller cost, and so fewer steps K.
 
-    scripts/cells.py DESIGN CUTS POLICIES [--cells N] [--cuts FILE] [--picture FILE] [--generate FOLDER] [--lines FILE]
+    ./mpc cells DESIGN CUTS POLICIES [--cells N] [--cuts FILE] [--picture FILE] [--generate FOLDER] [--lines FILE]
 
 It cuts the box in the coordinate that lowers the greatest K of a cell most, and where no cut does, the mean K over all grid states, once or twice in one of its parts, until there are N cells (9, at
 most 64), or nothing is gained. Cells are all combinations of the coordinates' parts, the first coordinate fastest. CUTS gets a record for each coordinate: how many cuts it has, and the last
@@ -22,21 +21,21 @@ import os
 import subprocess
 from dataclasses import dataclass
 
-from common.libraries import Refusal, need, run, say
+from .common.libraries import Refusal, need, run, say
 
 need("numpy", "cvxopt")
-from common import files, matching
-from common.arguments import Parser, whole
-from common.cell_boxes import cells_of, count_of, parts_of
-from common.condensed import condense, curvature
-from common.corners import corners_of, margin_of, multiplier_of, steps_of
-from common.design_text import Design, plain, read_design
-from common.design_text import text_of as design_text
-from common.launcher import LAUNCHER
-from common.programs import Programs
-from common.progress import Progress
-from common.texts import loop_lines_of, read_text, report_of
-from policy import find
+from .common import files, matching
+from .common.arguments import Parser, whole
+from .common.cell_boxes import cells_of, count_of, parts_of
+from .common.condensed import condense, curvature
+from .common.corners import corners_of, margin_of, multiplier_of, steps_of
+from .common.design_text import Design, plain, read_design
+from .common.design_text import text_of as design_text
+from .common.launcher import LAUNCHER
+from .common.programs import Programs
+from .common.progress import Progress
+from .common.texts import loop_lines_of, read_text, report_of
+from .policy import find
 
 MOST_CELLS, MOST_CUTS = 64, 63
 # parts of a part at which it is cut, once or twice
@@ -243,7 +242,7 @@ def serving(cells: list[Cell], state: list[int]) -> Cell:
 def draw(design: Design, cells: list[Cell], path: str) -> None:
     """The picture of the cells."""
     need("matplotlib")
-    from common import cell_pictures, pictures
+    from .common import cell_pictures, pictures
 
     pictures.prepare()
     pictures.write(cell_pictures.draw(design, cells), path)
@@ -266,7 +265,7 @@ def main() -> int:
         cuts, step = cuts_in(given.cuts, design) if given.cuts else search(design, given.cells, progress), step_of(design)
         cells = [made(cell, step) for cell in cells_of(design, cuts)]
     if None in cells:
-        say(f"cell {cells.index(None) + 1} has no policy: scripts/policy.py says where, of the design with its box")
+        say(f"cell {cells.index(None) + 1} has no policy: ./mpc policy says where, of the design with its box")
         return 6
     for words in words_of(design, cells, made(design, step)):
         say(words)

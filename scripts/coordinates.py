@@ -1,7 +1,6 @@
-#!/usr/bin/env python3
 """Proposes coordinates, or a box, in which the closed loops of a model stay.
 
-    scripts/coordinates.py MODEL [NEW_MODEL] [--turns N] [--seconds S]
+    ./mpc coordinates MODEL [NEW_MODEL] [--turns N] [--seconds S]
 
 A box of a position and its rate is left at once from the corner where both have one sign: what moves goes on moving. In place of the position it tries the position in some time,
 `position + T rate`, for each state that another one moves, with T from half a period to 40 of them; and where the rate then leaves its box, a smaller box of the position, a fifth at a
@@ -18,20 +17,20 @@ import sys
 from collections.abc import Iterator
 from dataclasses import dataclass, field
 
-from common.libraries import Refusal, need, run, say
+from .common.libraries import Refusal, need, run, say
 
 need("numpy", "scipy", "cvxopt")
 import numpy
 
-from common import files
-from common.arguments import Parser, positive, turns
-from common.budget import Budget
-from common.design_text import Design, plain
-from draft import draft
-from common.model_text import model_text
-from common.models import Model, neat, read_model, split_name
-from common.programs import Programs, reach_of
-from common.turns import candidates
+from .common import files
+from .common.arguments import Parser, positive, turns
+from .common.budget import Budget
+from .common.design_text import Design, plain
+from .common.model_text import model_text
+from .common.models import Model, neat, read_model, split_name
+from .common.programs import Programs, reach_of
+from .common.turns import candidates
+from .draft import draft
 
 # T in periods
 TIMES = (0.0, 0.5, 0.7, 1.0, 1.3, 1.6, 2.0, 2.5, 3.2, 4.0, 5.0, 6.3, 8.0, 10.0, 13.0, 16.0, 20.0, 25.0, 32.0, 40.0)
@@ -208,7 +207,7 @@ def search(model: Model, design: Design, count: int, seconds: float = 60.0) -> t
 
 
 def changed_text(model: Model, choice: Choice) -> str:
-    return model_text(changed(model, choice), "a model in coordinates and a box in which its loops stay, by scripts/coordinates.py")
+    return model_text(changed(model, choice), "a model in coordinates and a box in which its loops stay, by ./mpc coordinates")
 
 
 def changed(model: Model, choice: Choice) -> dict:

@@ -1,25 +1,25 @@
-#!/usr/bin/env python3
 """From a model to a controller that is judged: each step shown as the command that it runs, so that you can go on by hand where you like.
 
-    ./mpc design MODEL FOLDER [--as-it-is | --stay] [--generate] [--gap PART] [--turns N] [--seconds S] [--corners N] [--random N] [--states N] [--seed N]
+    ./mpc design MODEL FOLDER [--as-it-is | --stay] [--same-cost] [--generate] [--gap PART] [--turns N] [--seconds S] [--corners N] [--random N] [--states N] [--seed N]
 
 In FOLDER, which is made where it isn't there, stand then
 
-    fitted.toml       the model in coordinates and a box in which its loops stay (scripts/coordinates.py), or the best that was seen; with --as-it-is MODEL itself is taken
-    design.toml       the design (scripts/draft.py)
-    policy.csv        a plan for each corner, and reference.csv the best ones without limits (scripts/policy.py --lean)
+    covered.toml      the model with a box that holds its starts, where half-planes say which these are (`region`, ./mpc regions)
+    fitted.toml       the model in coordinates and a box in which its loops stay (./mpc coordinates), or the best that was seen; with --as-it-is MODEL itself is taken
+    design.toml       the design (./mpc draft)
+    policy.csv        a plan for each corner, and reference.csv the best ones without limits (./mpc policy --lean)
     controller.txt    the controller, and report.txt its bounds (./mpc lean; with --generate ./mpc generate, which needs no reference plans)
-    states.csv        corners and random states (scripts/states.py)
-    loop.txt          the controller's loops from there (./mpc loop), and exact.txt those of exact model predictive control (scripts/exact_loop.py)
-    settle.csv        a certificate that loops settle, where one is found, and settled.txt where they lie from its turn on (scripts/settles.py, and ./mpc settle, which tests it)
-    loop.svg          loops, and where they settle, in one picture (scripts/plot.py)
-    judged.txt        what the controller's plans do beside exact ones (scripts/judge.py)
+    states.csv        corners and random states (./mpc states)
+    loop.txt          the controller's loops from there (./mpc loop), and exact.txt those of exact model predictive control (./mpc exact_loop)
+    settle.csv        a certificate that loops settle, where one is found, and settled.txt where they lie from its turn on (./mpc settles, and ./mpc settle, which tests it)
+    loop.svg          loops, and where they settle, in one picture (./mpc plot)
+    judged.txt        what the controller's plans do beside exact ones (./mpc judge)
     explained.txt     what the report holds, in the model's units (./mpc explain)
-    report.html       all of it on one page, for a review, warnings first (scripts/report_page.py)
+    report.html       all of it on one page, for a review, warnings first (./mpc report_page)
 
-and where no loop is to leave the box, by --stay or by `stay` in the model's `[box]`, fitted.toml is by scripts/staying.py, and beside it stand
+and where no loop is to leave the box, by --stay or by `stay` in the model's `[box]`, fitted.toml is by ./mpc staying, and beside it stand
 
-    faces.csv         the sums of limits that show that none does, and disturbances.csv the greatest disturbances of a turn that they bear (scripts/faces.py); ./mpc lean
+    faces.csv         the sums of limits that show that none does, and disturbances.csv the greatest disturbances of a turn that they bear (./mpc faces); ./mpc lean
                       tests them, with --generate ./mpc stay
 
 and where the model's `[box]` has `disturbed`, range.csv is the range of it under which loops settle.
@@ -27,13 +27,14 @@ and where the model's `[box]` has `disturbed`, range.csv is the range of it unde
     --generate    makes the controller that keeps far from its limits, by `generate` or `stay`: of more steps, mostly far more, and with real violations far below the printed ones
     --as-it-is    takes the model's own coordinates and box, whatever its loops do
     --stay        searches limits on the next state, coordinates and a box for which faces hold
+    --same-cost   keeps the model's cost and stages where no loop is to leave the box and a run would take longer than a stage, in place of trying others
     --gap PART    the gap target, as a part of the greatest cost (0.1)
     --turns N     so many turns a loop (50)
     --seconds S   how long coordinates and a box are searched at most (60); Ctrl-C ends the search before, and what is best so far is taken
     --corners N   at most so many corners to begin loops from (8); --random N so many random states (4); --seed N which of them (1)
     --states N    so many random states to judge, beside all corners (96)
 
-First it says what can be said at once (scripts/outlook.py): units, poles, corners without a plan, sizes; and last from which part of the box loops settle, and where. It ends with the status of the first step that is refused. Nothing rests on it: what `generate` checks is what counts.
+First it says what can be said at once (./mpc outlook): units, poles, corners without a plan, sizes; and last from which part of the box loops settle, and where. It ends with the status of the first step that is refused. Nothing rests on it: what `generate` checks is what counts.
 """
 import os
 import shlex
@@ -42,22 +43,23 @@ import sys
 import tempfile
 import time
 from argparse import Namespace
+from collections.abc import Callable
 from dataclasses import dataclass
 from typing import IO
 
-from common.libraries import PACKAGES, Refusal, need, run
+from .common.libraries import PACKAGES, PYTHON, Refusal, need, run
 
 need(*PACKAGES)
-from common import files, usage
-from common.arguments import Parser, count, positive, turns
-from common.design_text import read_design
-from common.models import grid_disturbances, read_model
+from .common import files, usage
+from .common.arguments import Parser, count, positive, turns
+from .common.design_text import read_design
+from .common.launcher import LAUNCHER
+from .common.models import Model, grid_disturbances, read_model
 
-TOP = os.path.dirname(os.path.dirname(os.path.realpath(__file__)))
 MADE = ["fitted.toml", "design.toml", "policy.csv", "reference.csv", "controller.txt", "report.txt", "states.csv", "loop.txt", "exact.txt", "loop.svg", "judged.txt", "explained.txt", "report.html"]
 STAYS = ["faces.csv", "disturbances.csv"]
 SETTLES = ["settle.csv", "settled.txt"]
-RANGE = "range.csv"
+RANGE, COVERED = "range.csv", "covered.toml"
 LEFT_THE_BOX = 12
 
 
@@ -79,13 +81,12 @@ class Steps:
         return os.path.join(self.folder, name)
 
     def run(self, *words: str, to: str | None = None) -> Step:
-        """Runs a command of the repository; what it prints goes to a file where one is named. What else it prints and says stands below the command as it comes."""
-        program = os.path.relpath(os.path.join(TOP, words[0]))
-        program = program if program.startswith("..") else os.path.join(".", program)
-        print("$ " + shlex.join([program, *words[1:]]) + (f" > {shlex.quote(to)}" if to else ""), flush=True)
-        command = [sys.executable, *[program, *words[1:]]] if program.endswith(".py") else [program, *words[1:]]
+        """Runs a command by the launcher; what it prints goes to a file where one is named. What else it prints and says stands below the command as it comes."""
+        program = os.path.relpath(LAUNCHER)
+        command = [program if program.startswith("..") else os.path.join(".", program), *words]
+        print("$ " + shlex.join(command) + (f" > {shlex.quote(to)}" if to else ""), flush=True)
         with tempfile.TemporaryFile("w+") as out:
-            began = subprocess.Popen(command, stdout=out if to else subprocess.PIPE, stderr=subprocess.PIPE if to else subprocess.STDOUT, text=True, env=os.environ)
+            began = subprocess.Popen(command, stdout=out if to else subprocess.PIPE, stderr=subprocess.PIPE if to else subprocess.STDOUT, text=True, env=os.environ | {PYTHON: sys.executable})
             said = told(began, began.stderr if to else began.stdout)
             out.seek(0)
             printed = out.read() if to else said
@@ -98,7 +99,7 @@ class Steps:
         step = self.run(*words, to=to)
         if step.status:
             sys.stdout.flush()
-            raise Refusal(f"{words[0]} ended with status {step.status}: what stands above says why", step.status)
+            raise Refusal(f"./mpc {words[0]} ended with status {step.status}: what stands above says why", step.status)
         return step
 
 
@@ -125,26 +126,35 @@ def fitted(steps: Steps, model: str, given: Namespace, stays: bool) -> str:
         return model
     seconds, path = ["--seconds", str(given.seconds)], steps.path("fitted.toml")
     if stays:
-        steps.must("scripts/staying.py", model, path, *(["--generate"] if given.generate else []), *seconds)
+        options = [option for option, asked in (("--generate", given.generate), ("--same-cost", given.same_cost)) if asked]
+        steps.must("staying", model, path, *options, *seconds)
         return path
-    step = steps.run("scripts/coordinates.py", model, path, "--turns", str(given.turns), *seconds)
+    step = steps.run("coordinates", model, path, "--turns", str(given.turns), *seconds)
     if step.status not in (0, LEFT_THE_BOX):
-        raise Refusal(f"scripts/coordinates.py ended with status {step.status}: what stands above says why", step.status)
+        raise Refusal(f"./mpc coordinates ended with status {step.status}: what stands above says why", step.status)
     return path
+
+
+def covering(steps: Steps, model: str, given: Namespace) -> str:
+    """The model with a box that holds its starts, where these are no box."""
+    if given.as_it_is or not says(model, lambda found: found.text.get("region")):
+        return model
+    steps.must("regions", model, steps.path(COVERED))
+    return steps.path(COVERED)
 
 
 def make(steps: Steps, model: str, given: Namespace, stays: bool) -> None:
     """The design, its policy, its faces where no loop is to leave the box, and its controller: a lean one, but where the other is asked for."""
     design, policy, reference = map(steps.path, ("design.toml", "policy.csv", "reference.csv"))
     made = [steps.path("controller.txt"), steps.path("report.txt")]
-    steps.must("scripts/draft.py", model, design, "--gap", str(given.gap), *([] if given.generate else ["--lean"]))
-    steps.must("scripts/policy.py", design, policy, *([] if given.generate else ["--lean", reference]), "--turns", "0")
+    steps.must("draft", model, design, "--gap", str(given.gap), *([] if given.generate else ["--lean"]))
+    steps.must("policy", design, policy, *([] if given.generate else ["--lean", reference]), "--turns", "0")
     texts = [design, policy] if given.generate else [design, policy, reference]
     command = "lean" if not given.generate else "stay" if stays else "generate"
     faces = list(map(steps.path, STAYS)) if stays else []
     if stays:
-        steps.must("scripts/faces.py", design, policy, faces[0], *([] if given.generate else ["--lean", reference]), "--bears", faces[1])
-    steps.must("mpc", command, *texts, *made, *faces)
+        steps.must("faces", design, policy, faces[0], *([] if given.generate else ["--lean", reference]), "--bears", faces[1])
+    steps.must(command, *texts, *made, *faces)
 
 
 def has_settle() -> bool:
@@ -159,12 +169,12 @@ def settle(steps: Steps, model: str) -> list[str]:
         if os.path.exists(path):
             os.remove(path)
     for shifts in [*disturbed(steps, model, design), []]:
-        step = steps.run("scripts/settles.py", design, controller, certificate, "--promise", promise, *(["--disturbances", *shifts] if shifts else []))
+        step = steps.run("settles", design, controller, certificate, "--promise", promise, *(["--disturbances", *shifts] if shifts else []))
         if step.status not in (0, LEFT_THE_BOX):
-            raise Refusal(f"scripts/settles.py ended with status {step.status}: what stands above says why", step.status)
+            raise Refusal(f"./mpc settles ended with status {step.status}: what stands above says why", step.status)
         if step.status == 0:
             if has_settle():
-                steps.must("mpc", "settle", design, controller, certificate, *shifts, to=promise)
+                steps.must("settle", design, controller, certificate, *shifts, to=promise)
             return step.said.splitlines()
     return []
 
@@ -181,27 +191,27 @@ def disturbed(steps: Steps, model: str, design: str) -> list[list[str]]:
 def show(steps: Steps, model: str, given: Namespace) -> list[str]:
     """Loops and their picture, and what was measured beside what is printed; and in words where loops settle."""
     design, controller, states, loop, exact = map(steps.path, ("design.toml", "controller.txt", "states.csv", "loop.txt", "exact.txt"))
-    steps.must("scripts/states.py", design, states, "--corners", str(given.corners), "--random", str(given.random), "--seed", str(given.seed))
-    left = steps.run("mpc", "loop", design, controller, states, str(given.turns), to=loop)
+    steps.must("states", design, states, "--corners", str(given.corners), "--random", str(given.random), "--seed", str(given.seed))
+    left = steps.run("loop", design, controller, states, str(given.turns), to=loop)
     if left.status == LEFT_THE_BOX:
         add_other_starts(steps, design, controller, states, loop, given.turns)
-        steps.must("scripts/reach.py", design, states, loop, "--turns", str(given.turns))
+        steps.must("reach", design, states, loop, "--turns", str(given.turns))
     elif left.status:
         raise Refusal(f"mpc loop ended with status {left.status}: what stands above says why", left.status)
-    steps.must("scripts/exact_loop.py", design, states, str(given.turns), to=exact)
+    steps.must("exact_loop", design, states, str(given.turns), to=exact)
     settled = settle(steps, model)
     boxes = ["--settled", steps.path("settled.txt"), "--certificate", steps.path("settle.csv")] if settled else []
     if left.said:
-        steps.must("scripts/plot.py", design, loop, exact, "--labels", "controller,exact", "--report", steps.path("report.txt"), *boxes, "--out", steps.path("loop.svg"))
-    judged = steps.must("scripts/judge.py", design, controller, steps.path("report.txt"), "--states", str(given.states), "--seed", str(given.seed), to=steps.path("judged.txt"))
+        steps.must("plot", design, loop, exact, "--labels", "controller,exact", "--report", steps.path("report.txt"), *boxes, "--out", steps.path("loop.svg"))
+    judged = steps.must("judge", design, controller, steps.path("report.txt"), "--states", str(given.states), "--seed", str(given.seed), to=steps.path("judged.txt"))
     print("    " + judged.said.rstrip("\n").replace("\n", "\n    "))
     names = [steps.path("report.txt"), design, steps.path("policy.csv"), *([] if given.generate else [steps.path("reference.csv")]), controller]
-    explained = steps.must("mpc", "explain", *names, to=steps.path("explained.txt"))
+    explained = steps.must("explain", *names, to=steps.path("explained.txt"))
     for line in explained.said.splitlines():
         if line.startswith(("every run", "stage row", "final row", "the plan costs", "a run has")):
             print(f"    {line}")
     if left.said:
-        steps.must("scripts/report_page.py", steps.folder, steps.path("report.html"))
+        steps.must("report_page", steps.folder, steps.path("report.html"))
     return settled
 
 
@@ -228,14 +238,14 @@ def looped(design: str, controller: str, starts: list[str], count: int) -> tuple
     with tempfile.NamedTemporaryFile("w", suffix=".csv") as rest:
         rest.write("".join(start + "\n" for start in starts))
         rest.flush()
-        got = subprocess.run([os.path.join(TOP, "mpc"), "loop", design, controller, rest.name, str(count)], stdout=subprocess.PIPE, stderr=subprocess.DEVNULL, text=True)
+        got = subprocess.run([LAUNCHER, "loop", design, controller, rest.name, str(count)], stdout=subprocess.PIPE, stderr=subprocess.DEVNULL, text=True)
     return got.returncode, got.stdout.splitlines()
 
 
-def asks_to_stay(path: str) -> bool:
-    """Whether a model's box has limits on the next state; what is wrong with it is said by the step that drafts it."""
+def says(path: str, what: Callable[[Model], object]) -> bool:
+    """Whether a model says something; what is wrong with it is said by the first step that reads it."""
     try:
-        return any(read_model(path).stay)
+        return bool(what(read_model(path)))
     except Refusal:
         return False
 
@@ -247,6 +257,7 @@ def main() -> int:
     either = parser.add_mutually_exclusive_group()
     either.add_argument("--as-it-is", action="store_true")
     either.add_argument("--stay", action="store_true")
+    parser.add_argument("--same-cost", action="store_true")
     parser.add_argument("--generate", action="store_true")
     parser.add_argument("--gap", type=positive, default=0.1, metavar="PART")
     parser.add_argument("--turns", type=turns, default=50, metavar="N")
@@ -256,15 +267,15 @@ def main() -> int:
     parser.add_argument("--seed", type=int, default=1, metavar="N")
     given = parser.parse_args()
     steps = Steps(given.folder)
-    files.keep_apart({"MODEL": given.model}, {name: steps.path(name) for name in [*MADE, *STAYS, *SETTLES, RANGE]})
+    files.keep_apart({"MODEL": given.model}, {name: steps.path(name) for name in [*MADE, *STAYS, *SETTLES, RANGE, COVERED]})
     files.read_bytes(given.model)
     os.makedirs(given.folder, exist_ok=True)
-    began, stays = time.monotonic(), given.stay or asks_to_stay(given.model)
-    steps.must("scripts/outlook.py", given.model)
-    model = fitted(steps, given.model, given, stays)
+    began, stays = time.monotonic(), given.stay or says(given.model, lambda found: any(found.stay))
+    steps.must("outlook", given.model)
+    model = fitted(steps, covering(steps, given.model, given), given, stays)
     make(steps, model, given, stays)
     settled = show(steps, model, given)
-    print("\n".join(settled) or "no certificate was found that loops settle: what scripts/settles.py says above is in the way")
+    print("\n".join(settled) or "no certificate was found that loops settle: what ./mpc settles says above is in the way")
     print(f"in {time.monotonic() - began:.0f} s: {steps.path('report.html')} has it all on one page, and {steps.path('controller.txt')} the controller")
     return 0
 

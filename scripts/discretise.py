@@ -1,20 +1,19 @@
-#!/usr/bin/env python3
 """Samples a continuous model and rounds it to whole numerators over a denominator, and says what rounding does.
 
-    scripts/discretise.py MODEL [--den D ..]
+    ./mpc discretise MODEL [--den D ..]
 
 For each denominator (8 to 1024 where none is given) it prints the greatest row sum of |a| + |b| over den, the bits of `prediction` where numbers are exact and where
 they are enclosures, the poles before and after, and by how much the step responses of the stages are off; and it warns of each coupling that is rounded to 0. With
-one denominator, given or named by the model, it prints the plant table of the design. How a model is written: scripts/draft.py --help.
+one denominator, given or named by the model, it prints the plant table of the design. How a model is written: ./mpc draft --help.
 """
-from common.libraries import need, run
+from .common.libraries import need, run
 
 need("numpy", "scipy")
 import numpy
 
-from common.arguments import Parser, several
-from common.design_text import plain
-from common.models import Model, read_model
+from .common.arguments import Parser, several
+from .common.design_text import plain
+from .common.models import Model, read_model
 
 # what responses may be off by where no denominator is named
 WITHIN = 0.001

@@ -1,7 +1,6 @@
-#!/usr/bin/env python3
 """Makes disturbances: what is added to each next state from outside, a record for each turn.
 
-    scripts/disturbances.py DESIGN TURNS [FILE] [--constant V,V] [--step V,V --at TURN] [--sine V,V --every N] [--random V,V --seed N] [--within BOX]
+    ./mpc disturbances DESIGN TURNS [FILE] [--constant V,V] [--step V,V --at TURN] [--sine V,V --every N] [--random V,V --seed N] [--within BOX]
 
 V,V is a number for each state, in the units that the design's comments name (as rad); these are added where several are given, and each sum is rounded to the grid. A record
 has the numbers over `2^grid`, as the plant adds them after its next state was rounded: the first is that of turn 1. They go to FILE, or are printed.
@@ -17,11 +16,11 @@ import math
 import random
 import sys
 
-from common import files
-from common.arguments import Parser, several, turns
-from common.design_text import Design, read_design
-from common.disturbances import MOST, box_in
-from common.libraries import Refusal, run
+from .common import files
+from .common.arguments import Parser, several, turns
+from .common.design_text import Design, read_design
+from .common.disturbances import MOST, box_in
+from .common.libraries import Refusal, run
 
 
 def heights(word: str) -> list[float]:

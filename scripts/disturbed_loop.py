@@ -1,23 +1,22 @@
-#!/usr/bin/env python3
 """Prints the closed loop of a controller and its plant under disturbances, in lines like those of `./mpc loop`.
 
-    scripts/disturbed_loop.py DESIGN CONTROLLER STATES TURNS DISTURBANCES
+    ./mpc disturbed_loop DESIGN CONTROLLER STATES TURNS DISTURBANCES
 
 In each turn `./mpc solve` runs the controller from each state; the plant moves by the first inputs of the averaged plan to the nearest grid state, ties upward, as in `loop`, and then the
-turn's record of DISTURBANCES is added (scripts/disturbances.py makes them). Where a state lies outside the box it ends with status 12, the lines of all turns before it printed. With
+turn's record of DISTURBANCES is added (./mpc disturbances makes them). Where a state lies outside the box it ends with status 12, the lines of all turns before it printed. With
 disturbances of 0 it prints what `loop` prints.
 """
 from fractions import Fraction
 
-from common import matching
-from common.arguments import Parser, turns
-from common.design_text import Design, read_design
-from common.disturbances import added, turns_in
-from common.files import STANDARD_OUTPUT, keep_apart
-from common.launcher import solved
-from common.libraries import Refusal, run, say
-from common.texts import controller_of, kind_of, read_text, records_of
-from common.trajectories import next_state
+from .common import matching
+from .common.arguments import Parser, turns
+from .common.design_text import Design, read_design
+from .common.disturbances import added, turns_in
+from .common.files import STANDARD_OUTPUT, keep_apart
+from .common.launcher import solved
+from .common.libraries import Refusal, run, say
+from .common.texts import controller_of, kind_of, read_text, records_of
+from .common.trajectories import next_state
 
 OUTSIDE = 12
 

@@ -1,12 +1,11 @@
-#!/usr/bin/env python3
 """Drafts a design from a continuous model with limits, cost and box, all in physical units.
 
-    scripts/draft.py MODEL [DESIGN] [--gap PART] [--keep-weights] [--lean]
+    ./mpc draft MODEL [DESIGN] [--gap PART] [--keep-weights] [--lean]
 
 It samples and rounds the plant, divides each limit row by its tolerance (so that the violation target is 1 for all), holds limits on states at the next state,
 takes all weights by one factor so that the curvature is just below 1 (step 0), and asks for a gap of PART (0.1) of the greatest cost. In version 2 the curvature is just
 below 16 (step 4): that leaves the steps as they are, and the exponents of flat rows can be lowered. The design goes to DESIGN, or is printed; what was done goes to
-standard error: what each rounding moved, and where the loop of the design settles beside that of the model. The policy is the next step: scripts/policy.py DESIGN POLICY.
+standard error: what each rounding moved, and where the loop of the design settles beside that of the model. The policy is the next step: ./mpc policy DESIGN POLICY.
 
     --keep-weights    takes the weights as they are, with no common factor
     --lean            for a lean controller, whose R is small and counts as a whole number: in version 2 the curvature is just below that power of two from 1 to 16, the
@@ -18,25 +17,26 @@ import math
 import sys
 from dataclasses import dataclass, field, replace
 
-from common import models
-from common.libraries import need, run
+from .common import models
+from .common.libraries import need, run
 
 need("numpy", "scipy", "cvxopt", "jsonschema")
 import numpy
 
-from common import files, sizes
-from common.arguments import Parser, positive
-from common.condensed import curvature
-from common.corners import corners_of, margin_of, multiplier_of
-from common.design_text import Design, Name, plain, text_of
-from discretise import least_den, lost, responses_error, response_error, rounded, row_sum
-from explain import later_sizes
-from common.lean_plans import LeanPlans, whole as whole_bound
-from common.models import Model, named, read_model
-from policy import plans_with, search
-from common.programs import Programs
-from common.rounding import limit_denominator, moves, whole_limits, whole_ratio, whole_row
-from common.settling import Settled, settled
+from .common import files, sizes
+from .common.arguments import Parser, positive
+from .common.condensed import curvature
+from .common.corners import corners_of, margin_of, multiplier_of
+from .common.design_text import Design, Name, plain, text_of
+from .common.lean_plans import LeanPlans
+from .common.lean_plans import whole as whole_bound
+from .common.models import Model, named, read_model
+from .common.programs import Programs
+from .common.rounding import limit_denominator, moves, whole_limits, whole_ratio, whole_row
+from .common.settling import Settled, settled
+from .discretise import least_den, lost, response_error, responses_error, rounded, row_sum
+from .explain import later_sizes
+from .policy import plans_with, search
 
 # the step exponent, by version: in version 2 that of a row is up to 4 less
 STEP = {1: 0, 2: 4}
@@ -355,7 +355,7 @@ def with_step(model: Model, part: float, keep: bool, step: int) -> Drafted:
         better = f": the plant is over {taken[0]}, and numbers move by at most {plain(100 * taken[1])} %"
         said.append(words + (better if taken != wanted else f", and no coarser rounding helps: {help_for(refused)} (docs/SIZES.md)"))
     if not plans[2]:
-        said.append("warning: no plan keeps every limit from every corner; scripts/policy.py says where")
+        said.append("warning: no plan keeps every limit from every corner; ./mpc policy says where")
     said = plant_words(model, design) + said + set_gap(design, part, plans)
     said += move_words(model, exact, design, model.rounding)
     said.append(f"limits over {design.limit_den}; weights over {design.cost_den}; curvature {plain(curvature(design))}; gap target {design.gap}")

@@ -1,24 +1,23 @@
-#!/usr/bin/env python3
 """Prints the closed loop of exact model predictive control, in lines like those of `./mpc loop`, to lay beside them.
 
-    scripts/exact_loop.py DESIGN STATES TURNS [DISTURBANCES]
+    ./mpc exact_loop DESIGN STATES TURNS [DISTURBANCES]
 
 Each turn takes the first inputs of the best plan (cvxopt), and rounds the next state to the grid as `loop` does; where there are DISTURBANCES, the turn's record of them is then added.
 Inputs are over 2^40. Nothing rests on it.
 """
 from collections.abc import Iterator
 
-from common.libraries import Refusal, need, run
+from .common.libraries import Refusal, need, run
 
 need("numpy", "cvxopt")
-from common import matching
-from common.arguments import Parser, turns
-from common.design_text import Design, read_design
-from common.disturbances import turns_in
-from common.files import STANDARD_OUTPUT, keep_apart
-from common.programs import Programs, exact_loop
-from common.progress import Progress
-from common.texts import read_text, records_of
+from .common import matching
+from .common.arguments import Parser, turns
+from .common.design_text import Design, read_design
+from .common.disturbances import turns_in
+from .common.files import STANDARD_OUTPUT, keep_apart
+from .common.programs import Programs, exact_loop
+from .common.progress import Progress
+from .common.texts import read_text, records_of
 
 SCALE = 2**40
 

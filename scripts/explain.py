@@ -1,4 +1,3 @@
-#!/usr/bin/env python3
 """Says what a report, a controller, a design with its policy, or the lines of `solve`, `loop` and `settle` hold, in decimals and in the design's units.
 
     ./mpc explain FILE [DESIGN] [POLICY [REFERENCE]] [CONTROLLER] [REPORT] [--clock MHZ] [--cycles N]
@@ -21,17 +20,17 @@ from collections.abc import Callable, Iterable, Iterator, Sequence
 from dataclasses import replace
 from fractions import Fraction
 
-from common import files, matching, sizes
-from common.arguments import Parser, positive
-from common.c_costs import c_words
-from common.condensed import Condensed, condense, curvature
-from common.corners import Corner, corners_of, cost_limit, lean_multiplier_of, margin_of, multiplier_of, steps_of
-from common.design_text import Design, design_of, plain
-from common.excess import excesses_of
-from common.libraries import Refusal, run
-from common.promises import promise_of, promise_words
-from common.texts import Controller, cells_of, controller_of, kind_of, read_text, records_of, report_of, reports_of
-from common.trajectories import dot
+from .common import files, matching, sizes
+from .common.arguments import Parser, positive
+from .common.c_costs import c_words
+from .common.condensed import Condensed, condense, curvature
+from .common.corners import Corner, corners_of, cost_limit, lean_multiplier_of, margin_of, multiplier_of, steps_of
+from .common.design_text import Design, design_of, plain
+from .common.excess import excesses_of
+from .common.libraries import Refusal, run
+from .common.promises import promise_of, promise_words
+from .common.texts import Controller, cells_of, controller_of, kind_of, read_text, records_of, report_of, reports_of
+from .common.trajectories import dot
 
 WORD = 32
 KINDS = {"design": "a design", "controller": "a controller", "cells": "cells", "report": "a report", "policy": "a policy", "reference": "a policy or reference plans", "lines": "lines of solve or loop, or nothing that is known", "settled": "what settle says"}

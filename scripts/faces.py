@@ -1,7 +1,6 @@
-#!/usr/bin/env python3
 """Finds the faces of a design's box: the sums of limits that show that no closed loop ever leaves it.
 
-    scripts/faces.py DESIGN POLICY [FACES] [--lean REFERENCE] [--disturbances FILE] [--bears FILE]
+    ./mpc faces DESIGN POLICY [FACES] [--lean REFERENCE] [--disturbances FILE] [--bears FILE]
 
 For each coordinate the upper face, then the lower: a factor and a weight for each first row, so that the rows have together of each input as much as the coordinate has, and
 the coordinate of the next state can go least far. It is a linear program, whose best vertex is taken in exact fractions, and so the equations hold exactly. First rows are the
@@ -22,20 +21,20 @@ from dataclasses import dataclass
 from fractions import Fraction
 from math import ceil, lcm
 
-from common.libraries import need, run
+from .common.libraries import need, run
 
 need("numpy", "scipy")
 import numpy
 from scipy.optimize import linprog
 
-from common import files, matching, sizes
-from common.arguments import Parser
-from common.corners import corners_of, cost_limit, lean_multiplier_of, margin_of, multiplier_of, step_share
-from common.design_text import plain, read_design
-from common.disturbances import box_in
-from common.excess import excesses_of
-from common.texts import read_text, records_of
-from common.trajectories import dot
+from .common import files, matching, sizes
+from .common.arguments import Parser
+from .common.corners import corners_of, cost_limit, lean_multiplier_of, margin_of, multiplier_of, step_share
+from .common.design_text import plain, read_design
+from .common.disturbances import box_in
+from .common.excess import excesses_of
+from .common.texts import read_text, records_of
+from .common.trajectories import dot
 
 SCALE = 2**40
 MOST = 2**31 - 1

@@ -1,26 +1,25 @@
-#!/usr/bin/env python3
 """Lays what a controller does beside exact model predictive control: the greatest violation, gap and undercut of its plans that were met.
 
-    scripts/judge.py DESIGN CONTROLLER [REPORT] [--states N] [--seed N]
+    ./mpc judge DESIGN CONTROLLER [REPORT] [--states N] [--seed N]
 
 `./mpc solve` runs the controller at every corner of the box and at N random grid states of it (96); the exact problem (cvxopt) stands beside each. The report's bounds
 hold at every state; what is measured is mostly far below, and least so with lean controllers. With REPORT it says which part of each bound was met.
 """
 from fractions import Fraction
 
-from common.libraries import Refusal, need, run
+from .common.libraries import Refusal, need, run
 
 need("numpy", "cvxopt")
-from common import matching
-from common.arguments import Parser, count
-from common.design_text import Design, plain, read_design
-from common.files import STANDARD_OUTPUT, keep_apart
-from common.launcher import solved
-from common.programs import Programs
-from common.progress import Progress
-from states import chosen
-from common.texts import Controller, controller_of, kind_of, read_text, report_of
-from common.trajectories import slacks_of
+from .common import matching
+from .common.arguments import Parser, count
+from .common.design_text import Design, plain, read_design
+from .common.files import STANDARD_OUTPUT, keep_apart
+from .common.launcher import solved
+from .common.programs import Programs
+from .common.progress import Progress
+from .common.texts import Controller, controller_of, kind_of, read_text, report_of
+from .common.trajectories import slacks_of
+from .states import chosen
 
 
 def judge(design: Design, states: list[list[int]], lines: list[str]) -> list[tuple]:

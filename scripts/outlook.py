@@ -1,24 +1,27 @@
-#!/usr/bin/env python3
-"""Says within seconds what can be said of a model before anything is searched: its units, the poles and the growth of a stage, whether each corner of the box has a plan, and sizes.
+"""Says within seconds what can be said of a model before anything is searched: its units, the poles and the growth of a stage, whether each corner of the box has a plan, what a run takes, and sizes.
 
-    scripts/outlook.py MODEL
+    ./mpc outlook MODEL
 
 A pole by which a stage or the horizon multiplies so much that no plan could follow is refused, with the pole; what is odd is a warning. Where no plan keeps every limit from a
-corner, the corner is named, with the limits that meet there: scripts/coordinates.py and scripts/staying.py look for other coordinates and for a smaller box.
+corner, the corner is named, with the limits that meet there: ./mpc coordinates and ./mpc staying look for other coordinates and for a smaller box.
 """
 import math
 
-from common.libraries import need, run
+from .common.libraries import need, run
 
 need("numpy", "scipy", "cvxopt", "jsonschema")
 import numpy
 
-from common.arguments import Parser
-from common.design_text import Design, plain
-from common.models import Model, poles_of, read_model
-from common.programs import Programs
-from draft import choices, corner_plans, in_floats, too_wide, whole
+from .common.arguments import Parser
+from .common.design_text import Design, plain
+from .common.models import Model, poles_of, read_model
+from .common.programs import Programs
+from .common.run_costs import weighings
+from .draft import choices, corner_plans, in_floats, too_wide, whole
+from .staying import ENOUGH, reach_of_inputs, share_of, steps_of
 
+# MHz
+CLOCK = 100.0
 # what is left of a state after a stage where a period is odd; and where others add up
 LEFT, NOTHING = 0.02, 1e-6
 
@@ -52,12 +55,31 @@ def corner_words(design: Design) -> list[str]:
 
 
 def size_words(model: Model, exact: Design) -> list[str]:
-    """Which sizes the program would refuse with the first choice of denominators; a coarser one is searched by scripts/draft.py."""
+    """Which sizes the program would refuse with the first choice of denominators; a coarser one is searched by ./mpc draft."""
     first = choices(model)[0]
     design = whole(model, exact, *first, False, 0)
     wide = too_wide(design, corner_plans(design))
     fits = "fits" if not wide else f"would be refused for {', '.join(wide)}, so that coarser numbers are taken (docs/SIZES.md)"
     return [f"a plant over {first[0]} with numbers that move by at most {plain(100 * first[1])} % {fits}"]
+
+
+def run_words(model: Model, exact: Design) -> list[str]:
+    """About what a run of a lean controller takes of a stage; where it doesn't end in time, a cost by which it does."""
+    told = lambda steps, share: f"K about {steps:.0f}, {plain(float(f'{100 * share:.2g}'))} % of a stage"
+    steps = steps_of(exact, False)
+    share = share_of(exact, steps, model.period, CLOCK)
+    if not math.isfinite(steps):
+        return []
+    if share <= ENOUGH:
+        return [f"a run of a lean controller: {told(steps, share)} of a Cortex-M4 of {plain(CLOCK)} MHz"]
+    reach, words = reach_of_inputs(model), f"warning: a run of a lean controller doesn't end in time: {told(steps, share)} of a Cortex-M4 of {plain(CLOCK)} MHz"
+    for weighing in weighings(model, reach):
+        other = in_floats(Model(model.text | {"cost": weighing.cost(model, model.text, reach)}))
+        fewer = steps_of(other, False)
+        less = share_of(other, fewer, model.period, CLOCK)
+        if less <= ENOUGH:
+            return [f"{words}; with {weighing.words} {told(fewer, less)}"]
+    return [f"{words}; fewer stages, larger tolerances or a smaller box make it less (docs/TARGETS.md)"]
 
 
 def words_of(model: Model):
@@ -68,6 +90,7 @@ def words_of(model: Model):
     if not numpy.all(numpy.isfinite(exact.a)):
         return
     yield from corner_words(exact)
+    yield from run_words(model, exact)
     yield from size_words(model, exact)
 
 

@@ -1,21 +1,23 @@
-#!/usr/bin/env python3
 """Runs the commands of pages, and compares what they print with what the page says.
 
-    scripts/pages.py [--write] PAGE ..
+    ./mpc pages [--write] PAGE ..
 
 A block of lines of four spaces that begins with ./ has commands, run at the top of the repository; the next such block is what they print. Commands that need a
-library which isn't there (those of scripts/, and `./mpc design`) are left out, and told; so is a whole page that compiles C where there is no cc. With --write a page is given what its commands print.
+library which isn't there (those of scripts/, but for `./mpc explain`) are left out, and told; so is a whole page that compiles C where there is no cc. With --write a page is given what its commands print.
 """
 import os
+import re
 import shutil
 import subprocess
 import sys
 from collections.abc import Callable, Iterator
 
-from common import files
-from common.libraries import PACKAGES, missing, run
+from .common import files
+from .common.libraries import PACKAGES, missing, run
 
 TOP = os.path.dirname(os.path.dirname(os.path.realpath(__file__)))
+# what needs no library is tried everywhere
+PLAIN = {"explain", "pages", "refusals", "report_page"}
 
 
 def blocks_of(text: str) -> list[list[str]]:
@@ -39,7 +41,7 @@ def commands_of(text: str) -> Iterator[tuple[str, list[str]]]:
 
 
 def needs_libraries(command: str) -> bool:
-    return "./scripts/" in command or "./mpc design" in command
+    return any(name not in PLAIN and os.path.exists(os.path.join(TOP, "scripts", name + ".py")) for name in re.findall(r"\./mpc (\w+)", command))
 
 
 def needs_compiler(text: str) -> bool:

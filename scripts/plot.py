@@ -1,12 +1,11 @@
-#!/usr/bin/env python3
 """Draws the lines of `./mpc loop` over time: states and inputs with their limits, one curve for each start.
 
-    scripts/plot.py DESIGN LINES [LINES ..] --out FILE.svg [--labels NAME,NAME] [--starts N,N] [--turns N] [--report REPORT] [--disturbances FILE [--bears BOX]]
+    ./mpc plot DESIGN LINES [LINES ..] --out FILE.svg [--labels NAME,NAME] [--starts N,N] [--turns N] [--report REPORT] [--disturbances FILE [--bears BOX]]
                     [--settled FILE [--certificate FILE]]
 
 The name of FILE says its format: .svg, .pdf or .png.
 
-The first LINES are drawn full, the second dashed, and so on, so that two controllers can be laid beside each other (as scripts/exact_loop.py beside `loop`). Names,
+The first LINES are drawn full, the second dashed, and so on, so that two controllers can be laid beside each other (as ./mpc exact_loop beside `loop`). Names,
 units and the period come from the design's comments. Grey lines are the box, red ones the limits on one state or one input alone. Up to five curves stand in one column,
 more in three, as positions, velocities and accelerations along three axes do.
 
@@ -14,8 +13,8 @@ more in three, as positions, velocities and accelerations along three axes do.
     --starts   the records to draw, from 1 (all)
     --turns    the turns to draw (all)
     --report   a report of the design, whose violations are drawn too, dotted: how far a limit may be exceeded at most, which a lean controller does
-    --disturbances   what was added to the next states of these loops, turn by turn (scripts/disturbed_loop.py); it is drawn below them, with the greatest that the box bears
-                     (--bears, by scripts/faces.py) in grey
+    --disturbances   what was added to the next states of these loops, turn by turn (./mpc disturbed_loop); it is drawn below them, with the greatest that the box bears
+                     (--bears, by ./mpc faces) in grey
     --settled        what `settle` printed: the box in which every loop lies from a turn on, in green; with --certificate also the box that these loops start in, as a bar, and
                      lighter that in which no multiplier moves, up to that turn
 """
@@ -23,20 +22,20 @@ import os
 from collections.abc import Iterator
 from dataclasses import dataclass
 
-from common.libraries import Refusal, need, run
+from .common.libraries import Refusal, need, run
 
 need("matplotlib")
-from common.pictures import format_of, prepare, write
 import matplotlib.pyplot as pyplot
 from matplotlib.figure import Figure
 
-from common import files, matching
-from common.arguments import Parser, numbers, several
-from common.design_text import Design, read_design
-from common.disturbances import box_in, numbers_in
-from common.promises import Promise, certificate_of, promise_of
-from common.texts import loop_lines_of, read_text, report_of
-from common.tubes import Certificate
+from .common import files, matching
+from .common.arguments import Parser, numbers, several
+from .common.design_text import Design, read_design
+from .common.disturbances import box_in, numbers_in
+from .common.pictures import format_of, prepare, write
+from .common.promises import Promise, certificate_of, promise_of
+from .common.texts import loop_lines_of, read_text, report_of
+from .common.tubes import Certificate
 
 STYLES = ["-", "--", ":", "-."]
 ONE_COLUMN = 5

@@ -1,7 +1,6 @@
-#!/usr/bin/env python3
 """Finds a policy for a design: a plan for each corner of the box, with the least multiplier bound R.
 
-    scripts/policy.py DESIGN [POLICY] [--lean REFERENCE] [--denominator Q] [--margin T] [--turns N]
+    ./mpc policy DESIGN [POLICY] [--lean REFERENCE] [--denominator Q] [--margin T] [--turns N]
 
 R is the greatest cost over the least slack, and the steps K grow with it. For each corner one convex problem gives the plan of least cost that keeps every limit
 with a slack T, and a search over T finds the least R. The plans are rounded to the shortest denominator that costs at most 4 % of R. The policy goes to POLICY,
@@ -20,19 +19,19 @@ import math
 import sys
 from collections.abc import Callable
 
-from common.libraries import need, run
+from .common.libraries import need, run
 
 need("numpy", "cvxopt")
-from common import files
-from common.arguments import Parser, positive, several, turns
-from common.condensed import condense, curvature
-from common.corners import corners_of, lean_multiplier_of, margin_of, multiplier_of, steps_of
-from common.design_text import Design, plain, read_design
-from common.excess import excesses_of
-from explain import size_words
-from common.lean_plans import LeanPlans
-from common.programs import Programs, reach_of
-from common.sizes import form_of
+from .common import files
+from .common.arguments import Parser, positive, several, turns
+from .common.condensed import condense, curvature
+from .common.corners import corners_of, lean_multiplier_of, margin_of, multiplier_of, steps_of
+from .common.design_text import Design, plain, read_design
+from .common.excess import excesses_of
+from .common.lean_plans import LeanPlans
+from .common.programs import Programs, reach_of
+from .common.sizes import form_of
+from .explain import size_words
 
 FINE = 2**24
 MOST = 1024

@@ -1,7 +1,6 @@
-#!/usr/bin/env python3
 """Says how far closed loops go, also where they leave the box: `./mpc loop` ends there, and here the exact plant goes on.
 
-    scripts/reach.py DESIGN STATES [LINES] [--turns N]
+    ./mpc reach DESIGN STATES [LINES] [--turns N]
 
 From each state the plant of DESIGN is moved by the best plans of exact model predictive control (cvxopt), each next state rounded to the grid, for N turns (50). Outside the box, where
 a controller promises nothing and isn't run, the plans go on, without limits where none keeps them. LINES of `./mpc loop` are taken as far as they go, and followed from there. For each
@@ -9,16 +8,16 @@ coordinate it prints how far the loops go, as a part of the box from its middle:
 """
 from dataclasses import dataclass
 
-from common.libraries import Refusal, need, run
+from .common.libraries import Refusal, need, run
 
 need("numpy", "cvxopt")
-from common import files, matching
-from common.arguments import Parser, turns
-from common.design_text import Design, plain, read_design
-from common.programs import Programs, exact_loop
-from common.progress import Progress
-from common.texts import loop_lines_of, read_text, records_of
-from common.trajectories import next_state
+from .common import files, matching
+from .common.arguments import Parser, turns
+from .common.design_text import Design, plain, read_design
+from .common.programs import Programs, exact_loop
+from .common.progress import Progress
+from .common.texts import loop_lines_of, read_text, records_of
+from .common.trajectories import next_state
 
 
 @dataclass

@@ -1,8 +1,7 @@
-#!/usr/bin/env python3
 """Says in words why the program refused: the launcher runs it below the program's own line.
 
-    scripts/refusals.py STATUS LINE WORD..
-    scripts/refusals.py --table
+    ./mpc refusals STATUS LINE WORD..
+    ./mpc refusals --table
 
 STATUS is the exit status, LINE what the program printed on standard error (empty where it printed nothing), and the words are those that the program was given.
 It prints one or two sentences, with names in place of numbers as far as the files that the words name can be read, and nothing where there is nothing to say.
@@ -15,15 +14,15 @@ import tomllib
 from collections.abc import Iterator
 from fractions import Fraction
 
-from common import cell_boxes, sizes
-from common.arguments import MOST_TURNS
-from common.corners import corners_of, exact_corner, lean_multiplier_of, margin_of, multiplier_of
-from common.design_text import Design, plain, read_design
-from common.excess import excesses_of
-from common.files import read_bytes, same
-from common.libraries import run
-from common.texts import read_text, records_of
-from common.usage import commands, optional, places_of
+from .common import cell_boxes, sizes
+from .common.arguments import MOST_TURNS
+from .common.corners import corners_of, exact_corner, lean_multiplier_of, margin_of, multiplier_of
+from .common.design_text import Design, plain, read_design
+from .common.excess import excesses_of
+from .common.files import read_bytes, same
+from .common.libraries import run
+from .common.texts import read_text, records_of
+from .common.usage import commands, optional, places_of
 
 # ---- the texts: one for each status, and one for each fault that a status carries
 
@@ -49,7 +48,7 @@ TEXTS = {
     "count-disturbances": "{file} has {entries} records, and two are needed: the least disturbances, then the greatest.",
     "count-turns": "{file} has {entries} records, and {wanted} are needed: one for each turn.",
     "no-margin": "At {corner} the policy's plan leaves too little room in {row}: slack {slack}, at least 0.0000153 (2^-16) is needed. "
-    '{hint} scripts/policy.py finds a policy with room, or says which row and corner are to blame (docs/TARGETS.md, "Slack of the vertex plans").',
+    '{hint} ./mpc policy finds a policy with room, or says which row and corner are to blame (docs/TARGETS.md, "Slack of the vertex plans").',
     "curvature": "The limits are too steep for the cost: no step 2^-s with s up to 40 is small enough. Divide the rows by their tolerances, or take larger weights "
     '(docs/TARGETS.md, "Weights").',
     "too-many-steps": "A run would take K = {steps} steps, and at most 4194304 are accepted. {formula}: take a larger violation target{hint}, or a policy with "
@@ -71,7 +70,7 @@ TEXTS = {
     "long-cells": "{file} is longer than 268435456 bytes, and no text of cells is.",
     "mismatch": "The controller was not made for this design: its {field} are {controller}, and the design's are {design}. Run `generate` on this design.",
     "unequal": "Record {entry} of {file} is no proof of {face}: its limits have together {left} of input {input}, and its coordinate has {right}; the weights must make both the same. "
-    'scripts/faces.py finds such weights (docs/METHOD.md, "Faces").',
+    './mpc faces finds such weights (docs/METHOD.md, "Faces").',
     "no-stay": "Record {entry} of {file} lets a loop pass {face}: the coordinate may go as far as {bound} over 2^grid{end}. Other weights, a limit at the next state, a smaller violation "
     'target or smaller disturbances (docs/METHOD.md, "Faces").',
     "cell": "Cell {cell}{box} has no controller, with its policy: {refusal}",
@@ -108,13 +107,13 @@ PLANS = ("policy", "reference", "policies")
 # what the records of a certificate need
 BOXES = (
     "turns from 0 to 4096, and a box whose least numbers aren't above its greatest",
-    "a 0, and a box that is part of the controller's",
+    "turns from 0 to 4096, and a box that is part of the controller's",
     "turns from 1 to 4096",
 )
 # what K is made of, and which policy makes it less
 STEPS = {
     "generate": ("K = 2^(s+2) R / target", "a larger margin or a smaller cost"),
-    "lean": ("K = 2^(s+1) R over 15/16 of the target", "a smaller excess, as scripts/policy.py --lean finds it"),
+    "lean": ("K = 2^(s+1) R over 15/16 of the target", "a smaller excess, as ./mpc policy --lean finds it"),
 }
 
 DENOMINATOR, NUMERATOR = "a denominator, 1 to 1048576", "-2147483647 to 2147483647"
@@ -153,7 +152,7 @@ QUANTITIES = {
     "corner_cost": ("the enclosures of the corners' costs", NEARER + ", a smaller box and smaller inputs of the policy, a smaller cost.row_den or cost.den" + EXACT),
     "excess": (
         "what the corners' plans cost more than is best without limits",
-        "reference plans that are nearer to the best ones without limits, as scripts/policy.py --lean finds them, a smaller box, smaller weights",
+        "reference plans that are nearer to the best ones without limits, as ./mpc policy --lean finds them, a smaller box, smaller weights",
     ),
     "multiplier": ("the bound on the multipliers", "a policy with a larger margin or a smaller cost, or in `lean` one with a smaller excess"),
     "hessian": ("the enclosures of the condensed cost", NEARER + ", smaller weights, a smaller cost.row_den or cost.den" + EXACT),
@@ -810,7 +809,7 @@ def table() -> Iterator[str]:
     yield ""
     yield "What the program prints on standard error where it refuses: `error`, the exit status, a name and numbers. The launcher says below it what stands behind it here, with your names and"
     yield "numbers in the braces. FILE is the position of the file's name among the arguments, where the command is 0; as an output 0 is standard output. All else counts from 1."
-    yield "Made by `scripts/refusals.py --table`."
+    yield "Made by `./mpc refusals --table`."
     yield ""
     for status, line, names in STATUSES:
         shown = f"`error {status} {line}`" if line else f"(status {status}, no line)"

@@ -1,11 +1,10 @@
-#!/usr/bin/env python3
 """Makes one page of what `./mpc design` wrote: for a review, with all that it shows in itself.
 
-    scripts/report_page.py FOLDER [PAGE]
+    ./mpc report_page FOLDER [PAGE]
 
 Warnings come first: what makes the controller of no use, or its promises of less. Then K and what a run takes, each limit with what is promised of it, what was measured, the box and
 what it bears, the loops beside exact model predictive control, where they settle, and where K comes from. It reads design.toml, controller.txt, report.txt, judged.txt, explained.txt,
-loop.txt and loop.svg of FOLDER, and faces.csv and disturbances.csv, and settle.csv and settled.txt, where these are there. The page goes to PAGE, or is printed. It needs no library.
+loop.txt and loop.svg of FOLDER, and faces.csv and disturbances.csv, settle.csv and settled.txt, and fitted.toml, where these are there. The page goes to PAGE, or is printed. It needs no library.
 """
 import html
 import os
@@ -16,15 +15,16 @@ from collections.abc import Iterable
 from dataclasses import dataclass
 from fractions import Fraction
 
-from common import files
-from common.arguments import Parser
-from common.design_text import Design, plain, read_design
-from common.libraries import Refusal, run
-from common.promises import certificate_of, promise_of, promise_words
-from common.texts import loop_lines_of, read_text, records_of, report_of
+from .common import files
+from .common.arguments import Parser
+from .common.design_text import Design, plain, read_design
+from .common.libraries import Refusal, run
+from .common.model_text import TIMELY
+from .common.promises import certificate_of, promise_of, promise_words
+from .common.texts import loop_lines_of, read_text, records_of, report_of
 
 TEMPLATE = os.path.join(os.path.dirname(os.path.realpath(__file__)), "common", "page.html")
-SETTLES = "settle.csv", "settled.txt"
+SETTLES, FITTED = ("settle.csv", "settled.txt"), "fitted.toml"
 READ = ["design.toml", "controller.txt", "report.txt", "judged.txt", "explained.txt", "loop.txt", "loop.svg"]
 # what of a stage a run may take before it is told
 ENOUGH = 80.0
@@ -43,6 +43,7 @@ class Found:
     bears: list[list[int]] | None
     title: str
     settles: str | None = None
+    changed: str | None = None
 
 
 def read_folder(folder: str) -> Found:
@@ -55,7 +56,7 @@ def read_folder(folder: str) -> Found:
     if borne is not None and [len(record) for record in borne] != [design.states] * 2:
         raise Refusal(f"{bears}: two records of {design.states} numbers are expected, the least and the greatest disturbances")
     title = f"Controller of {os.path.basename(os.path.abspath(folder))}"
-    return Found(design, report_of(texts["report.txt"]), texts["judged.txt"].splitlines(), texts["explained.txt"].splitlines(), loops, texts["loop.svg"], borne, title, settles_in(folder, design))
+    return Found(design, report_of(texts["report.txt"]), texts["judged.txt"].splitlines(), texts["explained.txt"].splitlines(), loops, texts["loop.svg"], borne, title, settles_in(folder, design), changed_in(folder))
 
 
 def settles_in(folder: str, design: Design) -> str | None:
@@ -65,6 +66,13 @@ def settles_in(folder: str, design: Design) -> str | None:
         return None
     start = certificate_of(read_text(certificate), design.states).start
     return promise_words(design, promise_of(read_text(promise), design.states), start)
+
+
+def changed_in(folder: str) -> str | None:
+    """What of the model's cost and stages was changed, in words, where something was."""
+    path = os.path.join(folder, FITTED)
+    head = read_text(path).split("\n", 1)[0] if os.path.exists(path) else ""
+    return head[head.index(TIMELY) :] if TIMELY in head else None
 
 
 # ---- what is said
@@ -81,6 +89,8 @@ def warnings(found: Found) -> list[str]:
     part = part_of_a_stage(found.explained)
     if part is not None and part > ENOUGH:
         out.append(f"A run takes {plain(part)} % of a stage on a Cortex-M4 at 100 MHz: a faster processor, fewer steps or a longer stage.")
+    if found.changed:
+        out.append(f"{found.changed[0].upper()}{found.changed[1:]}: what is promised of the cost is promised of this one. (./mpc design --same-cost)")
     leaving = leaving_starts(found)
     if leaving:
         out.append(f"The loops from start {', '.join(map(str, leaving))} leave the box: the promises hold no longer from there on.")
@@ -176,7 +186,7 @@ def main() -> int:
     parser.add_argument("folder", metavar="FOLDER")
     parser.add_argument("page", metavar="PAGE", nargs="?")
     given = parser.parse_args()
-    inputs = {name: os.path.join(given.folder, name) for name in [*READ, "faces.csv", "disturbances.csv", *SETTLES]}
+    inputs = {name: os.path.join(given.folder, name) for name in [*READ, "faces.csv", "disturbances.csv", *SETTLES, FITTED]}
     files.keep_apart(inputs, {"PAGE": given.page or files.STANDARD_OUTPUT})
     text = page(read_folder(given.folder))
     if given.page:

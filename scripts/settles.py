@@ -1,12 +1,13 @@
-#!/usr/bin/env python3
 """Proposes a certificate that closed loops settle: from which part of the box they all lie in a small box from a turn on, under every disturbance of a range.
 
-    scripts/settles.py DESIGN CONTROLLER [CERTIFICATE] [--within PART] [--disturbances FILE] [--turns N] [--promise FILE]
+    ./mpc settles DESIGN CONTROLLER [CERTIFICATE] [--within PART] [--disturbances FILE] [--turns N] [--promise FILE]
 
 In a box in which no multiplier of the controller moves, the still box, the closed loop is a matrix, but for floors and rounding; so whole numbers show where its loops lie turn by turn. The box
 of rest is PART of the controller's box, and the start box another part of it, both about the state at which the loop rests: the largest from which loops come to the box of rest, and on their
 way lie in a still box; then the fewest turns from it, and back to the box of rest from there. The still box is a part of the controller's box, too, where one will do, and else the least that
 loops need. Without --within the box of rest is the first of 5, 10, 15, 20, 30, 40 and 50 % that loops settle in.
+A held state stands still wherever it is. Its range is the same in all three boxes: the greatest of 100, 90 .. 10 % of the box with which loops settle; and the certificate tells how near to
+their targets the rows of the cost come, after so many turns that more of them gain little.
 
 The certificate goes to CERTIFICATE, or is printed, and what it says to standard error. Nothing rests on it: it is tested in the program's whole numbers, by `settle`.
 
@@ -24,19 +25,22 @@ import sys
 from dataclasses import dataclass
 from fractions import Fraction
 
-from common import files, matching
-from common.arguments import Parser, whole
-from common.design_text import Design, read_design
-from common.disturbances import box_in
-from common.libraries import Refusal, run, say
-from common.promises import Promise, certificate_text, ends_of, percent, promise_text, time_of
-from common.texts import Controller, controller_of, kind_of, read_text
-from common.tubes import Box, Certificate, Loop, Stillness, Tubes, first_fault, hull, settled_box
+from .common import files, matching
+from .common.arguments import Parser, whole
+from .common.design_text import Design, read_design
+from .common.disturbances import box_in
+from .common.libraries import Refusal, run, say
+from .common.promises import Promise, certificate_text, costs_of, ends_of, percent, promise_text, time_of
+from .common.texts import Controller, controller_of, kind_of, read_text
+from .common.tubes import Box, Certificate, Loop, Stillness, Tubes, cost_box, first_fault, hull, settled_box
 
 # parts of the box that are tried for the box of rest, and how finely other parts are found
 RESTS = tuple(Fraction(part, 100) for part in (5, 10, 15, 20, 30, 40, 50))
 FINE = 2**12
 NONE = 12
+
+# parts of the box that are tried for the range of a held state
+KEPT = tuple(Fraction(part, 10) for part in range(10, 0, -1))
 
 
 @dataclass
@@ -48,6 +52,8 @@ class Found:
     rest: Fraction
     still: Fraction | None
     settled: Box
+    kept: Fraction | None
+    costs: Box
 
 
 def largest(holds) -> Fraction | None:
@@ -74,12 +80,13 @@ def way_to(tubes: Tubes, start: Box, goal: Box, least: int, most: int) -> list[B
 class Proposal:
     """The boxes of a controller's loop."""
 
-    def __init__(self, design: Design, controller: Controller, low: list[int], high: list[int], most: int) -> None:
-        self.design, self.most, self.box = design, most, Box(tuple(controller.lo), tuple(controller.hi))
+    def __init__(self, design: Design, controller: Controller, low: list[int], high: list[int], most: int, kept: Fraction = Fraction(1)) -> None:
+        self.design, self.most, self.box, self.kept = design, most, Box(tuple(controller.lo), tuple(controller.hi)), kept
         self.loop, self.rows = Loop(design, controller, low, high), Stillness(controller)
-        centre = self.loop.rest()
+        self.held = self.loop.held()
+        centre = self.loop.rest({i: (controller.lo[i] + controller.hi[i]) // 2 for i in self.held})
         if centre is None:
-            raise Refusal("the loop has no one state at which it rests: one of its states stands still wherever it is, and boxes of coordinates show no settling there", NONE)
+            raise Refusal("the loop has no one state at which it rests, and boxes of coordinates show no settling there", NONE)
         if not self.box.holds(Box(tuple(centre), tuple(centre))):
             raise Refusal(f"the loop rests at {self.words(centre)}, outside the box", NONE)
         self.centre = centre
@@ -91,7 +98,22 @@ class Proposal:
         self.tubes = Tubes(self.loop, self.box)
 
     def of(self, part: Fraction) -> Box:
-        return self.box.about(self.centre, part)
+        """So much of the controller's box about the state of rest; of held states so much as is kept."""
+        inner, outer = self.box.about(self.centre, part), self.box.about(self.centre, self.kept)
+        ends = [tuple((wide if i in self.held else own)[i] for i in range(self.design.states)) for own, wide in ((inner.low, outer.low), (inner.high, outer.high))]
+        return Box(*ends)
+
+    def after(self, turns: int, still: Box) -> tuple[int, Box]:
+        """From how many turns on the rows of the cost lie about as near to their targets as ever, and where; none where no state is held."""
+        if not self.held:
+            return 0, Box((), ())
+        boxes = {t: cost_box(self.loop, still, t)[0] for t in {max(1, turns), min(self.most, 8 * turns + 40)}}
+        last = boxes[max(boxes)]
+        for t in range(max(1, turns), max(boxes)):
+            box = cost_box(self.loop, still, t)[0]
+            if all(a >= b - max(1, abs(b) // 10) for a, b in zip(box.low, last.low)) and all(a <= b + max(1, abs(b) // 10) for a, b in zip(box.high, last.high)):
+                return t, box
+        return max(boxes), last
 
     def words(self, state: list[int]) -> str:
         names = [self.design.name("state", i + 1) for i in range(self.design.states)]
@@ -108,11 +130,14 @@ class Proposal:
         if still is None:
             return None
         wide = self.of(self.still)
-        certificate = Certificate(len(there) - 1, len(back) - 1, self.of(start), wide if wide.holds(still) else still, rest)
+        inside = wide if wide.holds(still) else still
+        after, costs = self.after(len(there) - 1, inside)
+        certificate = Certificate(len(there) - 1, len(back) - 1, self.of(start), inside, rest, after)
         fault = first_fault(self.loop, self.rows, certificate)
         if fault:
             raise Refusal(f"the certificate that was found isn't one: {' '.join(map(str, fault))}", NONE)
-        return Found(certificate, start, part, self.still if wide.holds(still) else None, settled_box(Tubes(self.loop, certificate.still), certificate))
+        settled = settled_box(Tubes(self.loop, certificate.still), certificate)
+        return Found(certificate, start, part, self.still if wide.holds(still) else None, settled, self.kept if self.held else None, costs)
 
     def still_for(self, part: Fraction, rest: Box, back: list[Box]) -> tuple[list[Box], Box] | None:
         """The way from this part of the box to the box of rest, and the least box that holds it before, and the way back; None where a multiplier may move in that."""
@@ -142,15 +167,31 @@ class Proposal:
         return f"loops from {where} aren't shown to be back there: after {self.most} turns {name.word} may be {name.shown(beyond[1] / 2**self.design.grid)}"
 
 
+def proposed(design: Design, controller: Controller, low: list[int], high: list[int], most: int, parts: tuple[Fraction, ...]) -> Found:
+    """The certificate with the greatest range of held states, where there are any."""
+    if not Loop(design, controller, low, high).held():
+        return Proposal(design, controller, low, high, most).best(parts)
+    why = Refusal("", NONE)
+    for kept in KEPT:
+        try:
+            return Proposal(design, controller, low, high, most, kept).best(parts)
+        except Refusal as refused:
+            why = refused
+    raise why
+
+
 def said(design: Design, found: Found, disturbed: bool) -> list[str]:
     """What a certificate says, in words."""
     s = found.certificate
     after = f"after {time_of(design, s.turns)}{' under every disturbance of the range' if disturbed else ''}"
     again = ", for ever" if s.back == 1 else f", and again every {time_of(design, s.back)}"
+    kept = f", held states in {percent(found.kept)} of it," if found.kept else ""
+    near = [f"from turn {s.after} on, for ever: {costs_of(design, found.costs)}"] if s.after else []
     return [
-        f"every loop from {percent(found.start)} of the box lies within {percent(found.rest)} of it {after}{again}",
+        f"every loop from {percent(found.start)} of the box{kept} lies within {percent(found.rest)} of it {after}{again}",
         f"from then on, for ever: {ends_of(design, found.settled)}",
         f"no multiplier moves in {f'{percent(found.still)} of the box' if found.still else f'the box of {ends_of(design, s.still)}'}, which no such loop leaves",
+        *near,
     ]
 
 
@@ -183,11 +224,11 @@ def main() -> int:
     matching.refuse(f"the controller {given.controller}", "design", matching.controller_difference(controller, design))
     still = [0] * design.states
     low, high = box_in(given.disturbances, design) if given.disturbances else (still, still)
-    found = Proposal(design, controller, low, high, given.turns).best((given.within,) if given.within else RESTS)
+    found = proposed(design, controller, low, high, given.turns, (given.within,) if given.within else RESTS)
     for line in said(design, found, bool(given.disturbances)):
         say(line)
     if given.promise:
-        files.write(given.promise, promise_text(Promise(found.certificate.turns, found.settled)))
+        files.write(given.promise, promise_text(Promise(found.certificate.turns, found.settled, found.certificate.after, found.costs)))
     if given.certificate:
         files.write(given.certificate, certificate_text(found.certificate))
     else:

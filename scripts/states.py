@@ -1,7 +1,6 @@
-#!/usr/bin/env python3
 """Writes states to begin loops from: corners of a design's box, and random states of its grid.
 
-    scripts/states.py DESIGN [STATES] [--corners N] [--random N] [--seed N]
+    ./mpc states DESIGN [STATES] [--corners N] [--random N] [--seed N]
 
 They go to STATES, or are printed, numbers over `2^grid`, a line each. Of more corners than N, which is 8, the first and the last are taken, and others at random; of random
 states N, which is 4.
@@ -9,10 +8,10 @@ states N, which is 4.
 import random
 import sys
 
-from common import files
-from common.arguments import Parser, count
-from common.design_text import Design, read_design
-from common.libraries import run
+from .common import files
+from .common.arguments import Parser, count
+from .common.design_text import Design, read_design
+from .common.libraries import run
 
 
 def corners(design: Design) -> list[list[int]]:

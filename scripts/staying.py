@@ -1,18 +1,18 @@
-#!/usr/bin/env python3
 """Proposes coordinates, limits on the next state and a box for which faces show that no loop ever leaves the box.
 
-    scripts/staying.py MODEL [NEW_MODEL] [--generate] [--steps N] [--clock MHZ] [--seconds S]
+    ./mpc staying MODEL [NEW_MODEL] [--generate] [--steps N] [--clock MHZ] [--seconds S] [--same-cost]
 
 Each state whose faces don't hold by the model's own limits gets limits on the next state, by `stay` in the model's `[box]`: the next state is kept so much inside the box, and may exceed
 that by as much. From each corner some inputs must then lead back inside. Which box has such inputs at all its corners, and is the largest, a linear program says, of each choice of
 coordinates: the model's own, `position + T rate`, and those in which loops of linear gains shrink each by itself, with held states and last inputs in them, as `speed - reference`. Of a box of
 last inputs a part may be taken, too: then the limits on these inputs are so much narrower.
 Each box is judged by how much of the model's own it holds, and by what its controller takes: which part of a stage a run is on a Cortex-M4 of so many MHz (100), and the steps K.
-A controller is one of `lean`, or with --generate of `stay`, of at most N steps (20000).
+A controller is one of `lean`, or with --generate of `stay`, of at most N steps (20000). Where a run wouldn't end within its stage, other costs are tried, whose plans ask for less beyond the
+limits: inputs that weigh more, and costs of the box's coordinates; and then half as many stages, and a quarter. What was taken is said. With --same-cost both are the model's.
 
 What was tried goes to standard error, and every few seconds how far the search is: it ends after S seconds (60), or by an interrupt. The model with what was found goes to NEW_MODEL, or
 is printed. Where `disturbed` stands in `[box]`, faces hold under it. Where nothing was found, NEW_MODEL gets the best that was seen, the status is 12, and it is said which corner,
-limit, coordinate or disturbance is in the way. Nothing rests on it: scripts/faces.py finds the faces of the design that is drafted of it.
+limit, coordinate or disturbance is in the way. Nothing rests on it: ./mpc faces finds the faces of the design that is drafted of it.
 """
 import contextlib
 import io
@@ -20,44 +20,51 @@ import math
 import sys
 from dataclasses import dataclass, field, replace
 
-from common.libraries import Refusal, need, run, say
+from .common.libraries import Refusal, need, run, say
 
 need("numpy", "scipy", "cvxopt", "jsonschema")
 import numpy
 import scipy.linalg
 
-import faces
-from common import files
-from common.arguments import Parser, positive, several
-from common.budget import Budget
-from common.c_costs import about_step
-from common.design_text import Design, plain
-from common.kept_boxes import Plant, covered, largest, short_of
-from common.lean_plans import LeanPlans
-from common.model_text import model_text
-from common.models import Model, grid_disturbances, neat, read_model
-from common.programs import Programs
-from common.turns import candidates
-from coordinates import COUPLED, TIMES, Choice, changed, four, told
-from draft import corner_plans, drafted, in_floats, too_wide
-from policy import find as find_policy
-from policy import find_lean, plans_with
+from . import faces
+from .common import files
+from .common.arguments import Parser, positive, several
+from .common.budget import Budget
+from .common.c_costs import about_step
+from .common.design_text import Design, plain
+from .common.kept_boxes import Plant, covered, largest, short_of
+from .common.lean_plans import LeanPlans
+from .common.model_text import TIMELY, model_text
+from .common.models import Model, grid_disturbances, neat, read_model
+from .common.programs import Programs
+from .common.run_costs import SAME, Weighing, weighings
+from .common.turns import candidates
+from .coordinates import COUPLED, TIMES, Choice, changed, four, told
+from .draft import corner_plans, drafted, in_floats, too_wide
+from .policy import find as find_policy
+from .policy import find_lean, plans_with
 
 # the slack that a corner's inputs leave in each limit, in tolerances
 SLACK = 0.125
 # parts of half the box by which next states are kept inside
 STAYS = (0.02, 0.04, 0.07, 0.12, 0.2, 0.32)
 STARTS = (0.02, 0.07)
+# by which part of what inputs move a coordinate by its next state is kept inside the box at most
+LED = 0.5
 # by which a T is tried larger and smaller, and a part for `stay`
 FACTORS, PARTS = (0.5, 0.8, 1.25, 2.0), (1.4, 0.7)
 # up to which part of the time coordinates are tried, made better, priced, and priced again with other parts
 TRIED, BETTER, PRICED, FINE = 0.25, 0.5, 0.7, 0.85
+# the most steps of a controller, where nothing else is asked for
+MOST_STEPS = 20000.0
 # how many choices are made better, and how many priced
 FEW, SOME = 2, 3
 # e times the part of a stage, and e times the steps, are worth so much of the box, as a logarithm; less than so much of a stage, and fewer than so many steps, are worth nothing
 SHARE_WORTH, SMALL, STEPS_WORTH, FEW_STEPS = 0.25, 0.02, 0.1, 40
 # where a run takes more of a stage than this, e times as much is worth so much more
 ENOUGH, LONG_WORTH = 0.8, 2.0
+# e times the room of each next state inside the box, from the least that is tried, is worth so much of the box: what is exceeded less than that bears disturbances
+ROOM_WORTH = 0.05
 # less of the model's box than this is nothing
 NOTHING = 0.005
 # parts of the greatest slack at which plans are tried
@@ -70,7 +77,7 @@ EXCEEDED = {True: 4, False: 3}
 @dataclass
 class Staying(Choice):
     """A choice with the parts of half the box by which the next state is kept inside, 0 for no limit; how much of the model's box it holds, about how many steps a run takes, and which part of
-    a stage; the parts where each coordinate has limits; and fewer stages than the model's, where its own are refused."""
+    a stage; the parts where each coordinate has limits; fewer stages than the model's, where its own take too long or are refused; and the cost."""
 
     stay: list = field(default_factory=list)
     covers: float = 0.0
@@ -78,6 +85,7 @@ class Staying(Choice):
     share: float = 0.0
     wide: list = field(default_factory=list)
     stages: int | None = None
+    weighing: Weighing = SAME
 
     @property
     def worth(self) -> float:
@@ -85,7 +93,9 @@ class Staying(Choice):
             return -math.inf
         beyond = lambda value, free: math.log(max(value, free) / free)
         run = SHARE_WORTH * beyond(self.share, SMALL) + LONG_WORTH * beyond(self.share, ENOUGH) + STEPS_WORTH * beyond(self.steps, FEW_STEPS)
-        return math.log(self.covers) - run
+        parts = [part for part in self.stay if part]
+        room = sum(math.log(part / STAYS[0]) for part in parts) / len(parts) if parts else 0.0
+        return math.log(self.covers) - run + ROOM_WORTH * room
 
     @property
     def run_words(self) -> str:
@@ -99,12 +109,19 @@ def with_limits(model: Model, choice: Staying) -> dict:
     lo = box.get("lo", [-v for v in box["hi"]])
     box["stay"] = [neat(part * (high - low) / 2) for part, low, high in zip(choice.stay, lo, box["hi"])]
     text |= {"box": box} | ({"stages": choice.stages} if choice.stages else {})
+    if choice.weighing != SAME:
+        text["cost"] = choice.weighing.cost(model, text, reach_of_inputs(model))
     kept = dict(zip(model.last, choice.kept[model.n - len(model.last) :]))
     if min(kept.values(), default=1.0) < 1 and "last" not in model.text["box"]:
         # the box of a last input is that of its limits with their tolerances
         del box["last"]
         text["limit"] = [narrowed(model, limit, kept) for limit in text["limit"]]
     return text
+
+
+def reach_of_inputs(model: Model) -> list[float]:
+    """What each planned input comes to at most, by the limits on it alone and their tolerances; infinite where there is none."""
+    return [float(most * unit) for most, unit in zip(plant_of(model).reach, model.input_units)]
 
 
 def narrowed(model: Model, limit: dict, kept: dict[int, float]) -> dict:
@@ -130,7 +147,7 @@ def plant_of(model: Model) -> Plant:
     own, kept = model.own, model.own + len(model.held)
     a, b, middle, last = numpy.array(design.a), numpy.array(design.b), (lo + hi) / 2, list(range(kept, model.n))
     ends = {} if "last" in model.text["box"] else ends_of_last(numpy.hstack([a, b]), rows, last, middle)
-    return Plant(a, b, rows[:, :-1], rows[:, -1], middle, (hi - lo) / 2, shift, list(range(own, kept)), last, ends)
+    return Plant(a, b, rows[:, :-1], rows[:, -1], middle, (hi - lo) / 2, shift, list(range(own, kept)), last, ends, numpy.array(high, float) / 2**design.grid)
 
 
 def ends_of_last(plant: numpy.ndarray, rows: numpy.ndarray, last: list[int], middle: numpy.ndarray) -> dict[int, tuple[int, float]]:
@@ -190,8 +207,8 @@ def lost_coordinate(model: Model, design: Design, generate: bool) -> int | None:
     return None
 
 
-def priced(model: Model, choice: Staying, generate: bool, clock: float) -> Staying:
-    """The choice with limits where faces need them and nowhere else, and about what a run takes; infinitely many steps where it has no faces or no plans."""
+def with_faces(model: Model, choice: Staying, generate: bool) -> Staying | None:
+    """The choice with limits where faces need them and nowhere else; None where it has no faces."""
     stay = [0.0] * model.own
     while True:
         trial = replace(choice, stay=stay)
@@ -200,13 +217,22 @@ def priced(model: Model, choice: Staying, generate: bool, clock: float) -> Stayi
             design = in_floats(made)
             lost = lost_coordinate(made, design, generate)
         except Refusal:
-            return replace(choice, steps=math.inf)
+            return None
         if lost is None:
-            steps = steps_of(design, generate)
-            return replace(trial, steps=steps, share=share_of(design, steps, model.period, clock), wide=choice.stay)
+            return replace(trial, wide=choice.stay)
         if lost >= model.own or stay[lost] or not choice.stay[lost]:
-            return replace(choice, steps=math.inf)
+            return None
         stay = [choice.stay[i] if i == lost else part for i, part in enumerate(stay)]
+
+
+def priced(model: Model, choice: Staying, generate: bool, clock: float) -> Staying:
+    """The choice with about what a run takes: infinitely many steps where there are no plans."""
+    try:
+        design = in_floats(Model(with_limits(model, choice)))
+    except Refusal:
+        return replace(choice, steps=math.inf)
+    steps = steps_of(design, generate)
+    return replace(choice, steps=steps, share=share_of(design, steps, model.period, clock))
 
 
 # ---- the search
@@ -215,8 +241,12 @@ def priced(model: Model, choice: Staying, generate: bool, clock: float) -> Stayi
 class Search:
     """Choices for a model, and the best of them."""
 
-    def __init__(self, model: Model, budget: Budget, generate: bool, clock: float) -> None:
-        self.model, self.budget, self.generate, self.clock, self.plant = model, budget, generate, clock, plant_of(model)
+    def __init__(self, model: Model, budget: Budget, generate: bool, clock: float, same: bool = False, most: float = MOST_STEPS) -> None:
+        self.model, self.budget, self.generate, self.clock, self.most, self.plant = model, budget, generate, clock, most, plant_of(model)
+        # costs beside the model's, and counts of stages; and what served last
+        self.others = [] if same else weighings(model, reach_of_inputs(model))
+        self.counts = [None] + ([] if same else [-(-model.stages // part) for part in (2, 4) if model.stages >= part])
+        self.weighing, self.stages = SAME, self.counts[0]
         self.best: Staying | None = None
         self.pool: list[dict] = []
 
@@ -224,6 +254,9 @@ class Search:
         """The largest box in these coordinates, with these parts of it for `stay`, and how much of the model's box that holds."""
         choice = Staying(times, [1.0] * self.model.n, stay if isinstance(stay, list) else [stay] * self.model.own)
         turn = choice.rows(self.model.n)
+        # where inputs move a coordinate by little, so much less is asked of them
+        most = self.plant.within_reach(turn, LED)
+        choice.stay = [min(part, float(limit)) if limit else part for part, limit in zip(choice.stay, most)]
         found = largest(self.plant, turn, numpy.array(choice.stay + [0.0] * (self.model.n - self.model.own)), SLACK)
         if found is None or found.least <= 0:
             return None
@@ -299,7 +332,7 @@ class Search:
         out: list[Staying] = []
         for choice in choices[:SOME]:
             for stay in STAYS:
-                if self.budget.goes_on(PRICED) or not out:
+                if self.budget.goes_on(PRICED) or choice is choices[0] and stay == STAYS[0]:
                     self.price(self.larger(choice.times, stay), out)
         improved = True
         while improved and out:
@@ -314,24 +347,45 @@ class Search:
         """Adds a choice with its price."""
         if sized is None:
             return
-        out.append(priced(self.model, sized, self.generate, self.clock))
+        limited = with_faces(self.model, sized, self.generate)
+        if limited is None:
+            return
+        out.append(self.timely(limited))
         best = max(out, key=lambda one: one.worth)
         if math.isfinite(best.worth):
             self.best = best
             self.tell(best)
 
-    def run(self, most: float) -> dict | None:
-        """The keys of the model with the best choice whose faces are found, of at most so many steps."""
+    def timely(self, choice: Staying) -> Staying:
+        """The choice with about what a run takes, by the cost that served last; and where that doesn't end in time, by the first other one that does, or the shortest, of as many stages as can be."""
+        priced_as = lambda weighing, stages: priced(self.model, replace(choice, weighing=weighing, stages=stages), self.generate, self.clock)
+        best = priced_as(self.weighing, self.stages)
+        for stages in self.counts[self.counts.index(self.stages) :]:
+            for weighing in [SAME, *self.others]:
+                if self.is_timely(best) or math.isinf(best.steps) or not self.budget.goes_on(PRICED):
+                    break
+                trial = priced_as(weighing, stages)
+                best = trial if trial.steps <= self.most and trial.share < best.share or self.is_timely(trial) else best
+        self.weighing, self.stages = best.weighing, best.stages
+        return best
+
+    def is_timely(self, choice: Staying) -> bool:
+        """Whether a run ends within its stage, and takes no more steps than it may."""
+        return choice.share <= ENOUGH and choice.steps <= self.most
+
+    def run(self) -> dict | None:
+        """The keys of the model with the best choice whose faces are found."""
         found = self.coordinates()
         self.best = found[0] if found else None
         parts = [TRIED + (BETTER - TRIED) * (place + 1) / len(found) for place in range(len(found))]
         found = sorted((self.better(choice, part) for choice, part in zip(found, parts)), key=lambda one: -one.covers)
-        for choice in self.prices(found):
-            if not math.isfinite(choice.worth) or choice.steps > most or not self.budget.goes_on():
+        for place, choice in enumerate(self.prices(found)):
+            # the best is drafted, however late it is
+            if not math.isfinite(choice.worth) or choice.steps > self.most or (place and not self.budget.goes_on()):
                 continue
             say(f"{words_of(self.model, choice)}: {plain(100 * choice.covers)} % of the model's box, {choice.run_words}")
             wide = [replace(choice, stay=choice.wide)] * (choice.stay != choice.wide)
-            fewer = [replace(choice, stages=-(-self.model.stages // part)) for part in (2, 4) if self.model.stages >= part]
+            fewer = [replace(choice, stages=count) for part in (2, 4) if (count := -(-self.model.stages // part)) < (choice.stages or self.model.stages)]
             for trial in [choice, *wide, *fewer]:
                 made = drafted_faces(self.model, trial, self.generate)
                 if not isinstance(made, str):
@@ -387,7 +441,9 @@ def found_faces(model: Model, generate: bool = False) -> tuple[Design, list] | N
 def words_of(model: Model, choice: Staying) -> str:
     """A choice in words."""
     kept = [f"the next {model.names[i][0]} {plain(part)} of the box inside it" for i, part in enumerate(choice.stay) if part]
-    return told(model, choice) + (", and " if kept else "") + ", ".join(kept)
+    others = [f"{choice.stages} stages in place of {model.stages}"] * bool(choice.stages) + [choice.weighing.words] * (choice.weighing != SAME)
+    told_others = f"; {TIMELY}, {' and '.join(others)}" if others else ""
+    return told(model, choice) + (", and " if kept else "") + ", ".join(kept) + told_others
 
 
 # ---- what is in the way
@@ -405,8 +461,9 @@ def in_the_way(model: Model, plant: Plant, choice: Staying | None) -> list[str]:
     own = plant.turned(turn)
     at = ", ".join(f"{name} {'high' if sign > 0 else 'low'}" for name, sign in zip(names, short.blame.corner) if sign)
     ends = [f"the {'upper' if sign > 0 else 'lower'} end of {names[i]}" for i, sign in short.blame.ends]
-    limits = [limit_words(model, row) for row in short.blame.limits]
-    words = [f"at the corner of {at} the next state can't be kept in the box: {' and '.join(ends + limits)} meet there, {plain(max(0.0, -short.least))} tolerances short"]
+    met = ends + [limit_words(model, row) for row in short.blame.limits]
+    meets = "meet there" if len(met) > 1 else "is in the way there"
+    words = [f"at the corner of {at} the next state can't be kept in the box: {' and '.join(met)} {meets}, {plain(max(0.0, -short.least))} tolerances short"]
     calm = short_of(replace(plant, shift=numpy.zeros(model.n)), turn, parts, stay)
     if any(own.shift > 0.6 / 2 ** int(model.text["box"].get("grid", 4))) and calm and calm.least - short.least > 0.25 * max(0.25, -short.least):
         words.append(f"without what is disturbed it would be {plain(max(0.0, -calm.least))}: a smaller `disturbed` helps")
@@ -418,7 +475,7 @@ def limit_words(model: Model, row: int) -> str:
     return f"the limit {in_floats(model).name('stage row', row + 1).word}"
 
 
-def search(model: Model, most: float = 20000.0, seconds: float = 60.0, generate: bool = False, clock: float = 100.0) -> tuple[dict, bool]:
+def search(model: Model, most: float = MOST_STEPS, seconds: float = 60.0, generate: bool = False, clock: float = 100.0, same: bool = False) -> tuple[dict, bool]:
     """The keys of a model whose design has faces, and whether they hold; else of the best that was seen."""
     if any(model.stay) and found_faces(model, generate):
         say("as it is: the faces hold")
@@ -427,8 +484,8 @@ def search(model: Model, most: float = 20000.0, seconds: float = 60.0, generate:
         say("the model's own limits keep it in the box")
         return model.text, True
     with Budget(seconds) as budget:
-        found = Search(model, budget, generate, clock)
-        keys = found.run(most)
+        found = Search(model, budget, generate, clock, same, most)
+        keys = found.run()
     if keys is not None:
         return keys, True
     for words in in_the_way(model, found.plant, found.best):
@@ -436,21 +493,28 @@ def search(model: Model, most: float = 20000.0, seconds: float = 60.0, generate:
     return (with_limits(model, found.best) if found.best else model.text), False
 
 
+def others_words(model: Model, keys: dict) -> str:
+    """What isn't the model's of cost and stages, as a page of the design has to say."""
+    others = [f"its {key}" for key in ("cost", "stages") if keys.get(key) != model.text.get(key)]
+    return f"; {TIMELY} {' and '.join(others)} {'are' if len(others) > 1 else 'is'} not what was asked for" if others else ""
+
+
 def main() -> int:
     parser = Parser(__doc__)
     parser.add_argument("model", metavar="MODEL")
     parser.add_argument("new", metavar="NEW_MODEL", nargs="?")
     parser.add_argument("--generate", action="store_true")
-    parser.add_argument("--steps", type=several, default=20000, metavar="N")
+    parser.add_argument("--steps", type=several, default=MOST_STEPS, metavar="N")
     parser.add_argument("--clock", type=positive, default=100.0, metavar="MHZ")
     parser.add_argument("--seconds", type=positive, default=60.0, metavar="S")
+    parser.add_argument("--same-cost", action="store_true")
     given = parser.parse_args()
     files.keep_apart({"MODEL": given.model}, {"NEW_MODEL": given.new or files.STANDARD_OUTPUT})
     model = read_model(given.model)
-    found, holds = search(model, given.steps, given.seconds, given.generate, given.clock)
+    found, holds = search(model, given.steps, given.seconds, given.generate, given.clock, given.same_cost)
     if not holds:
         say("no coordinates, no limits and no box were found for which faces hold, and the best that was seen is kept: stronger inputs, a smaller box or a smaller `disturbed` (docs/BOXES.md)")
-    text = files.read_bytes(given.model).decode() if found is model.text else model_text(found, "a model whose loops never leave the box, by scripts/staying.py")
+    text = files.read_bytes(given.model).decode() if found is model.text else model_text(found, "a model whose loops never leave the box, by ./mpc staying" + others_words(model, found))
     if given.new:
         files.write(given.new, text)
     else:

@@ -1,11 +1,12 @@
-#!/usr/bin/env python3
-"""Prints the numbers of controllers of a design of one plan entry, as the tests of trials_engine expect them.
+"""Prints the numbers of controllers of a design of one plan entry, as the tests of trials_engine expect them; its condensed form is that of the model in checks/fuzz.
 
 The plant is x+ = (a x + b u) / D. A cost row (c, t, w) costs w (c x - t)^2 at stage 1, the input r u^2, and twice the whole is u H u + 2 (F x + h0) u + ..
 A limit row of stage 0 is (p x + q u) / L <= v / L, one of stage 1 is p x / L <= v / L. Gains solve H over D^2 exactly, up to half.
 """
 from fractions import Fraction as Q
-from math import floor, ceil
+from math import ceil, floor
+
+from bench.designs import design, exact_form
 
 D, A, B = 2, 3, 1
 COSTS = [(1, 1, 5), (2, -1, 2)]
@@ -21,14 +22,11 @@ def nearest(q):
 
 
 def condensed():
-    response, free = Q(B, D), Q(A, D)
-    hessian = 2 * sum(w * (c * response) ** 2 for c, t, w in COSTS) + 2 * INPUT
-    linear = 2 * sum(w * c * response * c * free for c, t, w in COSTS)
-    constant = -2 * sum(w * c * response * t for c, t, w in COSTS)
-    g = [Q(q, L) for p, q, v in STAGE] + [p * response / L for p, v in FINAL]
-    e = [Q(p, L) for p, q, v in STAGE] + [p * free / L for p, v in FINAL]
-    b = [Q(v, L) for p, q, v in STAGE] + [Q(v, L) for p, v in FINAL]
-    return hessian, linear, constant, g, e, b
+    form = exact_form(design(1, 1, 1, D, [[A]], [[B]], 1, 1, [INPUT], COSTS, [], L, STAGE, FINAL))
+    ((half,),), ((linear,),), (constant,) = form.q, form.f, form.h0
+    of_cost = lambda v: Q(v.mid, form.hess_den)
+    rows = lambda columns: [Q(v.mid, form.row_den) for (v,) in columns]
+    return 2 * of_cost(half), of_cost(linear), of_cost(constant), rows(form.g), rows(form.e), [Q(v, form.row_den) for v in form.b]
 
 
 def controller(s, f, steps, r):

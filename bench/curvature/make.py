@@ -1,16 +1,18 @@
-#!/usr/bin/env python3
 """What run.sh times, and what it compares the exponents with.
 
-    make.py FOLDER              writes the crate `curvature_bench`, which times the step exponent of one design of the greatest size of version 1
-    make.py --designs FOLDER    writes designs, each with a policy, whose rows have exponents of their own
-    make.py --expected          prints the exponents of their rows, as exponents.py computes them in some minutes: rows.txt
+    python3 -m bench.curvature.make FOLDER              writes the crate `curvature_bench`, which times the step exponent of one design of the greatest size of version 1
+    python3 -m bench.curvature.make --designs FOLDER    writes designs, each with a policy, whose rows have exponents of their own
+    python3 -m bench.curvature.make --expected          prints the exponents of their rows, as exponents.py computes them in some minutes: rows.txt
 
 The first has 60 plan entries and 252 limit rows: no gap is dominant, s1 is 38, and the certificate is found at 32, so 33 roots are tried. The designs are of the greatest
 sizes of both versions, and one of them is fine. A stage row of each is so steep that most others are lowered four times, each time with a root: no matrix is dominant.
 """
 import os
 import sys
-from exponents import exponents, row_exponents
+
+from bench.designs import design
+
+from .exponents import exponents, row_exponents
 
 INPUTS = 8000
 A = [[1, 1, 0, 0], [0, 0, 1, 0], [0, 0, 0, 1], [0, 0, 0, 0]]
@@ -20,7 +22,7 @@ FINAL = [[(i * 3 + j * 5) % 7 - 3 for j in range(4)] + [100] for i in range(12)]
 COST = [[1, 0, 0, 0, 0, 1], [0, 1, 0, 0, 0, 2], [1, 0, 1, 0, 0, 1]]
 LAST = [[1, 1, 1, 1, 0, 5]]
 WEIGHTS = [1, 2, 1]
-DESIGN = dict(states=4, inputs=3, stages=20, a_den=1, A=A, B=B, cost_den=1, row_den=1, input=WEIGHTS, stage_cost=COST, final_cost=LAST,
+DESIGN = dict(states=4, inputs=3, stages=20, plant_den=1, a=A, b=B, cost_den=1, row_den=1, input=WEIGHTS, stage_cost=COST, final_cost=LAST,
               limit_den=1, stage_rows=STAGE, final_rows=FINAL)
 
 
@@ -108,10 +110,10 @@ def steep_and_flat(states, steep, flat):
     return stage, [[(i * 3 + j * 5) % 7 - 3 for j in range(states)] + [100] for i in range(12)]
 
 
-def lowered(states, stages, a_den, A, B, steep, flat):
+def lowered(states, stages, den, a, b, steep, flat):
     stage, final = steep_and_flat(states, steep, flat)
     unit = lambda *at: [int(i in at) for i in range(states)]
-    return dict(states=states, inputs=3, stages=stages, a_den=a_den, A=A, B=B, cost_den=1, row_den=1, input=[1, 2, 1],
+    return dict(states=states, inputs=3, stages=stages, plant_den=den, a=a, b=b, cost_den=1, row_den=1, input=[1, 2, 1],
                 stage_cost=[unit(0) + [0, 1], unit(1) + [0, 2], unit(0, 2) + [0, 1]], final_cost=[[1] * states + [0, 5]], limit_den=1, stage_rows=stage, final_rows=final)
 
 
@@ -125,9 +127,9 @@ def exact_lowered(states, stages):
 def fine_lowered():
     """Two chains of three, over a denominator that 2^40 is no multiple of."""
     den, one = 10 ** 6, chain(3, 10 ** 6, 8 * 10 ** 5)
-    A = [row + [0] * 3 for row in one] + [[0] * 3 + row for row in one]
-    B = [[0] * 3, [0] * 3, [10 ** 5, 0, 10 ** 5], [0] * 3, [0] * 3, [0, 10 ** 5, -10 ** 5]]
-    return lowered(6, 30, den, A, B, 64, 1)
+    a = [row + [0] * 3 for row in one] + [[0] * 3 + row for row in one]
+    b = [[0] * 3, [0] * 3, [10 ** 5, 0, 10 ** 5], [0] * 3, [0] * 3, [0, 10 ** 5, -10 ** 5]]
+    return lowered(6, 30, den, a, b, 64, 1)
 
 
 # by name: the design's version and numbers
@@ -142,9 +144,9 @@ states = {n}
 inputs = {d['inputs']}
 stages = {d['stages']}
 [plant]
-den = {d['a_den']}
-a = {d['A']}
-b = {d['B']}
+den = {d['plant_den']}
+a = {d['a']}
+b = {d['b']}
 [cost]
 den = {d['cost_den']}
 row_den = {d['row_den']}
@@ -182,7 +184,7 @@ def write_crate(folder):
     numbers = dict(A=rows(A), B=rows(B), WEIGHTS=', '.join(map(str, WEIGHTS)), COST=rows(COST), LAST=rows(LAST), STAGE=rows(STAGE), FINAL=rows(FINAL))
     with open(os.path.join(folder, 'main.rt'), 'w') as f:
         f.write(MAIN % numbers)
-    print(*exponents(DESIGN)[:2])
+    print(*exponents(design(**DESIGN))[:2])
 
 
 if __name__ == '__main__':
@@ -191,6 +193,6 @@ if __name__ == '__main__':
     elif sys.argv[1] == '--expected':
         for name, (version, d) in LOWERED.items():
             if version > 1:
-                print(name, *row_exponents(d), flush=True)
+                print(name, *row_exponents(design(**d)), flush=True)
     else:
         write_crate(sys.argv[1])

@@ -41,7 +41,7 @@ compared() {
 time_designs() {
     local design took
     mkdir "$work/designs"
-    (cd "$here" && python3 make.py --designs "$work/designs")
+    (cd "$top" && python3 -m bench.curvature.make --designs "$work/designs")
     for design in "$work"/designs/*/; do
         took=$(least "$design" "$1")
         echo "$(basename "$design"): $took ms"
@@ -77,7 +77,7 @@ for crate in $(needed); do
     grep "^$crate:" crates.txt >>"$work/crates.txt"
 done
 echo "curvature_bench: design_engine hessian_check mat_int qp_model" >>"$work/crates.txt"
-expected=$(cd "$here" && python3 make.py "$work/crates/curvature_bench")
+expected=$(python3 -m bench.curvature.make "$work/crates/curvature_bench")
 
 cd "$work/crates/curvature_bench"
 rt run >log 2>&1 || { tail -20 log >&2; exit 1; }

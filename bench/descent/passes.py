@@ -1,7 +1,6 @@
-#!/usr/bin/env python3
 """What further moves of the gains would do to the printed gap.
 
-    bench/descent/passes.py PROGRAM
+    python3 -m bench.descent.passes PROGRAM
 
 For each example the program makes the controller. Its gap is computed anew from the gains that were written; then after one more pass over the entries of every column, in
 which an entry moves by 1 wherever that lowers the sum of the residuals and leaves the solution good; and, beside it, with the exact solutions rounded to the nearest.
@@ -11,10 +10,9 @@ import subprocess
 import sys
 import tempfile
 
+from checks.fuzz import control, model
+
 TOP = os.path.dirname(os.path.dirname(os.path.dirname(os.path.abspath(__file__))))
-sys.path.insert(0, f"{TOP}/checks/fuzz")
-import control
-import model
 
 
 def moved(matrix, column, bits, x):

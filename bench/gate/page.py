@@ -1,4 +1,4 @@
-"""bench/gate/COSTS.md, as bench/gate/run.py writes it of what it measured."""
+"""bench/gate/COSTS.md, as python3 -m bench.gate.run writes it of what it measured."""
 import os
 import re
 from dataclasses import dataclass
@@ -15,7 +15,7 @@ PACE = {"integer_algebra": 12, "word_region": 15, "frac_scaled": 19}
 FIRST_ANSWER = "The first answer"
 HEAD = """# What proofs cost
 
-Written by `bench/gate/run.py --page`. [PROOFS.md](../../docs/PROOFS.md#what-keeps-a-proof-short) says what keeps a proof short.
+Written by `python3 -m bench.gate.run --page`. [PROOFS.md](../../docs/PROOFS.md#what-keeps-a-proof-short) says what keeps a proof short.
 """
 
 
@@ -44,6 +44,13 @@ def add_changes(costs: dict[str, Cost], below: dict[str, list[str]]) -> None:
         cost.above = sum(other.proof + other.tests for above, other in costs.items() if name in all_below(above))
 
 
+def rows_in(page: str) -> dict[str, Cost]:
+    """The crates of a page with what they took, but for what a change of them costs."""
+    number = lambda cell: float(cell.strip("* ") or 0)
+    rows = re.findall(r"^\| `(\w+)` \|(.*)\|$", page, re.M)
+    return {name: Cost(number(cells[0]), number(cells[1]), int(number(cells[2])), *map(number, cells[3:5])) for name, row in rows for cells in [row.split("|")]}
+
+
 def minutes(seconds: float) -> str:
     return f"{seconds / 60:.0f}"
 
@@ -70,7 +77,7 @@ def cell(seconds: float, mark: float) -> str:
 
 def row(name: str, cost: Cost, pace: float = 1) -> str:
     edits = f"{cost.edits or ''} | {cost.edit_time:.0f}" if cost.edit_time else " | "
-    return f"| `{name}` | {cell(cost.proof, PROOF * pace)} | {cell(cost.tests, TESTS * pace)} | {edits} | {cost.memory:.1f} | {minutes(cost.above)} |"
+    return f"| `{name}` | {cell(cost.proof, PROOF * pace)} | {cell(cost.tests, TESTS * pace)} | {edits} | {f'{cost.memory:.1f}' if cost.proof else ''} | {minutes(cost.above)} |"
 
 
 def text(kit: str, processors: int, wall: float, costs: dict[str, Cost], chain: tuple[float, list[str]], first: str = "", note: str = "", pace: float = 1) -> str:
@@ -92,6 +99,23 @@ def text(kit: str, processors: int, wall: float, costs: dict[str, Cost], chain: 
     return HEAD + "\n" + "\n".join(lines) + "\n\n" + "\n".join(table) + "\n"
 
 
+def renewed(costs: dict[str, Cost], chain: tuple[float, list[str]], first: str, note: str, pace: float) -> str:
+    """The page where its rows are of more than one run: crates that no run has measured have an empty row, and sums are of the others. The words before them are `note`."""
+    proof, tests, edits = (sum(getattr(cost, part) for cost in costs.values()) for part in ("proof", "tests", "edit_time"))
+    none = [f"`{name}`" for name, cost in costs.items() if not cost.proof]
+    lines = [
+        f"Processor seconds from nothing, and the most memory of one check in GB. {note}".rstrip(),
+        f"Of {len(costs)} crates {len(costs) - len(none)} were measured: their proofs take {minutes(proof)} processor minutes (mark of all {minutes(PARTS['proofs'])}), their tests {minutes(tests)} "
+        f"({minutes(PARTS['tests'])}) and {sum(cost.edits for cost in costs.values() if cost.edit_time)} edits {minutes(edits)} ({minutes(PARTS['edits'])}), {pace:g} times on that machine.",
+        f"Not measured: {', '.join(none) or 'none'}. Their rows are empty, and sums lack them.",
+        f"The longest chain of proofs that were measured is {chain[0] / 60:.1f} minutes: {', '.join(f'`{name}`' for name in chain[1])}.",
+        *([first] if first else []),
+        "The last column has the processor minutes that a changed contract or definition of a crate costs, without edits: the proofs and tests of it and of all above it.",
+    ]
+    table = ["| Crate | Proof | Tests | Edits | Their time | Memory | A change, minutes |", "|---|---|---|---|---|---|---|", *(row(name, cost, pace) for name, cost in costs.items())]
+    return HEAD + "\n" + "\n".join(lines) + "\n\n" + "\n".join(table) + "\n"
+
+
 def first_answer(look: float, first: tuple[float, float], others: tuple[float, float], processors: int, pace: float = 1) -> str:
     """The line of the look and of the first answer, in seconds of the processor and by the clock, and of what the first answer of another command takes after it."""
     slower = f", {pace:g} times on this machine" if pace != 1 else ""
@@ -99,7 +123,7 @@ def first_answer(look: float, first: tuple[float, float], others: tuple[float, f
         f"{FIRST_ANSWER} (`./mpc generate` in a fresh clone, with nothing kept, which proves that command's program) takes {first[0] / 60:.1f} processor minutes and "
         f"{first[1] / 60:.1f} minutes on {processors} processors; the first of another command, which proves the rest, takes {others[0] / 60:.1f} processor minutes and {others[1] / 60:.1f} minutes more: "
         f"{(first[0] + others[0]) / 60:.1f} in all, where {minutes(FIRST)} are the mark for `generate` and {minutes(BOTH)} for all{slower}. A look before any proof, `./mpc try demo 7`, takes {look:.0f} processor "
-        f"seconds, where {LOOK} are the mark{slower} (`bench/gate/run.py --first`)."
+        f"seconds, where {LOOK} are the mark{slower} (`python3 -m bench.gate.run --first`)."
     )
 
 

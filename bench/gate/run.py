@@ -1,17 +1,17 @@
-#!/usr/bin/env python3
 """Measures in a fresh clone, with nothing kept, what the first answers and the gate take, each beside its mark at the pace of this machine.
 
-    bench/gate/run.py [--processors N] [--page [FILE] [--note TEXT]]       one run of all: the pace, a look, the first answers, the gate
-    bench/gate/run.py --pace                                               the pace alone, by the proofs of three crates that seldom change
-    bench/gate/run.py --first [--page [FILE]]                              the pace; a look, ./mpc try demo 7; the first answer, ./mpc generate, which proves and builds that command's
+    python3 -m bench.gate.run [--processors N] [--page [FILE] [--note TEXT]]       one run of all: the pace, a look, the first answers, the gate
+    python3 -m bench.gate.run --pace                                               the pace alone, by the proofs of three crates that seldom change
+    python3 -m bench.gate.run --first [--page [FILE]]                              the pace; a look, ./mpc try demo 7; the first answer, ./mpc generate, which proves and builds that command's
                                                                            program; and then that of ./mpc demo 7, which proves and builds the rest
-    bench/gate/run.py --gate [--kept] [--lanes N] [--log FILE] [NAME ..]   the pace; the gate, `rt ci --anew`: every proof, every test, every must-fail edit
+    python3 -m bench.gate.run --gate [--kept] [--lanes N] [--log FILE] [NAME ..]   the pace; the gate, `rt ci --anew`: every proof, every test, every must-fail edit
+    python3 -m bench.gate.run --renew [--note TEXT]                                measures nothing: the page's own rows, in the order of crates.txt and without crates that are gone
 
 What is measured is what is committed. The clone has no kept work, the first answers are those of a kit that has kept nothing, and the gate reads nothing that was kept but with --kept, as it does in a
 checkout: then the table has what is left. With names, these crates and those below them are proved, and the others are taken out of the clone. With --processors N all runs on N of the processors alone,
 so the minutes by the clock are what N would take. --lanes N proves N crates side by side with one process each, whatever memory there is; without it the gate chooses by processors and memory, and a
 proof may share several processors, which costs some more processor time. Stopped by Ctrl-C or a SIGTERM, it tells what it has measured. Below the table stand the dearest must-fail edits, each with
-its seconds. With --page the page of costs, bench/gate/COSTS.md or FILE, is written of what was measured, with the words of --note, or with --first its line of the first answer. --pace-is X takes X for
+its seconds. With --page the page of costs, bench/gate/COSTS.md or FILE, is written of what was measured, with the words of --note; of a run with names or --kept the rows that it measured alone, or with --first its line of the first answer. --pace-is X takes X for
 the pace in place of measuring it.
 
 Processor time is that of the prover's processes, as the system counts it, and memory the most that one process held. The marks are for a machine on which the three crates take their marks' seconds, and
@@ -33,9 +33,8 @@ import tempfile
 import threading
 import time
 
-sys.path.insert(0, os.path.dirname(os.path.abspath(__file__)))
-import page
-from page import BOTH, FIRST, LOOK, PACE, PROOF, TESTS, WHOLE
+from . import page
+from .page import BOTH, FIRST, LOOK, PACE, PROOF, TESTS, WHOLE
 
 HERE = os.path.dirname(os.path.abspath(__file__))
 PARTS = ("proof", "tests", "edits")
@@ -227,6 +226,15 @@ def write_page(options, wall, measured):
     page.write(options.page, page.text(kit, len(os.sched_getaffinity(0)), wall, *measured, page.first_line(page.read(options.page)), options.note, options.pace_is))
 
 
+def renew(options, measured=None):
+    """Writes the page of its own rows, and of those that were measured now."""
+    old, top = page.read(options.page), os.path.dirname(os.path.dirname(HERE))
+    crates, found = crates_in(top), page.rows_in(old) | (measured or {})
+    costs = {crate: found.get(crate, page.Cost()) for crate in sorted(crates, key=lambda crate: len(below(crates, crate)))}
+    page.add_changes(costs, crates)
+    page.write(options.page, page.renewed(costs, longest_chain(crates, {crate: cost.proof for crate, cost in costs.items()}), page.first_line(old), options.note, options.pace_is))
+
+
 def gate(options):
     with tempfile.TemporaryDirectory(prefix="gate-") as room:
         root = f"{room}/clone"
@@ -251,6 +259,8 @@ def gate(options):
             measured = table(crates, said, wall, after.ru_utime + after.ru_stime - before.ru_utime - before.ru_stime, options.pace_is, not options.names and not status)
             if options.page and not status and not options.names and not options.kept:
                 write_page(options, wall, measured)
+            elif options.page and not status:
+                renew(options, {crate: cost for crate, cost in measured[0].items() if cost.proof})
             sys.stdout.flush()
 
         def stop(*_):
@@ -332,7 +342,7 @@ def pace():
 
 def measured_pace():
     """The pace, measured in a process of its own, since what watches the commands stays."""
-    said = subprocess.run([sys.executable, os.path.abspath(__file__), "--pace"], stdout=subprocess.PIPE, text=True, check=True).stdout
+    said = subprocess.run([sys.executable, "-m", "bench.gate.run", "--pace"], cwd=os.path.dirname(os.path.dirname(HERE)), stdout=subprocess.PIPE, text=True, check=True).stdout
     print(said, end="", flush=True)
     return float(re.search(r": ([0-9.]+) times the marks' time", said)[1])
 
@@ -359,7 +369,7 @@ def first(options):
 def main():
     parser = argparse.ArgumentParser(description=__doc__, formatter_class=argparse.RawDescriptionHelpFormatter)
     parser.add_argument("names", nargs="*", metavar="NAME")
-    for flag in ("--pace", "--first", "--gate", "--kept"):
+    for flag in ("--pace", "--first", "--gate", "--kept", "--renew"):
         parser.add_argument(flag, action="store_true")
     parser.add_argument("--processors", type=int)
     parser.add_argument("--lanes", type=int)
@@ -375,6 +385,9 @@ def main():
     if options.pace:
         sys.exit(pace())
     options.log, options.page = options.log and os.path.abspath(options.log), options.page and os.path.abspath(options.page)
+    if options.renew:
+        options.page, options.pace_is = options.page or f"{HERE}/COSTS.md", options.pace_is or 1
+        sys.exit(renew(options))
     options.pace_is = options.pace_is or measured_pace()
     status = first(options) if options.first or not options.gate else 0
     sys.exit(gate(options) or status if options.gate or not options.first else status)

@@ -1,4 +1,3 @@
-#!/usr/bin/env python3
 """Writes designs whose exact numbers pass the limit, of 21 to 60 plan entries, each with a policy: fine.py FOLDER, for run.sh.
 
 Four states in two chains, up to three inputs, 12 cost rows and 12 limit rows of each kind, and a plant over the greatest denominator that there is. The model in
@@ -7,12 +6,7 @@ checks/fuzz says that the design and its corners are of the fine classes, and th
 import os
 import sys
 
-HERE = os.path.dirname(os.path.abspath(__file__))
-sys.path.insert(0, os.path.join(HERE, "..", "..", "checks", "fuzz"))
-import at_corners
-import cases
-import forms
-import model
+from checks.fuzz import at_corners, cases, forms, model
 
 A = [[0.8, 0.2, 0, 0], [0, 0.8, 0, 0], [0, 0, 0.8, 0.2], [0, 0, 0, 0.8]]
 B = [[0, 0, 0], [0.2, 0, 0], [0, 0, 0.2], [0, 0.2, 0]]

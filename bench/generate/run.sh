@@ -12,7 +12,7 @@ work=$(mktemp -d)
 trap 'rm -rf "$work"' EXIT
 TIMEFORMAT='%U %S'
 mkdir "$work/fine"
-python3 "$here/fine.py" "$work/fine"
+(cd "$here/../.." && python3 -m bench.generate.fine "$work/fine")
 
 # The least processor time of a command on the design in a folder, in milliseconds; the command with the names of its plans.
 least() {

@@ -1,7 +1,6 @@
-#!/usr/bin/env python3
 """Measures the commands at their limits: time and memory.
 
-    bench/limits/run.py PROGRAM [NAME ..]
+    python3 -m bench.limits.run PROGRAM [NAME ..]
 
 listing   a controller of 90 plan entries and 372 rows, in version 2: `list`, whose mark is 50 ms, and `play` of its listing beside `solve`
 cells     a design of 60 plan entries and 252 rows in 64 cells: `split`, whose mark is 70 times `generate` of one of its cells, and `serve` of its text beside `solve`
@@ -18,13 +17,9 @@ import subprocess
 import sys
 import tempfile
 
-HERE = os.path.dirname(os.path.abspath(__file__))
-sys.path.insert(0, os.path.join(HERE, "..", "..", "checks", "fuzz"))
-import cases
-import control
-import model
-import split_boxes
+from checks.fuzz import cases, control, model, split_boxes
 
+HERE = os.path.dirname(os.path.abspath(__file__))
 EXAMPLES = os.path.join(HERE, "..", "..", "examples")
 MILLION = 1_000_000
 MOST_LIST, MOST_SPLIT, MOST_MEMORY = 0.05, 70, 2

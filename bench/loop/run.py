@@ -1,7 +1,6 @@
-#!/usr/bin/env python3
 """Measures `loop`: its time beside `solve` on the same states, and its memory over its turns.
 
-    bench/loop/run.py PROGRAM [RUNS]
+    python3 -m bench.loop.run PROGRAM [RUNS]
 
 Time: the satellite's controller over 200 turns, and `solve` on the states that those turns began with, in turn, RUNS (9) times each; the least processor times
 are compared. The mark is 1.02. The plans of both must be the same.
@@ -14,11 +13,9 @@ import subprocess
 import sys
 import tempfile
 
-HERE = os.path.dirname(os.path.abspath(__file__))
-sys.path.insert(0, os.path.join(HERE, "..", "..", "checks", "fuzz"))
-import control
-import model
+from checks.fuzz import control, model
 
+HERE = os.path.dirname(os.path.abspath(__file__))
 PROGRAM = os.path.abspath(sys.argv[1])
 RUNS = int(sys.argv[2]) if len(sys.argv) > 2 else 9
 EXAMPLES = os.path.join(HERE, "..", "..", "examples")

@@ -1,4 +1,3 @@
-#!/usr/bin/env python3
 """admm.py PROGRAM [--examples motor,pmsm]: what ADMM in single precision costs on an emulated Cortex-M4, for what `lean` promises.
 
 The peer of a controller: ADMM (Boyd and others, 2011; over-relaxed by 1.6, as OSQP has it) on the same condensed problem, opposite rows as one row with two ends, its
@@ -6,7 +5,7 @@ penalty the best of a list, straight C without loops or tables but for the itera
 which no plan from the example's states and the corners of its box exceeds a limit by more than is asked of its row, or costs more than is asked above the best: once what the report of `lean` promises for all states,
 and once what its controller does at these states. Of ADMM both are measured at these states alone, and nothing is proved of its sums.
 
-Needs gcc-arm-none-eabi, qemu-system-arm and what scripts/judge.py needs; says so where they aren't installed.
+Needs gcc-arm-none-eabi, qemu-system-arm and what ./mpc judge needs; says so where they aren't installed.
 """
 import argparse
 import itertools
@@ -15,12 +14,12 @@ import subprocess
 import sys
 import tempfile
 
-import board
-
-from common.programs import Programs
-from common.design_text import read_design
-
 import numpy
+
+from scripts.common.design_text import read_design
+from scripts.common.programs import Programs
+
+from . import board
 
 EXAMPLES = ["motor", "pmsm", "satellite", "wheel", "antenna", "rendezvous", "kiln"]
 PENALTIES = [10 ** (e / 4) for e in range(-24, 25)]
@@ -185,7 +184,7 @@ def made(program, example, states):
 
 
 def main():
-    parser = argparse.ArgumentParser(prog="bench/target/admm.py", description=__doc__, formatter_class=argparse.RawDescriptionHelpFormatter)
+    parser = argparse.ArgumentParser(prog="python3 -m bench.target.admm", description=__doc__, formatter_class=argparse.RawDescriptionHelpFormatter)
     parser.add_argument("program")
     parser.add_argument("--examples", default=",".join(EXAMPLES))
     given = parser.parse_args()

@@ -3,16 +3,13 @@ import os
 import re
 import shutil
 import subprocess
-import sys
 from dataclasses import dataclass
+
+from scripts.common.c_text import CText
+from scripts.common.c_words import Form
 
 HERE = os.path.dirname(os.path.abspath(__file__))
 TOP = os.path.dirname(os.path.dirname(HERE))
-sys.path.insert(0, os.path.join(TOP, "scripts"))
-
-from common.c_text import CText
-from common.c_words import Form
-
 PACKAGES = {"arm-none-eabi-gcc": "gcc-arm-none-eabi", "qemu-system-arm": "qemu-system-arm"}
 
 

@@ -1,4 +1,3 @@
-#!/usr/bin/env python3
 """costs.py [COUNT]: how near `scripts/common/c_costs.py` comes to what is measured on an emulated Cortex-M4, on COUNT controllers of each kind (4 where none is given).
 
 The controllers have random numbers in the shape of a design's: rows on inputs that count one entry, rows on states that count all entries before them, most in pairs of opposite rows.
@@ -9,11 +8,11 @@ import random
 import sys
 import tempfile
 
-import board
+from scripts.common.c_costs import Costs
+from scripts.common.texts import Controller
+from scripts.tests.controllers import with_width
 
-from common.c_costs import Costs
-from tests.controllers import with_width
-from common.texts import Controller
+from . import board
 
 # fraction bits, step exponent, bits of the clamp over 2^(f+s), and how often a stage has a row on states
 KINDS = {"32 bits": (16, 1, 8, 0.7), "32 bits, inputs alone": (16, 1, 8, 0), "two parts": (26, 1, 8, 0.7), "two parts, inputs alone": (26, 1, 8, 0), "four parts": (33, 2, 6, 0.7), "two words": (46, 3, 12, 0.5)}

@@ -1,4 +1,3 @@
-#!/usr/bin/env python3
 """run.py PROGRAM [--boards m4,m7] [--examples motor,pmsm] [--optimise -O3] [--by generate] [--eva SECONDS]: what the C of the examples' controllers costs on emulated boards.
 
 For each example PROGRAM makes the controller by `lean`, or by `generate`, and the plans of its states; its C, as tables and as the program of `c` where there is one, runs on the boards, must print
@@ -13,9 +12,9 @@ import subprocess
 import sys
 import tempfile
 
-import board
+from scripts.common.strict_texts import safe_controller
 
-from common.strict_texts import safe_controller
+from . import board
 
 EXAMPLES = ["motor", "pmsm", "satellite", "wheel", "kiln", "antenna", "rendezvous"]
 # the status of `c` where the controller is too wide for it
@@ -73,7 +72,7 @@ def eva(controller, name, seconds):
 
 
 def main():
-    parser = argparse.ArgumentParser(prog="bench/target/run.py", description=__doc__, formatter_class=argparse.RawDescriptionHelpFormatter)
+    parser = argparse.ArgumentParser(prog="python3 -m bench.target.run", description=__doc__, formatter_class=argparse.RawDescriptionHelpFormatter)
     parser.add_argument("program")
     parser.add_argument("--boards", default="m4")
     parser.add_argument("--examples", default=",".join(EXAMPLES))

@@ -1,4 +1,3 @@
-#!/usr/bin/env python3
 """run.py [PROGRAM] [--count 100] [--seed 1]: the C of random controllers of all kinds of words, under gcc's sanitizers, beside the machine and beside `solve`.
 
 Each controller gets single steps from any multipliers, runs from states of its box and states outside it. With PROGRAM its `solve` prints the plans of the same states. It says how
@@ -12,12 +11,9 @@ import subprocess
 import sys
 import tempfile
 
-TOP = os.path.dirname(os.path.dirname(os.path.dirname(os.path.abspath(__file__))))
-sys.path.insert(0, os.path.join(TOP, "scripts"))
-
-from common.c_words import Form
-from tests import c_trials
-from tests.controllers import random_controller, run, text_of
+from scripts.common.c_words import Form
+from scripts.tests import c_trials
+from scripts.tests.controllers import random_controller, run, text_of
 
 
 def differs_from_solve(program, c, folder, states):
@@ -29,7 +25,7 @@ def differs_from_solve(program, c, folder, states):
 
 
 def main():
-    parser = argparse.ArgumentParser(prog="checks/c/run.py", description=__doc__, formatter_class=argparse.RawDescriptionHelpFormatter)
+    parser = argparse.ArgumentParser(prog="python3 -m checks.c.run", description=__doc__, formatter_class=argparse.RawDescriptionHelpFormatter)
     parser.add_argument("program", nargs="?")
     parser.add_argument("--count", type=int, default=100)
     parser.add_argument("--seed", type=int, default=1)

@@ -1,7 +1,6 @@
-#!/usr/bin/env python3
 """Counts how often a kernel asks for memory, by tests of `trials_kernel` that run alone under an allocator that counts.
 
-    checks/faults/kernel_requests.py [--build]
+    python3 -m checks.faults.kernel_requests [--build]
 
 Of three tests each does what the one before it does, and one thing more: it makes a controller, prepares a kernel with it, makes a run. So what two of them differ by is what that thing
 asks for. `prepare` asks once, for its one region, where the machine's factors pass 64 bits; where a run is made in words of 64 bits, also for two matrices, each a list of rows and each row a
@@ -11,7 +10,7 @@ import argparse
 import sys
 import tempfile
 
-import allocations
+from . import allocations
 
 CRATE = "trials_kernel"
 # the plan entries and the rows of the tests' controllers

@@ -1,7 +1,6 @@
-#!/usr/bin/env python3
 """Runs the built program while memory, files and its output fail, and checks what stands afterwards.
 
-    checks/faults/run.py PROGRAM [--jobs JOBS] [--only memory|files|output] [--commands NAME,..] [--short]
+    python3 -m checks.faults.run PROGRAM [--jobs JOBS] [--only memory|files|output] [--commands NAME,..] [--short]
 
 Memory: under an allocator that refuses one request, the n-th, for every n that the run makes, and again one that refuses the n-th and all later ones. Each run
 must end with the status 1 and its line, or with the right answer, be that a refusal, whose line may be missing; what a command writes is left as it was, the others have put some first lines. Where the
@@ -22,14 +21,11 @@ import subprocess
 import sys
 import tempfile
 
-HERE = os.path.dirname(os.path.abspath(__file__))
-sys.path.insert(0, os.path.join(HERE, "..", "fuzz"))
-import cases
-import control
-import listing
-import program as model_program
-import split_boxes
+from ..fuzz import cases, control, listing
+from ..fuzz import program as model_program
+from ..fuzz import split_boxes
 
+HERE = os.path.dirname(os.path.abspath(__file__))
 EXAMPLES = os.path.join(HERE, "..", "..", "examples")
 MEMORY = b"error 1 memory\n"
 # of each group, so many faults are told

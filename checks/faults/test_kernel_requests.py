@@ -1,7 +1,7 @@
 """What is told of the requests of three tests."""
 import unittest
 
-import kernel_requests
+from . import kernel_requests
 
 
 class Counts(unittest.TestCase):

@@ -6,7 +6,7 @@ are shown. With no code of the program's.
 from dataclasses import dataclass
 from fractions import Fraction
 
-from forms import FINE, LIMIT, Enclosure, Run, ceil_div, divided, reached
+from .forms import FINE, LIMIT, Enclosure, Run, ceil_div, divided, reached
 
 
 @dataclass

@@ -4,11 +4,7 @@ import re
 from fractions import Fraction
 from math import ceil
 
-import at_corners
-import control
-import forms
-import model
-import program
+from . import at_corners, control, forms, model, program
 
 EXAMPLES = os.path.join(os.path.dirname(os.path.abspath(__file__)), "..", "..", "examples")
 PIECES = [b"-", b"0", b"1", b"9", b",", b" ", b"\n", b"\r", b"\r\n", b'"', b"[", b"]", b".", b"=", b"#", b"\xff", b"\x00", b"_", b"x", b"e", b"\t", b"'", b"{", b"}",

@@ -1,20 +1,15 @@
-#!/usr/bin/env python3
 """Prints what `solve` tells of the first worked controller where one of its bytes is another, by the model.
 
-    checks/fuzz/changed_bytes.py
+    python3 -m checks.fuzz.changed_bytes
 
 A row for each thing that is told of a text that is not refused at the line of its changed byte: the places of the changed bytes, counted from 0, each with the byte
 that stands there, a space, `-`, `0` or `9`, as a number; and what is told of the corners' states, with a comma for each line feed but the last. The tests of
 trials_command hold these rows.
 """
 import os
-import sys
 import textwrap
 
-sys.path.insert(0, os.path.dirname(os.path.abspath(__file__)))
-import control
-import model
-import program
+from . import control, model, program
 
 EXAMPLE = os.path.join(os.path.dirname(os.path.abspath(__file__)), "..", "..", "examples", "first", "controller.txt")
 

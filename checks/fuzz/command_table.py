@@ -1,7 +1,8 @@
 """The commands of commands.txt: how many words may follow each, and which of its words name files that it writes."""
 import os
 
-TABLE = os.path.join(os.path.dirname(os.path.abspath(__file__)), "..", "..", "commands.txt")
+# a link to the page at the top, whose text an installed package has in its place
+TABLE = os.path.join(os.path.dirname(__file__), "commands.txt")
 
 with open(TABLE, encoding="utf-8") as lines:
     ARGUMENTS = {line.split()[0]: line.split()[1:] for line in lines if not line.startswith("#")}

@@ -5,7 +5,7 @@ whether it is a sum, which stands in parentheses where it is an operand of a pro
 """
 import re
 
-from control import absolute_sums
+from .control import absolute_sums
 
 MOST_WIDTH = 64
 

@@ -6,7 +6,7 @@ import re
 from dataclasses import dataclass
 from operator import mul
 
-from model import LIMIT, Refused, ceil_div
+from .model import LIMIT, Refused, ceil_div
 
 EVERY_FILE = 4194304
 

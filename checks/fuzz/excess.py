@@ -5,9 +5,8 @@ numbers, with no code of the program's; `fault` holds it against the simulated p
 """
 from fractions import Fraction
 
-import at_corners
-import forms
-from forms import FINE, Enclosure, ceil_div, combined, divided, product
+from . import at_corners, forms
+from .forms import FINE, Enclosure, ceil_div, combined, divided, product
 
 
 class Numbers:

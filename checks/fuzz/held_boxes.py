@@ -4,8 +4,8 @@ A face is a sum of first rows, which bounds how far a coordinate of the next sta
 """
 from dataclasses import dataclass
 
-from forms import dot
-from model import NUMERATOR, Refused, limited, read_records
+from .forms import dot
+from .model import NUMERATOR, Refused, limited, read_records
 
 SCALE = 2**40
 

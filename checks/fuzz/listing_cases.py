@@ -1,8 +1,5 @@
 """Accumulator listings for run.py: of controllers, with less width than they need or a line changed, and of no controller."""
-import cases
-import control
-import listing
-import model
+from . import cases, control, listing, model
 
 
 def random_instruction(pick, words, room):

@@ -12,10 +12,8 @@ from dataclasses import dataclass
 from fractions import Fraction
 from math import ceil, isqrt
 
-import at_corners
-import excess
-import forms
-from forms import LIMIT, ceil_div
+from . import at_corners, excess, forms
+from .forms import LIMIT, ceil_div
 
 sys.set_int_max_str_digits(0)
 csv.field_size_limit(2**31 - 1)

@@ -1,7 +1,6 @@
-#!/usr/bin/env python3
 """An independent model of the whole program: what each command answers with, to the byte.
 
-    checks/fuzz/program.py COMMAND ..    runs the command as the program does, in the present folder
+    python3 -m checks.fuzz.program COMMAND ..    runs the command as the program does, in the present folder
 
 The one thing that isn't determined is which good solutions a design's gains are. So `answer` is told them by `gains`, a function of the choice; run as a
 program, it takes its own. Everything else is exact: the status, its line on standard error, standard output, and what each file holds.
@@ -11,16 +10,9 @@ import os
 import sys
 from dataclasses import dataclass, field
 
-sys.path.insert(0, os.path.dirname(os.path.abspath(__file__)))
-import compiled
-import control
-import listing
-import model
-import held_boxes
-import settling
-import split_boxes
-from command_table import COUNTS, OUTPUTS
-from model import LIMIT, Refused
+from . import compiled, control, held_boxes, listing, model, settling, split_boxes
+from .command_table import COUNTS, OUTPUTS
+from .model import LIMIT, Refused
 
 NAMES = {1: "memory", 2: "usage", 3: "read-fault", 4: "write-fault", 5: "text", 6: "no-margin", 7: "curvature", 8: "too-many-steps", 9: "too-fine", 10: "too-wide",
          11: "controller", 12: "outside-box", 13: "long", 14: "mismatch", 16: "unequal", 17: "no-stay", 18: "cell", 20: "listing", 21: "trap", 22: "too-wide-c",
@@ -318,7 +310,7 @@ class Program:
         d, c = self.plant_and_controller()
         s = self.text(3, lambda data: settling.read_certificate(data, settling.Box(c.lo, c.hi)))
         shifts = self.text(4, lambda data: held_boxes.read_shift_box(data, d.states)) if len(self.words) > 4 else [[0] * d.states] * 2
-        for line in settling.lines_of(s, settling.check(d, c, s, settling.Box(*shifts))):
+        for line in settling.lines_of(s, *settling.check(d, c, s, settling.Box(*shifts))):
             self.put(line)
 
     def loop(self):

@@ -1,8 +1,7 @@
-#!/usr/bin/env python3
 """Runs the program's commands on changed and random texts, and compares each answer with the independent model beside this file, to the byte.
 
-    checks/fuzz/run.py PROGRAM [--cases COUNT] [--seed SEED] [--jobs JOBS] [--kind KIND] [--loop-products COUNT] [--case NUMBER]
-    checks/fuzz/run.py PROGRAM --table NAME [--jobs JOBS] [--case NUMBER]
+    python3 -m checks.fuzz.run PROGRAM [--cases COUNT] [--seed SEED] [--jobs JOBS] [--kind KIND] [--loop-products COUNT] [--case NUMBER]
+    python3 -m checks.fuzz.run PROGRAM --table NAME [--jobs JOBS] [--case NUMBER]
 
 For each of COUNT (1000) cases the exit status, the line on standard error, standard output and every file that is left must be the model's. A design's gains aren't
 determined: they are taken from the controller that the program wrote, once they are known to solve their systems. Each run of a controller is made with every
@@ -34,22 +33,7 @@ import subprocess
 import sys
 import tempfile
 
-sys.path.insert(0, os.path.dirname(os.path.abspath(__file__)))
-import at_corners
-import cases
-import control
-import forms
-import listing
-import listing_cases
-import model
-import program
-import settle_cases
-import settling
-import stay_cases
-import tables
-import held_boxes
-import split_boxes
-import split_cases
+from . import at_corners, cases, control, forms, held_boxes, listing, listing_cases, model, program, settle_cases, settling, split_boxes, split_cases, stay_cases, tables
 
 KINDS = ["generate"] * 22 + ["lean"] * 12 + ["border"] * 4 + ["stay"] * 14 + ["lean_stay"] * 6 + ["solve"] * 26 + ["controller"] * 18 + ["loop"] * 22 + ["list"] * 6 + ["play"] * 16
 KINDS += ["split"] * 12 + ["serve"] * 16 + ["c"] * 8 + ["usage"] * 4
@@ -375,7 +359,7 @@ class Runner:
         pick, d, c = random.Random(repr(case.files)), model.read_design(case.files["d"]), control.read_controller(case.files["c"])
         s = settling.read_certificate(case.files["s"], settling.Box(c.lo, c.hi))
         shifts = held_boxes.read_shift_box(case.files["w"], d.states) if "w" in case.files else [[0] * d.states] * 2
-        box, starts = settling.check(d, c, s, settling.Box(*shifts)), settle_cases.starts(pick, s.start)
+        (box, costs), starts = settling.check(d, c, s, settling.Box(*shifts)), settle_cases.starts(pick, s.start)
         files = {"d": case.files["d"], "c": case.files["c"], "t": stay_cases.records_text(starts), "v": stay_cases.records_text(stay_cases.shifts_within(pick, *shifts, TURNS))}
         words = ["loop", "d", "c", "t", str(TURNS), "v"]
         self.lay(files)
@@ -386,7 +370,7 @@ class Runner:
             return f"loop: {wrong or ''} of {TURNS * len(starts)} lines there are {len(found)}, and the status is {ran.returncode} {ran.stderr[:200]!r}", []
         for start, turn, *rest in found:
             here = settling.Box(rest[: d.states], rest[: d.states])
-            if not s.still.holds(here) or turn > s.turns and not box.holds(here):
+            if not s.still.holds(here) or turn > s.turns and not box.holds(here) or turn > s.after and not costs.holds(settling.cost_numbers(d, s, here.low)):
                 return f"loop: at turn {turn} of start {start} the state {here.low} is outside", []
         told = f"loops that settle{', under disturbances' if 'w' in case.files else ''}"
         return wrong and f"loop: {wrong}", [told] + [f"its loops: {note}" for note in notes if note == "too long for the model"]

@@ -1,11 +1,8 @@
 """Designs, controllers, certificates and disturbances for run.py: most of them are accepted, or would be but for a number; and such whose numbers are large."""
 from itertools import product
 
-import cases
-import control
-import model
-import settling
-from stay_cases import records_text
+from . import cases, control, model, settling
+from .stay_cases import records_text
 
 MOST = 2**31 - 1
 
@@ -73,7 +70,7 @@ def certificate_of(pick, loop, start, still):
         # wide enough to come back to
         wide = pick.choice([1, 2, 3, 5])
         rest = within(settling.Box([v - wide for v in rest.low], [v + wide for v in rest.high]), still)
-    return settling.Certificate(turns, pick.choice([1, 1, 1, 2, 3]), start, still, rest)
+    return settling.Certificate(turns, pick.choice([1, 1, 1, 2, 3]), start, still, rest, pick.choice([0, 0, 1, 2, 5]))
 
 
 def shaken(pick, s):
@@ -111,7 +108,7 @@ def settle_case(pick):
 
 
 def certificate_text(s):
-    return records_text([[turns, *box.low, *box.high] for turns, box in ((s.turns, s.start), (0, s.still), (s.back, s.rest))])
+    return records_text([[turns, *box.low, *box.high] for turns, box in ((s.turns, s.start), (s.after, s.still), (s.back, s.rest))])
 
 
 def settle_texts(pick):

@@ -5,7 +5,7 @@ the box that loops begin in; what rounding leaves of a row is paid over the stil
 """
 from dataclasses import dataclass
 
-from model import LIMIT, Refused, read_records
+from .model import LIMIT, Refused, read_records
 
 # what a row of a coordinate is over
 ROW = 2**24
@@ -33,13 +33,15 @@ class Box:
 
 @dataclass
 class Certificate:
-    """Where loops start, where no multiplier moves, where loops settle; after how many turns from the start box, and after how many again."""
+    """Where loops start, where no multiplier moves, where loops settle; after how many turns from the start box, and after how many again; how many turns lead from
+    where no multiplier moves to the rows of the cost, 0 where these aren't told."""
 
     turns: int
     back: int
     start: Box
     still: Box
     rest: Box
+    after: int = 0
 
 
 def column(matrix, k):
@@ -64,18 +66,20 @@ def read_certificate(data, outer):
     if len(rows) != 3:
         raise Refused(5, "count", len(rows))
     start, still, rest = (Box(row[1 : n + 1], row[n + 1 :]) for row in rows)
-    turns, none, back = column(rows, 0)
-    right = [0 <= turns <= MOST_TURNS and all(low <= high for low, high in zip(start.low, start.high)), none == 0 and outer.holds(still), 1 <= back <= MOST_TURNS]
+    turns, after, back = column(rows, 0)
+    right = [0 <= turns <= MOST_TURNS and all(low <= high for low, high in zip(start.low, start.high)), 0 <= after <= MOST_TURNS and outer.holds(still), 1 <= back <= MOST_TURNS]
     if not all(right):
         raise Refused(5, "range", right.index(False) + 1)
-    return Certificate(turns, back, start, still, rest)
+    return Certificate(turns, back, start, still, rest, after)
 
 
-def lines_of(s, box):
-    """What is promised: from which turn on, and the box, a line a coordinate."""
+def lines_of(s, box, costs):
+    """What is promised: from which turn on, and the box, a line a coordinate; and where the rows of the cost lie that are told, a line a row."""
     yield f"turn {s.turns}\n".encode()
     for i, (low, high) in enumerate(zip(box.low, box.high), 1):
         yield f"state {i} {low} {high}\n".encode()
+    for k, (low, high) in enumerate(zip(costs.low, costs.high), 1):
+        yield f"cost {k} {s.after} {low} {high}\n".encode()
 
 
 # ---- where no multiplier moves
@@ -119,13 +123,17 @@ class Loop:
     def next_row(self, row):
         return [(2 * v + self.over) // (2 * self.over) for v in self.through(row)]
 
+    def rounded(self, row):
+        """The absolute sum of a row's numbers whose coordinates are rounded: none whose row of the plant has no input and only multiples of the denominator."""
+        return sum(abs(v) for v, a, b in zip(row, self.d.a, self.d.b) if any(b) or any(w % self.d.plant_den for w in a))
+
     def adds(self, row, after):
         """What a turn adds at most to what a row has of the state, where `after` is taken for the row before the turn."""
         left = [v - self.over * w for v, w in zip(self.through(row), after)]
         of_inputs = [pairs(row, column(self.d.b, l)) for l in range(self.d.inputs)]
         floors = sum(max(v, 0) - v * t for v, t in zip(of_inputs, self.c.t))
         rest = self.still.greatest(left) + 2**self.d.grid * floors
-        half = self.over * sum(map(abs, row))
+        half = self.over * self.rounded(row)
         return (2 * rest + half) // (2 * self.over) + self.shifts.greatest(row)
 
     def adds_size(self, row, after):
@@ -134,7 +142,7 @@ class Loop:
         left = sum((t + self.over * max(abs(w), 1)) * self.still.reach(k) for k, (t, w) in enumerate(zip(through, after)))
         floors = sum(sizes(whole, column(self.d.b, l)) * (abs(self.c.t[l]) + 1) for l in range(self.d.inputs))
         shifts = sum(abs(v) * self.shifts.reach(k) for k, v in enumerate(row))
-        return 2 * (left + 2**self.d.grid * floors) + self.over * sum(map(abs, row)) + shifts
+        return 2 * (left + 2**self.d.grid * floors) + self.over * self.rounded(row) + shifts
 
     def course(self, first, start, turns):
         """What the state has of a first row after each turn at most, over 2^24, and the size of it."""
@@ -145,6 +153,13 @@ class Loop:
             row = after
             yield (start.greatest(row) + added) // ROW, sum(abs(v) * start.reach(k) for k, v in enumerate(row)) + size
 
+    def costs(self, turns):
+        """Where the rows of the cost lie so many turns after states in the still box, if any, and the greatest size of these."""
+        rows, ends = [row[: self.d.states] for row in self.d.stage_cost + self.d.final_cost] if turns else [], {}
+        for sign in (-1, 1):
+            ends[sign] = [list(self.course([sign * ROW * v for v in row], self.still, turns))[-1] for row in rows]
+        return Box([-value for value, _ in ends[-1]], [value for value, _ in ends[1]]), max((size for of in ends.values() for _, size in of), default=0)
+
     def tube(self, start, turns):
         """The boxes that loops from a box lie in after 0, 1 .. turns turns, and the greatest size on the way."""
         n = self.d.states
@@ -152,6 +167,12 @@ class Loop:
         lows, highs = ([[value for value, _ in side] for side in of] for of in ends)
         boxes = [start] + [Box([-low[t] for low in lows], [high[t] for high in highs]) for t in range(turns)]
         return boxes, max((size for of in ends for side in of for _, size in side), default=0)
+
+
+def cost_numbers(d, s, state):
+    """What the rows of the cost that are told have of a state, as a box of that alone."""
+    numbers = [pairs(row[: d.states], state) for row in d.stage_cost + d.final_cost] if s.after else []
+    return Box(numbers, numbers)
 
 
 # ---- the check
@@ -170,11 +191,12 @@ def first_beyond(boxes, certificate, turns):
 
 
 def check(d, c, certificate, shifts):
-    """The box that loops lie in from the certificate's turn on, or Refused."""
+    """The box that loops lie in from the certificate's turn on, and where the rows of the cost lie that it tells, or Refused."""
     loop = Loop(d, c, certificate.still, shifts)
     there, greatest = loop.tube(certificate.start, certificate.turns)
     again, also = loop.tube(certificate.rest, certificate.back)
-    if max([greatest, also, *(still_size(c, certificate.still, i) for i in range(c.m))]) > LIMIT:
+    costs, more = loop.costs(certificate.after)
+    if max([greatest, also, more, *(still_size(c, certificate.still, i) for i in range(c.m))]) > LIMIT:
         raise Refused(10, "settle")
     for i in range(c.m):
         left, right = still_sum(c, certificate.still, i), limit_of(c)
@@ -185,4 +207,5 @@ def check(d, c, certificate, shifts):
         if beyond:
             raise Refused(status, *beyond)
     inside = again[: certificate.back]
-    return Box([min(column([box.low for box in inside], i)) for i in range(d.states)], [max(column([box.high for box in inside], i)) for i in range(d.states)])
+    rest = Box([min(column([box.low for box in inside], i)) for i in range(d.states)], [max(column([box.high for box in inside], i)) for i in range(d.states)])
+    return rest, costs

@@ -7,9 +7,9 @@ from __future__ import annotations
 import copy
 from itertools import product
 
-import control
-from control import Controller, Reader
-from model import Design, Refused, number_field, records
+from . import control
+from .control import Controller, Reader
+from .model import Design, Refused, number_field, records
 
 MOST_CUTS, MOST_CELLS = 63, 64
 # the most bytes of a text of cells

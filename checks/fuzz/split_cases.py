@@ -7,16 +7,9 @@ import random
 from fractions import Fraction
 from math import lcm, prod
 
-import at_corners
-import cases
-import control
-import listing_cases
-import model
-import program
-import split_boxes
-import stay_cases
-from control import Controller
-from model import Design
+from . import at_corners, cases, control, listing_cases, model, program, split_boxes, stay_cases
+from .control import Controller
+from .model import Design
 
 # an example whose policy is no longer than this has a model in milliseconds
 SHORT_POLICY = 1000

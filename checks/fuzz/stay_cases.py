@@ -1,14 +1,9 @@
 """Designs with faces and disturbances for run.py: most of them are accepted, or would be but for a number; and designs whose faces are large."""
-import os
-import sys
 from itertools import product
 from math import gcd
 
-sys.path.append(os.path.join(os.path.dirname(os.path.abspath(__file__)), "..", "rows"))
-import cases
-import model
-import stay_rows
-import held_boxes
+from ..rows import stay_rows
+from . import cases, held_boxes, model
 
 MOST = 2**31 - 1
 

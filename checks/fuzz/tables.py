@@ -1,21 +1,13 @@
 """Tables for run.py: a worked text cut after each of its bytes, and with each byte replaced by a space, `-`, `0` and `9`."""
 from __future__ import annotations
 
-import os
-import sys
 from bisect import bisect_right
 from dataclasses import dataclass
 from itertools import accumulate
 
-sys.path.append(os.path.join(os.path.dirname(os.path.abspath(__file__)), "..", "rows"))
-import control
-import listing
-import split_boxes
-import stay_cases
-import stay_rows
-import texts
-import worked_texts
-from model import Refused
+from ..rows import stay_rows, texts, worked_texts
+from . import control, listing, split_boxes, stay_cases
+from .model import Refused
 
 OTHERS = b" -09"
 FACES_OF_TWO = "16,4,0,2,0\n16,0,4,0,2\n16,0,0,0,4\n16,0,0,4,0\n"

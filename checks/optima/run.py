@@ -1,7 +1,6 @@
-#!/usr/bin/env python3
 """Holds printed bounds against exact optima: of random designs and at states of their boxes, no bound that is printed may be broken.
 
-    checks/optima/run.py [PROGRAM] [--command COMMAND] [--count COUNT] [--states STATES] [--seed SEED] [--jobs JOBS]
+    python3 -m checks.optima.run [PROGRAM] [--command COMMAND] [--count COUNT] [--states STATES] [--seed SEED] [--jobs JOBS]
 
 For each of COUNT (300) designs the COMMAND (lean, or generate) makes a controller, and runs it from STATES (10) states of the box, corners first. Each averaged plan, as exact
 fractions, must exceed each row by at most its printed violation, cost at most the printed gap more than the best feasible plan, and at most the printed undercut less; and both
@@ -21,15 +20,8 @@ import tempfile
 from dataclasses import dataclass
 from fractions import Fraction
 
-HERE = os.path.dirname(os.path.abspath(__file__))
-sys.path += [HERE, os.path.join(HERE, "..", "fuzz")]
-import at_corners
-import cases
-import control
-import forms
-import model
-import program
-from quadratic import Program, dot
+from ..fuzz import at_corners, cases, control, forms, model, program
+from .quadratic import Program, dot
 
 # the most products of a run, and the most of two fractions' bits that the optimum takes in time
 MOST_PRODUCTS, MOST_ENTRIES = 400_000, 6

@@ -1,11 +1,8 @@
 """Exact optima against ones that were found by hand."""
-import os
-import sys
 import unittest
 from fractions import Fraction
 
-sys.path.insert(0, os.path.dirname(os.path.abspath(__file__)))
-from quadratic import Program
+from .quadratic import Program
 
 
 class Optima(unittest.TestCase):

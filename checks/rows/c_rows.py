@@ -2,15 +2,10 @@
 
 The texts are those of the model in ../fuzz, whose tests compile them and run them beside the machine.
 """
-import os
-import sys
 
-from texts import refused, sub
-from worked_texts import CONTROLLER, LISTING
-
-sys.path.insert(0, os.path.join(os.path.dirname(os.path.abspath(__file__)), "..", "fuzz"))
-import compiled
-import control
+from ..fuzz import compiled, control
+from .texts import refused, sub
+from .worked_texts import CONTROLLER, LISTING
 
 C = ["c", "c", "motor", "t", "h"]
 

@@ -2,9 +2,9 @@
 
 Another program computed the accepted ones; the model in ../fuzz those with faces, and where steps, multiplier and excess pass their limits.
 """
-from stay_rows import FACES, HELD
-from texts import LIMITS, SOLVE, in_second, limits, put, refused, sub, targets, violations
-from worked_texts import DESIGN, LEAN_CONTROLLER, LEAN_JSON, LEAN_REPORT, POLICY, REFERENCE
+from .stay_rows import FACES, HELD
+from .texts import LIMITS, SOLVE, in_second, limits, put, refused, sub, targets, violations
+from .worked_texts import DESIGN, LEAN_CONTROLLER, LEAN_JSON, LEAN_REPORT, POLICY, REFERENCE
 
 LEAN = ["lean", "d", "p", "q", "c", "r"]
 

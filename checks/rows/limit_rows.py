@@ -4,11 +4,11 @@ Memory is ample, so no answer is `memory`: a program may give that answer wherev
 """
 from collections.abc import Iterator
 
-from listing_rows import foreign
-from split_rows import MOST_BYTES, cells, largest_cell
-from stay_rows import FACES, HELD, HELD_CONTROLLER
-from texts import GENERATE, SOLVE, put, refused, sub
-from worked_texts import CONTROLLER, DESIGN, LEAN_CONTROLLER, LEAN_REPORT, LISTING, LOW, LOW_REPORT, POLICY, REFERENCE, REPORT
+from .listing_rows import foreign
+from .split_rows import MOST_BYTES, cells, largest_cell
+from .stay_rows import FACES, HELD, HELD_CONTROLLER
+from .texts import GENERATE, SOLVE, put, refused, sub
+from .worked_texts import CONTROLLER, DESIGN, LEAN_CONTROLLER, LEAN_REPORT, LISTING, LOW, LOW_REPORT, POLICY, REFERENCE, REPORT
 
 Row = tuple
 PLAY, SERVE, LOOP = ["play", "l", "s"], ["serve", "c", "s"], ["loop", "d", "c", "s"]

@@ -3,18 +3,12 @@
 The first are the worked ones, by hand. The examples' controllers and listings, and the sums that these put, are those of the model in ../fuzz.
 """
 import os
-import sys
 
-from texts import put, refused, sub
-from worked_texts import CONTROLLER, LISTING
+from ..fuzz import control, listing, model, program
+from .texts import put, refused, sub
+from .worked_texts import CONTROLLER, LISTING
 
 HERE = os.path.dirname(os.path.abspath(__file__))
-sys.path.insert(0, os.path.join(HERE, "..", "fuzz"))
-import control
-import listing
-import model
-import program
-
 EXAMPLES = os.path.join(HERE, "..", "..", "examples")
 LIST, PLAY = ["list", "c", "l"], ["play", "l", "s"]
 LEAST, GREATEST = -(2**127), 2**127 - 1

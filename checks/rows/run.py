@@ -1,7 +1,6 @@
-#!/usr/bin/env python3
 """Runs worked examples whose answers were computed by hand, as commands over files, and compares the status, both outputs and every file.
 
-    checks/rows/run.py PROGRAM [--valgrind] [--only COMMAND] [--limits]
+    python3 -m checks.rows.run PROGRAM [--valgrind] [--only COMMAND] [--limits]
 
 With --only these are the rows of one command alone, as for a program that has no other: a row whose words are of another is asked, too, and must be refused as no
 command's. With --valgrind each runs under valgrind's memory checker, which must have nothing to report: no invalid read or write, no branch on what was never written, no
@@ -15,17 +14,10 @@ import subprocess
 import sys
 import tempfile
 
-sys.path.insert(0, os.path.join(os.path.dirname(os.path.abspath(__file__)), "..", "fuzz"))
-import c_rows
-import lean_rows
-import limit_rows
-import listing_rows
-import settle_rows
-import split_rows
-import stay_rows
-from command_table import OUTPUTS
-from texts import GENERATE, LIMITS, SOLVE, costs, in_second, limits, plant_over, put, refused, steep, sub, targets, violations, written
-from worked_texts import AXIS, AXIS_POLICY, CONTROLLER, DESIGN, JSON, LISTING, POLICY, REPORT
+from ..fuzz.command_table import OUTPUTS
+from . import c_rows, lean_rows, limit_rows, listing_rows, settle_rows, split_rows, stay_rows
+from .texts import GENERATE, LIMITS, SOLVE, costs, in_second, limits, plant_over, put, refused, steep, sub, targets, violations, written
+from .worked_texts import AXIS, AXIS_POLICY, CONTROLLER, DESIGN, JSON, LISTING, POLICY, REPORT
 
 PROGRAM = os.path.abspath(sys.argv[1])
 VALGRIND = "--valgrind" in sys.argv[2:]

@@ -1,6 +1,6 @@
 """Rows of certificates that loops settle: of one state by hand, of two states with the numbers of a model in whole numbers."""
-from texts import put, refused, sub
-from worked_texts import AXIS, DESIGN
+from .texts import put, refused, sub
+from .worked_texts import AXIS, DESIGN
 
 SETTLE, UNDER = ["settle", "d", "c", "f"], ["settle", "d", "c", "f", "w"]
 # x+ = x + u, of 40 over 2^4 to both sides, and u = -x/2 between -1 and 1
@@ -75,7 +75,9 @@ def rows_of_one():
     yield "settle: a start box without a state", left("5 text 3 range 1", "5,32,31\n0,-31,32\n1,-2,2\n")
     yield "settle: a start box of one state", settled("turn 5\nstate 1 -2 2\n", "5,31,31\n0,-31,32\n1,-2,2\n")
     yield "settle: the most turns", settled("turn 4096\nstate 1 -2 2\n", "4096,-31,32\n0,-31,32\n4096,-2,2\n")
-    yield "settle: a box that holds from a later turn on", left("5 text 3 range 2", "5,-31,32\n1,-31,32\n1,-2,2\n")
+    yield "settle: more than the most turns to the rows of the cost", left("5 text 3 range 2", "5,-31,32\n4097,-31,32\n1,-2,2\n")
+    yield "settle: the row of the cost after three turns", settled("turn 5\nstate 1 -2 2\ncost 1 3 -4 4\n", "5,-31,32\n3,-31,32\n1,-2,2\n")
+    yield "settle: the row of the cost under disturbances", settled("turn 6\nstate 1 -4 4\ncost 1 4 -4 4\n", "6,-31,32\n4,-31,32\n1,-4,4\n", "-1\n1\n")
     yield "settle: a box beyond the controller's", left("5 text 3 range 2", "5,-31,32\n0,-31,41\n1,-2,2\n")
     yield "settle: no turn to return", left("5 text 3 range 3", "5,-31,32\n0,-31,32\n0,-2,2\n")
     yield "settle: the first record out of its range", left("5 text 3 range 1", "-1,-31,32\n1,-31,32\n0,-2,2\n")

@@ -2,16 +2,11 @@
 
 The first are computed by hand, as are the lines at which texts are refused; the texts of more cells are those of the model in ../fuzz.
 """
-import os
-import sys
 from collections.abc import Iterator
 
-from texts import LIMITS, costs, in_second, limits, put, refused, sub, targets
-from worked_texts import CONTROLLER, DESIGN, LOW, LOW_REPORT, POLICY, REPORT
-
-sys.path.insert(0, os.path.join(os.path.dirname(os.path.abspath(__file__)), "..", "fuzz"))
-import model
-import program
+from ..fuzz import model, program
+from .texts import LIMITS, costs, in_second, limits, put, refused, sub, targets
+from .worked_texts import CONTROLLER, DESIGN, LOW, LOW_REPORT, POLICY, REPORT
 
 Row = tuple
 SPLIT, SERVE = ["split", "d", "l", "p", "c", "r"], ["serve", "c", "s"]

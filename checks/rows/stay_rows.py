@@ -5,8 +5,8 @@ The first are computed by hand; the numbers of the others are those of the model
 import glob
 import os
 
-from texts import costs, in_second, limits, plant_over, put, refused, sub, targets, violations
-from worked_texts import CONTROLLER, DESIGN, POLICY
+from .texts import costs, in_second, limits, plant_over, put, refused, sub, targets, violations
+from .worked_texts import CONTROLLER, DESIGN, POLICY
 
 EXAMPLES = os.path.join(os.path.dirname(os.path.abspath(__file__)), "..", "..", "examples")
 STAY, UNDER = ["stay", "d", "p", "c", "r", "f"], ["stay", "d", "p", "c", "r", "f", "w"]

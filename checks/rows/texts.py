@@ -1,5 +1,5 @@
 """What rows of the table are made of."""
-from worked_texts import DESIGN
+from .worked_texts import DESIGN
 
 LIMITS = "den = 4\nstage = [[0, 4, 4], [0, -4, 4]]\nfinal = [[4, 1]]\n"
 TARGETS = "den = 1\nviolation = 16\ngap = 1\n"

@@ -1,6 +1,7 @@
 """The numbers that a command takes, each refused in words where it is out of its range."""
 import argparse
 import math
+import os
 import sys
 from collections.abc import Callable
 from typing import Any
@@ -10,9 +11,10 @@ MOST_TURNS = 1000000
 
 
 class Parser(argparse.ArgumentParser):
-    """A parser whose description stands as written, and whose help fails where it can't be printed."""
+    """A parser whose description stands as written, whose name is that of the command by the launcher, and whose help fails where it can't be printed."""
 
     def __init__(self, description: str | None, **given: Any) -> None:
+        given.setdefault("prog", "./mpc " + os.path.basename(sys.argv[0]).removesuffix(".py"))
         super().__init__(description=description, formatter_class=argparse.RawDescriptionHelpFormatter, **given)
 
     def print_help(self, file: Any = None) -> None:

@@ -4,7 +4,7 @@ import time
 from types import FrameType, TracebackType
 from typing import Any
 
-from common.libraries import say
+from .libraries import say
 
 EVERY = 4.0
 

@@ -3,10 +3,10 @@
 RAM is exact, and so are the tables in flash. Cycles and the bytes of the code are sums of shares that were fitted to what `bench/target/costs.py` measured of controllers of many
 sizes (gcc 12 -O2, cycles by the processor's table without wait states). That script says how near they come: cycles within 16 %, mostly 8, where there are two words a third; flash within a quarter.
 """
-from common.c_text import CHUNK, CText
-from common.c_words import LONG, NARROW, PARTS, WIDE, Form
-from common.design_text import plain
-from common.libraries import Refusal
+from .c_text import CHUNK, CText
+from .c_words import LONG, NARROW, PARTS, WIDE, Form
+from .design_text import plain
+from .libraries import Refusal
 
 # cycles of a step for each product of the plan's entries, and for each entry
 ENTRIES = {NARROW: (3.9, 16), "two": (3.4, 30), "four": (2.9, 44), LONG: (14, 20), WIDE: (55, 190)}

@@ -1,8 +1,8 @@
 """The C99 of a controller: a header and a source of nothing but <stdint.h>, with no heap and no float, its tables constant and one struct of what changes."""
 import re
 
-from common.c_words import LONG, NARROW, PARTS, TOP31, TOP63, WIDE
-from common.libraries import Refusal
+from .c_words import LONG, NARROW, PARTS, TOP31, TOP63, WIDE
+from .libraries import Refusal
 
 WIDTH = 118
 CHUNK = 8

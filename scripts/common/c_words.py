@@ -12,7 +12,7 @@ So every product and every partial sum, in any order, is at most the absolute su
 """
 from dataclasses import dataclass
 
-from common.strict_texts import absolute_sums, ceil_div
+from .strict_texts import absolute_sums, ceil_div
 
 TOP31, TOP63 = 2**31 - 1, 2**63 - 1
 NARROW, LONG, PARTS, WIDE = "narrow", "long", "parts", "wide"

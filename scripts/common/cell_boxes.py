@@ -2,7 +2,7 @@
 import itertools
 from dataclasses import replace
 
-from common.design_text import Design
+from .design_text import Design
 
 
 def parts_of(design: Design, cuts: list[list[int]]) -> list[list[tuple[int, int]]]:

@@ -1,5 +1,5 @@
 """The cells of a box over two coordinates, each with its K."""
-from common.libraries import need
+from .libraries import need
 
 need("matplotlib")
 import matplotlib.pyplot as pyplot
@@ -7,7 +7,7 @@ from matplotlib.colors import LogNorm
 from matplotlib.figure import Figure
 from matplotlib.patches import Rectangle
 
-from common.design_text import Design
+from .design_text import Design
 
 FEW = 100
 

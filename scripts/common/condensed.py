@@ -1,7 +1,7 @@
 """A design's condensed form in exact whole numbers: V(x, u) = V(x, 0) + 1/2 u'Hu + (Fx + h)'u and the rows Gu + Ex <= b."""
 from dataclasses import dataclass
 
-from common.trajectories import dot
+from .trajectories import dot
 
 
 @dataclass

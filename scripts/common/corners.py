@@ -7,9 +7,9 @@ from dataclasses import dataclass
 from fractions import Fraction
 from math import ceil, floor
 
-from common.enclosures import ONE, enclosed, farthest, fine_costs, fine_limits, fine_trajectory
-from common.sizes import has_fine_corners
-from common.trajectories import cost_of, slacks_of
+from .enclosures import ONE, enclosed, farthest, fine_costs, fine_limits, fine_trajectory
+from .sizes import has_fine_corners
+from .trajectories import cost_of, slacks_of
 
 
 @dataclass

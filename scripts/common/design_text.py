@@ -13,7 +13,7 @@ import tomllib
 from dataclasses import dataclass, field
 from fractions import Fraction
 
-from common.files import read_bytes
+from .files import read_bytes
 
 NAMED = re.compile(r"#\s*(state|input|stage row|final row) (\d+): ([^,]+?)(?:, 1 is ([0-9][0-9.eE+-]*) (.+?))?\s*$")
 # the greatest numbers of states and of stages, by version

@@ -1,7 +1,7 @@
 """What is added to a next state from outside, in whole numbers over `2^grid`: a box of it, or a record for each turn."""
-from common.design_text import Design
-from common.libraries import Refusal
-from common.texts import read_text, records_of
+from .design_text import Design
+from .libraries import Refusal
+from .texts import read_text, records_of
 
 MOST = 2**31 - 1
 

@@ -1,5 +1,5 @@
 """A design's condensed form in enclosures: whole numbers over 2^40, each a midpoint and a radius that the exact number is no further from."""
-from common.condensed import Condensed
+from .condensed import Condensed
 
 ONE = 2**40
 

@@ -3,7 +3,7 @@
 What a plan costs more than a reference is half the sum of both gradients along the step between them; what a reference costs more than any plan, its gradient says. All in
 enclosures over 2^40 of the condensed form's numbers.
 """
-from common.enclosures import ONE, combined, farthest, product
+from .enclosures import ONE, combined, farthest, product
 
 
 def divided(mid, radius, den):

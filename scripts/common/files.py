@@ -3,7 +3,7 @@ import os
 import stat
 from collections.abc import Iterator, Mapping
 
-from common.libraries import Refusal
+from .libraries import Refusal
 
 # as much of a file as the program reads
 LONGEST = 4194304

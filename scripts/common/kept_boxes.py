@@ -6,7 +6,7 @@ import functools
 import itertools
 from dataclasses import dataclass, field
 
-from common.libraries import need
+from .libraries import need
 
 need("numpy", "scipy")
 import numpy
@@ -16,7 +16,9 @@ import scipy.optimize
 LEAST_COUNTS = 20.0
 SAMPLES = 2048
 # what inputs move a coordinate by less than, as a part of half its box, is nothing that a limit can be put on
-LITTLE = 0.02
+LITTLE = 0.01
+# and what they move it by less than, nothing at all
+STANDS = 1e-5
 MOST_TURNED = 1e6
 
 
@@ -24,7 +26,7 @@ MOST_TURNED = 1e6
 class Plant:
     """A plant with its limits `rows (x, u) <= bounds`, over their tolerances, and the box that is wanted of it: all before any turn of coordinates. `held` and `last` say which states are
     such; `shift` is by how much each next state is moved from outside. `ends` has the limits on one input alone whose last value is a state: with its number, and what the limit comes to in
-    the middle of that state's box; where the box of last inputs is smaller, so is what such a limit leaves, by as much."""
+    the middle of that state's box; where the box of last inputs is smaller, so is what such a limit leaves, by as much. `disturbed` is what of `shift` isn't rounding."""
 
     a: numpy.ndarray
     b: numpy.ndarray
@@ -36,6 +38,7 @@ class Plant:
     held: list[int]
     last: list[int]
     ends: dict[int, tuple[int, float]] = field(default_factory=dict)
+    disturbed: numpy.ndarray | None = None
 
     @property
     def n(self) -> int:
@@ -45,7 +48,7 @@ class Plant:
         """The plant in other coordinates; the box has the size that each had before."""
         back = numpy.linalg.inv(turn)
         rows = numpy.hstack([self.rows[:, : self.n] @ back, self.rows[:, self.n :]])
-        return Plant(turn @ self.a @ back, turn @ self.b, rows, self.bounds, turn @ self.middle, self.half, abs(turn) @ self.shift, self.held, self.last, self.ends)
+        return Plant(turn @ self.a @ back, turn @ self.b, rows, self.bounds, turn @ self.middle, self.half, abs(turn) @ self.shift, self.held, self.last, self.ends, None if self.disturbed is None else abs(turn) @ self.disturbed)
 
     @functools.cached_property
     def even(self) -> bool:
@@ -64,10 +67,22 @@ class Plant:
                 out[places[0] - self.n] = min(out[places[0] - self.n], (bound + 1) / abs(row[places[0]]))
         return out
 
+    def stands(self, i: int) -> bool:
+        """Whether a coordinate stays as it is, whatever inputs do, and isn't disturbed: as a held state, or what is kept of a sum."""
+        if i in self.held or i in self.last:
+            return True
+        same = numpy.allclose(self.a[i], numpy.eye(self.n)[i], atol=STANDS) and self.moved(i) <= STANDS * self.half[i]
+        return bool(same and self.disturbed is not None and not self.disturbed[i])
+
     def moved(self, i: int) -> float:
         """By how much inputs move a coordinate's next value at most."""
         used = numpy.flatnonzero(abs(self.b[i]) > 1e-12 * max(1e-300, abs(self.a[i]).max()))
         return float(abs(self.b[i])[used] @ self.reach[used])
+
+    def within_reach(self, turn: numpy.ndarray, part: float) -> numpy.ndarray:
+        """Which parts of half the box are this part of what inputs move each coordinate by, in other coordinates."""
+        reach = numpy.where(numpy.isfinite(self.reach), self.reach, 1e9)
+        return part * (abs(turn @ self.b) @ reach) / numpy.where(self.half > 0, self.half, 1.0)
 
     def moves(self, i: int) -> bool:
         """Whether inputs can be asked to keep a coordinate inside: they move it by more than a little of its box."""
@@ -128,7 +143,7 @@ class Program:
         for number, signs in enumerate(self.corners):
             spread = numpy.array(signs) * plant.half
             for i in range(n):
-                if i in plant.held or i in plant.last:
+                if plant.stands(i):
                     continue
                 inside, of_inputs, least = self.stay[i] * (1 + self.slack), plant.b[i], plant.shift[i]
                 if not plant.moves(i):

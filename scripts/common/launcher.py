@@ -1,10 +1,13 @@
 """The program, by its launcher, as the scripts run it."""
 import os
+import shutil
 import subprocess
 import sys
 import tempfile
 
-LAUNCHER = os.path.join(os.path.dirname(os.path.dirname(os.path.dirname(os.path.realpath(__file__)))), "mpc")
+BESIDE = os.path.join(os.path.dirname(os.path.dirname(os.path.dirname(os.path.realpath(__file__)))), "mpc")
+# that of the checkout; of an installed package the first on the path
+LAUNCHER = BESIDE if os.path.exists(BESIDE) else shutil.which("mpc") or "mpc"
 
 
 def solved(controller: str, states: list[list[int]], launcher: str = LAUNCHER) -> list[str]:

@@ -5,15 +5,15 @@ are good, where with the cost over the slack they are none; and references are t
 """
 import math
 
-from common.libraries import need
+from .libraries import need
 
 need("numpy")
 import numpy
 
-from common.corners import corners_of, lean_multiplier_of, margin_of
-from common.excess import excesses_of
-from common.programs import Programs
-from common.sizes import form_of
+from .corners import corners_of, lean_multiplier_of, margin_of
+from .excess import excesses_of
+from .programs import Programs
+from .sizes import form_of
 
 GOLDEN = (5**0.5 - 1) / 2
 SECTIONS = 14

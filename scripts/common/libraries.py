@@ -7,8 +7,12 @@ from collections.abc import Callable
 from typing import NoReturn
 
 PACKAGES = {"numpy": "python3-numpy", "scipy": "python3-scipy", "cvxopt": "python3-cvxopt", "matplotlib": "python3-matplotlib", "jsonschema": "python3-jsonschema"}
+# these matrices are small, and threads for them only wait for each other
+for _name in ("OMP_NUM_THREADS", "OPENBLAS_NUM_THREADS"):
+    os.environ.setdefault(_name, "1")
 SYSTEM = "/usr/bin/python3"
-TRIED = "MPC_SCRIPTS_TRIED"
+# names the Python that the launcher runs scripts with; where it is set, no other is tried
+PYTHON = "MPC_PYTHON"
 
 
 class Refusal(ValueError):
@@ -26,13 +30,13 @@ def missing(*names: str) -> list[str]:
 
 def need(*names: str) -> None:
     """Goes on where all of these libraries are there. Else the script starts anew with the system's Python, which the packages serve; where that lacks one too,
-    it ends with the package's name."""
+    it ends with the package's name. What was installed stays with the Python that it was installed for."""
     lacking = missing(*names)
     if not lacking:
         return
-    if os.path.exists(SYSTEM) and os.path.realpath(SYSTEM) != os.path.realpath(sys.executable) and TRIED not in os.environ:
-        os.environ[TRIED] = "1"
-        os.execv(SYSTEM, [SYSTEM] + sys.argv)
+    if __name__ == "scripts.common.libraries" and os.path.exists(SYSTEM) and os.path.realpath(SYSTEM) != os.path.realpath(sys.executable) and PYTHON not in os.environ:
+        os.environ[PYTHON] = SYSTEM
+        os.execv(SYSTEM, [SYSTEM, *sys.orig_argv[1:]])
     packages = " ".join(PACKAGES[name] for name in lacking)
     sys.exit(f"{os.path.basename(sys.argv[0])}: {sys.executable} has no {' and no '.join(lacking)}: apt-get install {packages}")
 

@@ -5,13 +5,13 @@ A report says less than a controller, and of some designs that differ little the
 from collections.abc import Iterable
 from fractions import Fraction
 
-from common import sizes
-from common.condensed import Condensed, factor, solve
-from common.corners import corners_of, lean_multiplier_of, margin_of, multiplier_of, steps_of
-from common.design_text import Design, plain
-from common.excess import excesses_of
-from common.libraries import Refusal
-from common.texts import Controller
+from . import sizes
+from .condensed import Condensed, factor, solve
+from .corners import corners_of, lean_multiplier_of, margin_of, multiplier_of, steps_of
+from .design_text import Design, plain
+from .excess import excesses_of
+from .libraries import Refusal
+from .texts import Controller
 
 # gains are rounded solutions: those of another cost are off by more than this part of the greatest of their column
 GAIN_PART, GAIN_UNITS = 0.02, 16.0

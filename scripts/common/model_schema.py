@@ -3,12 +3,12 @@ import difflib
 import math
 import re
 
-from common.libraries import need
+from .libraries import need
 
 need("jsonschema")
 import jsonschema
 
-from common.design_text import STAGES, STATES
+from .design_text import STAGES, STATES
 
 GREATEST = 1e15
 LEAST = 1e-15
@@ -75,6 +75,7 @@ def schema_of(version: int, n: int | None, p: int | None, held: int, plant_alone
     helds = list_of(NUMBER, held, "numbers, one for each held state")
     cost_row = table_of({"state": states, "held": helds, "last": inputs, "target": NUMBER, "weight": POSITIVE}, ("weight",), "a table as { state = [..], weight = .. }")
     limit = {"name": WORD, "state": states, "held": helds, "input": inputs, "change": inputs, "bound": BOUND, "least": BOUND, "tolerance": POSITIVE}
+    plane = {"name": WORD, "state": states, "held": helds, "last": inputs, "bound": BOUND, "least": BOUND}
     still = {"name": WORD, "into": states, "lo": NUMBER, "hi": NUMBER, "unit": POSITIVE}
     return table_of(
         {
@@ -110,6 +111,7 @@ def schema_of(version: int, n: int | None, p: int | None, held: int, plant_alone
             ),
             "held": tables_of(table_of(still, ("hi",), "a table with hi"), STATES[version], "held states"),
             "limit": tables_of(table_of(limit, ("tolerance",), "a table with bound or least, and tolerance"), ROWS, "limits"),
+            "region": tables_of(table_of(plane), ROWS, "half-planes"),
             "cost": table_of({"input": sizes(p, "input"), "rows": tables_of(cost_row, ROWS, "rows"), "final": tables_of(cost_row, ROWS, "rows")}, ("input",)),
             "box": table_of({"hi": states, "lo": states, "last": sizes(p, "input"), "grid": whole_from(0, 24), "stay": parts, "disturbed": parts}, ("hi",)),
         },
@@ -230,6 +232,13 @@ def limit_faults(model: dict) -> list[str]:
         for key in ("bound", "least"):
             if key in limit and math.isfinite(limit[key]) and abs(limit[key]) > GREATEST:
                 out.append(f"limit[{number}].{key}: {BOUND['expected']} is expected, and {shown(limit[key])} stands there")
+    for number, plane in enumerate(model.get("region", []), 1):
+        if not any(plane.get("state", [])):
+            out.append(f"region[{number}].state: a factor other than 0 is expected")
+        if not any(math.isfinite(plane.get(key, math.inf)) for key in ("bound", "least")):
+            out.append(f"region[{number}]: bound or least is expected")
+        if any(factor and l not in changed(model) for l, factor in enumerate(plane.get("last", []))):
+            out.append(f"region[{number}].last: zeros are expected for inputs whose last values are no states")
     for key in ("rows", "final"):
         for number, row in enumerate(model.get("cost", {}).get(key, []), 1):
             if not any(row.get("state", []) + row.get("held", []) + row.get("last", [])):

@@ -2,6 +2,9 @@
 import json
 from typing import Any
 
+# why a model has another cost or other stages than were asked for, in its first line
+TIMELY = "so that a run ends in time"
+
 
 def value_text(value: Any) -> str:
     """A value as TOML writes it, tables inline."""

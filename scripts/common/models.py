@@ -39,6 +39,11 @@
     least = -16.0                                # at least this; -inf or left out: no limit below
     tolerance = 2.0                              # by how much it may be exceeded at most
 
+    [[region]]                                   # optional: starts are meant at which this holds, no others of the box: what meets nowhere, as a full charge and much polarisation
+    name = "voltage"
+    state = [1.0, 3.0]                           # and held, last: factors
+    bound = 80.0                                 # at most this; least: at least this
+
     [cost]
     input = [1.0]                                # weights of the squares of the inputs, or of their changes where these are planned
     rows = [{ state = [1.0, 0.0], weight = 500.0 }]   # of the square of what a row of states comes to, less its target: { .., held = [-1.0], target = 0.0 };
@@ -62,16 +67,16 @@ import tomllib
 from dataclasses import dataclass
 from typing import Any
 
-from common.libraries import Refusal, need
+from .libraries import Refusal, need
 
 need("numpy", "scipy", "jsonschema")
 import numpy
 import scipy.io
 import scipy.linalg
 
-from common.design_text import Design, Name, plain
-from common.files import read_bytes
-from common.model_schema import changed, faults_of, version_of
+from .design_text import Design, Name, plain
+from .files import read_bytes
+from .model_schema import changed, faults_of, version_of
 
 NUMERATOR = 2147483647
 # by how much a pole may multiply in a stage, and over the horizon

@@ -2,7 +2,7 @@
 import io
 import os
 
-from common.libraries import Refusal, need
+from .libraries import Refusal, need
 
 need("matplotlib")
 import matplotlib
@@ -10,7 +10,7 @@ import matplotlib
 matplotlib.use("Agg")
 from matplotlib.figure import Figure
 
-from common import files
+from . import files
 
 SALT = "loop"
 # by the end of a name, with what keeps the same lines the same bytes

@@ -2,16 +2,16 @@
 import functools
 import math
 
-from common.libraries import need
+from .libraries import need
 
 need("numpy", "scipy", "cvxopt")
 import cvxopt
 import numpy
 import scipy.optimize
 
-from common.condensed import condense
-from common.design_text import Design
-from common.trajectories import cost_of
+from .condensed import condense
+from .design_text import Design
+from .trajectories import cost_of
 
 cvxopt.solvers.options.update(show_progress=False, abstol=1e-10, reltol=1e-9, feastol=1e-9, maxiters=200)
 

@@ -1,10 +1,10 @@
 """Whole numbers for the numbers of a model: the shortest by which none moves by more than a stated part of itself, or a limit of its tolerance; and what moved, in words."""
-from common.libraries import need
+from .libraries import need
 
 need("numpy")
 import numpy
 
-from common.design_text import plain
+from .design_text import plain
 
 # a factor that comes to less than this part of its row's greatest, over the box, is one of rounding
 NOTHING = 1e-6

@@ -1,11 +1,11 @@
 """Where the loop of a design settles with the best plan of each turn, without limits or with them. Nothing of the tool rests on it."""
-from common.libraries import need
+from .libraries import need
 
 need("numpy", "cvxopt")
 import numpy
 
-from common.design_text import Design
-from common.programs import Programs
+from .design_text import Design
+from .programs import Programs
 
 TURNS = 300
 DOUBLINGS = 16

@@ -7,8 +7,8 @@ without the other.
 from fractions import Fraction
 from math import ceil, log2
 
-from common.condensed import condense
-from common.enclosures import ONE, condense_fine
+from .condensed import condense
+from .enclosures import ONE, condense_fine
 
 LIMIT = 2**126
 

@@ -2,8 +2,8 @@
 import json
 import re
 
-from common.libraries import Refusal
-from common.texts import REPORT_LINES, SCALE, Controller, controller_of
+from .libraries import Refusal
+from .texts import REPORT_LINES, SCALE, Controller, controller_of
 
 NUMBER = re.compile(r"0|-?[1-9][0-9]*")
 COUNT = re.compile(r"0|[1-9][0-9]{0,38}")

@@ -3,7 +3,7 @@ import json
 from dataclasses import dataclass
 from fractions import Fraction
 
-from common.files import read_bytes
+from .files import read_bytes
 
 REPORT_LINES = ["margin", "cost", "multiplier", "step", "steps", "bits", "width", "words", "violation", "gap", "undercut"]
 SCALE = 2**40

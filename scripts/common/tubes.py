@@ -10,9 +10,9 @@ from dataclasses import dataclass
 from fractions import Fraction
 from math import ceil, floor
 
-from common.design_text import Design
-from common.sizes import LIMIT
-from common.texts import Controller
+from .design_text import Design
+from .sizes import LIMIT
+from .texts import Controller
 
 ROW = 2**24
 
@@ -109,11 +109,18 @@ class Loop:
         self.sizes = [[unit * abs(a[k]) + sum(abs(b * gain[k]) for b, gain in zip(of, gains)) for k in states] for a, of in zip(design.a, design.b)]
         self.ends = [Row(self, i, sign) for i in states for sign in (-1, 1)]
 
-    def rest(self) -> list[int] | None:
-        """The grid state beside which the loop stays where it is; None where there is none, or more than one."""
+    def held(self) -> list[int]:
+        """The states that no turn changes, from 0."""
         states = range(self.design.states)
-        system = [[Fraction(self.over * (i == k) - self.matrix[i][k]) for k in states] for i in states]
+        return [i for i in states if self.matrix[i] == [self.over * (i == k) for k in states] and not any(self.design.b[i])]
+
+    def rest(self, held: dict[int, int]) -> list[int] | None:
+        """The grid state beside which the loop stays where it is, with these numbers of held states; None where there is none, or more than one."""
+        states = range(self.design.states)
+        system = [[Fraction(self.over * (i == k) - (0 if i in held else self.matrix[i][k])) for k in states] for i in states]
         right = [Fraction(-(2**self.design.grid) * sum(b * t for b, t in zip(of, self.offsets))) for of in self.design.b]
+        for i, value in held.items():
+            right[i] = Fraction(self.over * value)
         found = solved(system, right)
         return None if found is None else [floor(v + Fraction(1, 2)) for v in found]
 
@@ -150,7 +157,8 @@ class Row:
         before = [(2 * v + loop.over) // (2 * loop.over) for v in through]
         of_inputs = [sum(v * b for v, b in zip(row, column)) for column in zip(*design.b)]
         floors = sum(max(v, 0) - v * t for v, t in zip(of_inputs, loop.offsets))
-        rounded = loop.over * sum(abs(v) for v in row)
+        # a number that is whole after each turn isn't rounded, as a held one
+        rounded = loop.over * sum(abs(v) for v, a, b in zip(row, design.a, design.b) if any(b) or any(w % design.plant_den for w in a))
         full = [abs(v) or 1 for v in row]
         through_sizes = [sum(v * m for v, m in zip(full, column)) for column in zip(*loop.sizes)]
         input_size = sum(sum(v * abs(b) for v, b in zip(full, column)) * (abs(t) + 1) for column, t in zip(zip(*design.b), loop.offsets))
@@ -211,17 +219,19 @@ class Tubes:
 
 @dataclass(frozen=True)
 class Certificate:
-    """Where loops start, where no multiplier moves, where loops settle; after how many turns from the start box, and after how many again."""
+    """Where loops start, where no multiplier moves, where loops settle; after how many turns from the start box, and after how many again; how many turns lead from the
+    still box to the rows of the cost, 0 where these aren't told."""
 
     turns: int
     back: int
     start: Box
     still: Box
     rest: Box
+    after: int = 0
 
     def records(self) -> list[list[int]]:
-        """Its numbers, a line for each box: the turns from it, none from the still box, and its ends."""
-        return [[turns, *box.low, *box.high] for turns, box in ((self.turns, self.start), (0, self.still), (self.back, self.rest))]
+        """Its numbers, a line for each box: the turns from it, and its ends."""
+        return [[turns, *box.low, *box.high] for turns, box in ((self.turns, self.start), (self.after, self.still), (self.back, self.rest))]
 
 
 def settled_box(tubes: Tubes, s: Certificate) -> Box:
@@ -229,12 +239,29 @@ def settled_box(tubes: Tubes, s: Certificate) -> Box:
     return hull([tubes.box(s.rest, turn) for turn in range(s.back)])
 
 
+def cost_box(loop: Loop, still: Box, turns: int) -> tuple[Box, int]:
+    """Where the rows of the cost lie so many turns after states in the still box, none for 0 turns; and what numbers come to at most on the way."""
+    ends: dict[int, list[int]] = {1: [], -1: []}
+    design, sizes, far = loop.design, [0], still.far()
+    for numbers in design.stage_cost + design.final_cost if turns else []:
+        for sign, found in ends.items():
+            row, added, size = Row(loop, 0, sign), 0, 0
+            row.now = [sign * ROW * v for v in numbers[: design.states]]
+            for k in range(turns):
+                turn = row.turn(k)
+                added += (2 * still.most(turn.left) + turn.fixed) // (2 * loop.over) + turn.shift
+                size += 2 * sum(s * f for s, f in zip(turn.left_sizes, far)) + turn.fixed_size
+            found.append(sign * ((still.most(row.now) + added) // ROW))
+            sizes.append(size + sum(abs(v) * f for v, f in zip(row.now, far)))
+    return Box(tuple(ends[-1]), tuple(ends[1])), max(sizes)
+
+
 def first_fault(loop: Loop, rows: Stillness, s: Certificate) -> tuple | None:
     """What `settle` answers to a certificate: None where it shows what it says, ("too-wide",), ("moves", row, left, right), ("unsettled", turn, coordinate, bound) or
     ("no-return", turn, coordinate, bound)."""
     tubes = Tubes(loop, s.still)
     ways = ("unsettled", s.start, s.turns), ("no-return", s.rest, s.back)
-    if max(rows.size(s.still), *(tubes.size(start, turns) for _, start, turns in ways)) > LIMIT:
+    if max(rows.size(s.still), cost_box(loop, s.still, s.after)[1], *(tubes.size(start, turns) for _, start, turns in ways)) > LIMIT:
         return ("too-wide",)
     row = rows.moves(s.still)
     if row is not None:

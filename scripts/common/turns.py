@@ -2,20 +2,21 @@
 import itertools
 from collections.abc import Iterator
 
-from common.libraries import need
+from .libraries import need
 
 need("numpy", "scipy")
 import numpy
 import scipy.optimize
 
-from common.design_text import Design
-from common.models import neat
+from .design_text import Design
 
 # the weights of inputs beside the design's own, and how often a gain is improved
 WEIGHTS = [10 ** (k / 2) for k in range(-6, 9)]
 IMPROVED = 120
 # what is less than this part of a coordinate's box is left out
 NOTHING = 0.03
+# a sum of states that moves by less than this part of itself stays as it is
+KEPT = 1e-6
 
 
 def gains(design: Design, own: int) -> Iterator[numpy.ndarray]:
@@ -83,14 +84,19 @@ def candidates(design: Design, own: int, held: list[int], units: numpy.ndarray) 
 
     yield from new({})
     for gain in gains(design, own):
-        rows = {i: short(row, i, half, units) for i, row in assigned(vectors(a, b, gain, held), own, half).items()}
+        rows = {i: short(row, i, half, units, 9 if is_kept(row, a, b) else 2) for i, row in assigned(vectors(a, b, gain, held), own, half).items()}
         subsets = [s for size in range(1, len(rows) + 1) for s in itertools.combinations(rows, size) if size in (1, len(rows) - 1, len(rows))]
         for subset in subsets:
             yield from new({(i, j): t for i in subset for j, t in rows[i].items()})
         yield from new({(i, j): t for i in rows for j, t in rows[i].items() if j in held})
 
 
-def short(row: numpy.ndarray, i: int, half: numpy.ndarray, units: numpy.ndarray) -> dict[int, float]:
-    """What counts of the others in a row, of two digits in physical units."""
+def is_kept(row: numpy.ndarray, a: numpy.ndarray, b: numpy.ndarray) -> bool:
+    """Whether a sum of states stays as it is, whatever the inputs are, as a momentum of all."""
+    return bool(numpy.allclose(row @ a, row, atol=KEPT * abs(row).max()) and abs(row @ b).max() <= KEPT * (abs(row) @ abs(b)).max())
+
+
+def short(row: numpy.ndarray, i: int, half: numpy.ndarray, units: numpy.ndarray, digits: int) -> dict[int, float]:
+    """What counts of the others in a row, of so many digits in physical units."""
     ratio = units[i] / units
-    return {j: neat(v * ratio[j]) / ratio[j] for j, v in enumerate(row) if j != i and abs(v) * half[j] > NOTHING * half[i] and half[j] > 0}
+    return {j: float(f"{v * ratio[j]:.{digits}g}") / ratio[j] for j, v in enumerate(row) if j != i and abs(v) * half[j] > NOTHING * half[i] and half[j] > 0}

@@ -1,12 +1,13 @@
 """The program's commands, as commands.txt has them: what is not proved counts their arguments, and tells what they write, by that page."""
 import os
 
-TOP = os.path.dirname(os.path.dirname(os.path.dirname(os.path.realpath(__file__))))
+# a link to the page at the top, whose text an installed package has in its place
+TABLE = os.path.join(os.path.dirname(__file__), "commands.txt")
 
 
 def table() -> dict[str, list[str]]:
     """The arguments of each command, with their marks."""
-    with open(os.path.join(TOP, "commands.txt"), encoding="utf-8") as file:
+    with open(TABLE, encoding="utf-8") as file:
         lines = [line.split() for line in file if not line.startswith("#")]
     return {line[0]: line[1:] for line in lines}
 

@@ -5,9 +5,10 @@ import re
 import subprocess
 from dataclasses import dataclass, field
 
-from common.c_text import CText
-from common.c_words import Form
-from tests.controllers import first_inputs, run, step
+from scripts.common.c_text import CText
+from scripts.common.c_words import Form
+
+from .controllers import first_inputs, run, step
 
 HERE = os.path.dirname(os.path.abspath(__file__))
 COMPILER = os.environ.get("CC", "cc")

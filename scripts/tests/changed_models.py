@@ -4,7 +4,7 @@ import os
 import random
 import tomllib
 
-from tests.worked import EXAMPLES
+from .worked import EXAMPLES
 
 NUMBERS = (0, -1, 1, 2.5, -0.25, 1e300, -1e300, 1e-300, 10**40, 5000, float("nan"), float("inf"), -float("inf"), 1e9, 1e-9, 3, 64)
 VALUES = NUMBERS + (True, "", "x", "a\nb", "x,y", [], [[]], {}, [1.0], [[1.0]], [{}], ["x"], None)

@@ -1,8 +1,8 @@
 """Random controllers of both versions, of every tier of words that the C has, and the machine that they run on, by its formulas."""
 import random
 
-from common.strict_texts import absolute_sums
-from common.texts import Controller
+from scripts.common.strict_texts import absolute_sums
+from scripts.common.texts import Controller
 
 
 def spread(random_, bits):

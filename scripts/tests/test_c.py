@@ -6,24 +6,21 @@ import os
 import re
 import shutil
 import subprocess
-import sys
 import tempfile
 import unittest
 import unittest.mock
 
-from common import c_costs
-import c_source
-from common.c_text import TWO_WORDS, CText
-from common.c_words import LONG, NARROW, PARTS, WIDE, Form, Sums, parts_fit
-from common.libraries import Refusal, answered
-from common.strict_texts import absolute_sums, safe_controller, strict_controller, strict_report
-from tests import c_trials
-from tests.controllers import random_controller, run, text_of
-from tests.worked import EXAMPLES, FIRST, FIRST_CONTROLLER, FIRST_REPORT, SECOND, SECOND_CONTROLLER, SECOND_JSON, SECOND_REPORT, SIX, TOP, folder_with
+from checks.fuzz import control, model
+from scripts import c_source
+from scripts.common import c_costs
+from scripts.common.c_text import TWO_WORDS, CText
+from scripts.common.c_words import LONG, NARROW, PARTS, WIDE, Form, Sums, parts_fit
+from scripts.common.libraries import Refusal, answered
+from scripts.common.strict_texts import absolute_sums, safe_controller, strict_controller, strict_report
 
-sys.path.insert(0, os.path.join(TOP, "checks", "fuzz"))
-import control
-import model
+from . import c_trials
+from .controllers import random_controller, run, text_of
+from .worked import EXAMPLES, FIRST, FIRST_CONTROLLER, FIRST_REPORT, SECOND, SECOND_CONTROLLER, SECOND_JSON, SECOND_REPORT, SIX, TOP, folder_with
 
 PROGRAM = os.path.join(TOP, "crates", "mpc_cli", "out", "mpc_cli")
 NO_COMPILER = f"no {c_trials.COMPILER} here: apt-get install gcc"

@@ -4,17 +4,14 @@ import random
 import re
 import shutil
 import subprocess
-import sys
 import tempfile
 import unittest
 
-from tests.c_trials import states_of
-from tests.controllers import random_controller, run
-from tests.worked import TOP
+from bench.target import board, costs
 
-sys.path.insert(0, os.path.join(TOP, "bench", "target"))
-import board
-import costs
+from .c_trials import states_of
+from .controllers import random_controller, run
+from .worked import TOP
 
 PROGRAM = os.path.join(TOP, "crates", "mpc_cli", "out", "mpc_cli")
 # 32 bits, parts of 1 x 2, 2 x 1 and 2 x 2, long words, two words for sums, two words for all

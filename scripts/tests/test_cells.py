@@ -6,17 +6,18 @@ import random
 import sys
 import unittest
 
-from common.libraries import PACKAGES, Refusal, missing
-from tests.worked import EXAMPLES, FIRST, TOP, folder_with
+from scripts.common.libraries import PACKAGES, Refusal, missing
+
+from .worked import EXAMPLES, FIRST, TOP, folder_with
 
 LACKING = missing(*PACKAGES)
 if not LACKING:
-    import cells
-    from common import cell_pictures, matching
-    from common.corners import corners_of, margin_of, multiplier_of, steps_of
-    from common.design_text import design_of, read_design
-    from common.progress import Progress
-    from common.texts import read_text, records_of
+    from scripts import cells
+    from scripts.common import cell_pictures, matching
+    from scripts.common.corners import corners_of, margin_of, multiplier_of, steps_of
+    from scripts.common.design_text import design_of, read_design
+    from scripts.common.progress import Progress
+    from scripts.common.texts import read_text, records_of
 
 # the box -1 to 2 times -2 to 3
 BOXES = """version = 1

@@ -4,27 +4,24 @@ import io
 import os
 import signal
 import subprocess
-import sys
 import time
 import tomllib
 import unittest
 import unittest.mock
 
-from common.libraries import PACKAGES, missing
-from common.model_text import model_text
-from tests.worked import EXAMPLES, FIRST, SIX, TOP, folder_with
+from scripts.common.libraries import PACKAGES, missing
+from scripts.common.model_text import model_text
+
+from .worked import EXAMPLES, FIRST, SIX, TOP, as_command, folder_with
 
 LACKING = missing(*PACKAGES)
 if not LACKING:
-    import coordinates
-    import design
-    import reach
-    import states
-    from common.design_text import design_of
-    from draft import draft
-    from common.models import Model
-    from common.programs import Programs, reach_of
-    from common.texts import read_text, records_of
+    from scripts import coordinates, design, reach, states
+    from scripts.common.design_text import design_of
+    from scripts.common.models import Model
+    from scripts.common.programs import Programs, reach_of
+    from scripts.common.texts import read_text, records_of
+    from scripts.draft import draft
 
 MASS = """period = 0.2
 stages = 6
@@ -120,10 +117,10 @@ class WholeWay(unittest.TestCase):
 
     def test_steps_are_shown_and_end_with_the_first_refusal(self):
         folder, paths = folder_with(self, model=MASS, bad=MASS.replace("period = 0.2", "period = -1"))
-        run = lambda *words: subprocess.run([sys.executable, os.path.join(TOP, "scripts", "design.py"), *words], cwd=folder, capture_output=True, text=True)
+        run = lambda *words: subprocess.run([*as_command("design"), *words], cwd=folder, capture_output=True, text=True)
         got = run(paths["bad"], "made", "--as-it-is")
         self.assertEqual(got.returncode, 1)
-        self.assertIn("scripts/outlook.py ended with status 1", got.stderr)
+        self.assertIn("./mpc outlook ended with status 1", got.stderr)
         self.assertIn("period", got.stdout)
         self.assertEqual(run("nowhere", "made").stderr, "design.py: nowhere: No such file or directory\n")
         got = run(paths["model"], paths["model"])
@@ -142,8 +139,8 @@ class WholeWay(unittest.TestCase):
         self.assertEqual(sorted(os.listdir(made)), sorted([*design.MADE, *design.SETTLES]))
         self.assertIn("every loop from 100 % of the box lies within 5 % of it after", got.stdout.splitlines()[-4])
         commands = [line for line in got.stdout.splitlines() if line.startswith("$ ")]
-        for step in ("outlook.py", "coordinates.py", "draft.py", "policy.py", "mpc lean", "states.py", "mpc loop", "exact_loop.py", "settles.py", "plot.py", "judge.py", "mpc explain"):
-            self.assertTrue(any(step in command for command in commands), step)
+        for step in ("outlook", "coordinates", "draft", "policy", "lean", "states", "loop", "exact_loop", "settles", "plot", "judge", "explain"):
+            self.assertTrue(any(f"mpc {step} " in command for command in commands), step)
         # each is a command that can be run by hand
         again = subprocess.run(commands[-1][2:], shell=True, capture_output=True, text=True)
         self.assertEqual((again.returncode, again.stderr), (0, ""))
@@ -171,7 +168,7 @@ class WholeWay(unittest.TestCase):
         return said, ran, folder
 
     def test_where_loops_settle(self):
-        script, test = "settles.py design.toml controller.txt settle.csv --promise settled.txt", "mpc settle design.toml controller.txt settle.csv"
+        script, test = "settles design.toml controller.txt settle.csv --promise settled.txt", "settle design.toml controller.txt settle.csv"
         said, ran, _ = self.settled((0, "every loop\nfrom then on\n"), (0, "turn 1\n"))
         self.assertEqual((said, ran), (["every loop", "from then on"], [script, test + " > settled.txt"]))
         # a program that hasn't the command tests no certificate, and where none is found there is nothing to test
@@ -182,11 +179,11 @@ class WholeWay(unittest.TestCase):
                 self.settled(*steps)
 
     def test_where_disturbed_loops_settle(self):
-        script, under = "settles.py design.toml controller.txt settle.csv --promise settled.txt", " --disturbances range.csv"
+        script, under = "settles design.toml controller.txt settle.csv --promise settled.txt", " --disturbances range.csv"
         model = MASS.replace("a = [[0.0, 1.0], [0.0, 0.0]]\nb = [[0.0], [1.0]]", "a = [[0.0]]\nb = [[1.0]]").replace('states = ["position m", "speed m/s"]', 'states = ["place m"]')
         model = model.replace("hi = [1.0, 0.5]", "hi = [1.0]\ndisturbed = [0.1]").replace("{ state = [1.0, 0.0], weight = 2.0 }, { state = [0.0, 1.0], weight = 1.0 }", "{ state = [1.0], weight = 2.0 }")
         said, ran, folder = self.settled((0, "every loop\n"), (0, ""), model=model)
-        self.assertEqual((said, ran), (["every loop"], [script + under, "mpc settle design.toml controller.txt settle.csv range.csv > settled.txt"]))
+        self.assertEqual((said, ran), (["every loop"], [script + under, "settle design.toml controller.txt settle.csv range.csv > settled.txt"]))
         with open(os.path.join(folder, "range.csv"), encoding="ascii") as file:
             low, high = map(int, file.read().split())
         self.assertTrue(low == -high < 0)
@@ -206,7 +203,7 @@ class WholeWay(unittest.TestCase):
     def test_an_interrupt_ends_a_search_and_keeps_its_best(self):
         folder, paths = folder_with(self, model=MASS)
         began = subprocess.Popen(
-            [sys.executable, os.path.join(TOP, "scripts", "staying.py"), paths["model"], os.path.join(folder, "new.toml")], stdout=subprocess.PIPE, stderr=subprocess.PIPE, text=True
+            [*as_command("staying"), paths["model"], os.path.join(folder, "new.toml")], stdout=subprocess.PIPE, stderr=subprocess.PIPE, text=True
         )
         # its first line is told when the search has begun
         first = began.stderr.readline()
@@ -219,7 +216,7 @@ class WholeWay(unittest.TestCase):
 
     def test_asks_to_stay(self):
         _, paths = folder_with(self, plain=MASS, stays=MASS + "stay = [0.1, 0.0]\n", bad=MASS.replace("period = 0.2", "period = -1"))
-        self.assertEqual([design.asks_to_stay(paths[name]) for name in ("plain", "stays", "bad")], [False, True, False])
+        self.assertEqual([design.says(paths[name], lambda found: any(found.stay)) for name in ("plain", "stays", "bad")], [False, True, False])
 
     @unittest.skipUnless(os.path.exists(os.path.join(TOP, "crates/mpc_cli/out/mpc_cli")), "the program isn't built")
     def test_a_box_that_no_loop_leaves(self):
@@ -236,7 +233,7 @@ class WholeWay(unittest.TestCase):
         # a lean controller bears what the model asks for, and less than that of `stay`
         bears, more = (records_of(read_text(os.path.join(where, "disturbances.csv"))) for where in (made, beside))
         self.assertTrue(all(0 < v < w for v, w in zip(bears[1], more[1])))
-        both = subprocess.run([sys.executable, os.path.join(TOP, "scripts", "design.py"), model, made, "--stay", "--as-it-is"], capture_output=True, text=True)
+        both = subprocess.run([*as_command("design"), model, made, "--stay", "--as-it-is"], capture_output=True, text=True)
         self.assertEqual(both.returncode, 2)
 
 

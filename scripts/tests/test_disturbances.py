@@ -2,22 +2,21 @@
 import argparse
 import os
 import subprocess
-import sys
 import unittest
 from unittest import mock
 
-import disturbances
-import disturbed_loop
-from common import matching
-from common.design_text import design_of
-from common.disturbances import box_in, turns_in
-from common.libraries import PACKAGES, Refusal, missing
-from tests.worked import EXAMPLES, FIRST, TOP, folder_with
+from scripts import disturbances, disturbed_loop
+from scripts.common import matching
+from scripts.common.design_text import design_of
+from scripts.common.disturbances import box_in, turns_in
+from scripts.common.libraries import PACKAGES, Refusal, missing
+
+from .worked import EXAMPLES, FIRST, TOP, as_command, folder_with
 
 LACKING = missing(*PACKAGES)
 if not LACKING:
-    import plot
-    from common.programs import exact_loop
+    from scripts import plot
+    from scripts.common.programs import exact_loop
 
 PROGRAM = os.path.join(TOP, "crates/mpc_cli/out/mpc_cli")
 # half a unit is a step of the grid, and 1 of the first state is 2 m
@@ -130,19 +129,19 @@ class Commands(unittest.TestCase):
     def test_from_disturbances_to_a_picture(self):
         folder, paths = folder_with(self, d=UNITS, states="0\n", box="-1\n1\n")
         made, lines, picture = (os.path.join(folder, name) for name in ("made", "lines", "loop.svg"))
-        run = lambda script, *words: subprocess.run([sys.executable, os.path.join(TOP, "scripts", script), *words], capture_output=True, text=True)
-        self.assertEqual(run("disturbances.py", paths["d"], "4", made, "--constant", "1").stderr, "")
-        got = run("exact_loop.py", paths["d"], paths["states"], "4", made)
+        run = lambda script, *words: subprocess.run([*as_command(script), *words], capture_output=True, text=True)
+        self.assertEqual(run("disturbances", paths["d"], "4", made, "--constant", "1").stderr, "")
+        got = run("exact_loop", paths["d"], paths["states"], "4", made)
         self.assertEqual((got.returncode, [line.split()[2] for line in got.stdout.splitlines()][:2]), (0, ["0", "1"]))
         with open(lines, "w", encoding="utf-8") as file:
             file.write(got.stdout)
-        draw = ("plot.py", paths["d"], lines, "--out", picture)
+        draw = ("plot", paths["d"], lines, "--out", picture)
         self.assertIn("is of another design: after turn 1", run(*draw).stderr)
         self.assertEqual(run(*draw, "--disturbances", made, "--bears", paths["box"]).stderr, "")
         with open(picture, encoding="utf-8") as file:
             self.assertIn("added to", file.read())
         self.assertEqual((run(*draw, "--bears", paths["box"]).returncode, run(*draw, "--disturbances", lines).returncode), (2, 1))
-        got = run("exact_loop.py", paths["d"], paths["states"], "3", made)
+        got = run("exact_loop", paths["d"], paths["states"], "3", made)
         self.assertEqual((got.returncode, got.stderr), (1, f"exact_loop.py: {made}: a record for each of 3 turns is expected, and it has 4\n"))
 
 
@@ -161,7 +160,7 @@ class WithTheProgram(unittest.TestCase):
         path = os.path.join(self.folder, "shifts")
         with open(path, "w") as file:
             file.write("".join(f"{v}\n" for v in shifts))
-        words = [sys.executable, os.path.join(TOP, "scripts", "disturbed_loop.py"), self.design, self.controller, self.states, str(len(shifts)), path]
+        words = [*as_command("disturbed_loop"), self.design, self.controller, self.states, str(len(shifts)), path]
         return subprocess.run(words, capture_output=True, text=True)
 
     def test_without_disturbances_it_is_the_loop(self):
@@ -184,7 +183,7 @@ class Arguments(unittest.TestCase):
     def test_writes_records(self):
         folder, paths = folder_with(self, d=FIRST, box="0\n1\n")
         out = os.path.join(folder, "out")
-        run = lambda *words: subprocess.run([sys.executable, os.path.join(TOP, "scripts", "disturbances.py"), paths["d"], "3", *words], capture_output=True, text=True)
+        run = lambda *words: subprocess.run([*as_command("disturbances"), paths["d"], "3", *words], capture_output=True, text=True)
         self.assertEqual(run("--constant", "1", "--within", paths["box"]).stdout, "1\n1\n1\n")
         self.assertEqual(run(out, "--step", "1", "--at", "2").returncode, 0)
         with open(out, encoding="utf-8") as file:

@@ -8,27 +8,21 @@ import sys
 import unittest
 import xml.dom.minidom
 
-from common.libraries import PACKAGES, missing
-from tests.worked import AXIS, AXIS_POLICY, EXAMPLES, FIRST, SIX, TOP, folder_with
+from scripts.common.libraries import PACKAGES, missing
+
+from .worked import AXIS, AXIS_POLICY, EXAMPLES, FIRST, SIX, TOP, as_command, folder_with
 
 LACKING = missing(*PACKAGES)
 if not LACKING:
     import numpy
 
-    import discretise
-    import draft
-    import exact_loop
-    import judge
-    from common import models
-    import plot
-    import policy
-    from common import programs
-    from common import sizes
-    from common.condensed import condense
-    from common.corners import corners_of, margin_of
-    from common.design_text import design_of, read_design
-    from common.enclosures import condense_fine
-    from common.texts import loop_lines_of, records_of
+    from scripts import discretise, draft, exact_loop, judge, plot, policy
+    from scripts.common import models, programs, sizes
+    from scripts.common.condensed import condense
+    from scripts.common.corners import corners_of, margin_of
+    from scripts.common.design_text import design_of, read_design
+    from scripts.common.enclosures import condense_fine
+    from scripts.common.texts import loop_lines_of, records_of
 
 # the examples that were drafted from their models
 MADE = ("antenna", "kiln", "motor", "pmsm", "rendezvous", "satellite", "wheel")
@@ -218,8 +212,8 @@ class Libraries(unittest.TestCase):
     def test_missing_library_names_its_package(self):
         import subprocess
 
-        code = "import sys; sys.argv = ['policy.py']; from common import libraries; libraries.SYSTEM = '/nowhere'; libraries.PACKAGES['no_such'] = 'python3-no-such'; libraries.need('no_such')"
-        got = subprocess.run([sys.executable, "-c", code], cwd=os.path.join(TOP, "scripts"), capture_output=True, text=True)
+        code = "import sys; sys.argv = ['policy.py']; from scripts.common import libraries; libraries.SYSTEM = '/nowhere'; libraries.PACKAGES['no_such'] = 'python3-no-such'; libraries.need('no_such')"
+        got = subprocess.run([sys.executable, "-c", code], cwd=TOP, capture_output=True, text=True)
         self.assertEqual(got.returncode, 1)
         self.assertIn("has no no_such: apt-get install python3-no-such", got.stderr)
 
@@ -227,15 +221,15 @@ class Libraries(unittest.TestCase):
         import subprocess
 
         for name in ("refusals", "pages"):
-            got = subprocess.run([sys.executable, os.path.join(TOP, "scripts", name + ".py"), "--help"], capture_output=True, text=True)
-            self.assertEqual((got.returncode, f"scripts/{name}.py" in got.stdout), (0, True))
+            got = subprocess.run([*as_command(name), "--help"], capture_output=True, text=True)
+            self.assertEqual((got.returncode, f"./mpc {name}" in got.stdout), (0, True))
 
     @unittest.skipIf(LACKING, f"missing: {', '.join(LACKING)}")
     def test_every_script_with_libraries_has_help(self):
         import subprocess
 
         for name in ("discretise", "draft", "policy", "exact_loop", "plot", "judge", "explain", "faces", "staying", "disturbances", "disturbed_loop", "cells"):
-            got = subprocess.run([sys.executable, os.path.join(TOP, "scripts", name + ".py"), "--help"], capture_output=True, text=True)
+            got = subprocess.run([*as_command(name), "--help"], capture_output=True, text=True)
             self.assertEqual((got.returncode, len(got.stdout) > 200), (0, True), name)
 
 

@@ -1,18 +1,16 @@
 """Faces of a box: what holds of worked ones, and that those that are found hold."""
 import os
 import subprocess
-import sys
 import unittest
 
-from tests.worked import FIRST, FIRST_POLICY, TOP, folder_with
+from scripts.common.design_text import design_of
+from scripts.common.libraries import missing
 
-sys.path.insert(0, os.path.join(TOP, "scripts"))
-from common.design_text import design_of
-from common.libraries import missing
+from .worked import FIRST, FIRST_POLICY, as_command, folder_with
 
 LACKING = missing("numpy", "scipy")
 if not LACKING:
-    import faces
+    from scripts import faces
 
 # x+ = x + u from 0 to 1, whose next state is to lie in it too; what each row may be exceeded by was computed by another program
 WORKED = FIRST.replace("final = [[4, 1]]", "final = [[4, 1], [-4, 1]]").replace("den = 1\nviolation = 16\ngap = 1\n", "den = 10\nviolation = 1\ngap = 10\n")
@@ -72,7 +70,7 @@ class Command(unittest.TestCase):
         folder, paths = folder_with(self, d=WORKED, p=FIRST_POLICY, **texts)
         out = {name: os.path.join(folder, name) for name in ("faces", "bears")}
         words = [paths.get(word, out.get(word, word)) for word in words]
-        got = subprocess.run([sys.executable, os.path.join(TOP, "scripts", "faces.py"), paths["d"], paths["p"], *words], capture_output=True, text=True)
+        got = subprocess.run([*as_command("faces"), paths["d"], paths["p"], *words], capture_output=True, text=True)
         return got, {name: open_text(path) for name, path in out.items() if os.path.exists(path)}
 
     def test_faces_and_what_they_bear(self):

@@ -5,11 +5,27 @@ import subprocess
 import sys
 import unittest
 
-from common import arguments, files, matching
-from common.design_text import design_of
-from common.libraries import PACKAGES, Refusal, missing
-from tests.worked import AXIS, FIRST, FIRST_CONTROLLER, FIRST_LEAN_CONTROLLER, FIRST_LEAN_REPORT, FIRST_POLICY, FIRST_REFERENCE, FIRST_REPORT, SECOND, SECOND_CONTROLLER, SECOND_REPORT, TOP, folder_with
-from common.texts import controller_of, loop_lines_of, records_of, report_of
+from scripts.common import arguments, files, matching
+from scripts.common.design_text import design_of
+from scripts.common.libraries import PACKAGES, Refusal, missing
+from scripts.common.texts import controller_of, loop_lines_of, records_of, report_of
+
+from .worked import (
+    AXIS,
+    FIRST,
+    FIRST_CONTROLLER,
+    FIRST_LEAN_CONTROLLER,
+    FIRST_LEAN_REPORT,
+    FIRST_POLICY,
+    FIRST_REFERENCE,
+    FIRST_REPORT,
+    SECOND,
+    SECOND_CONTROLLER,
+    SECOND_REPORT,
+    TOP,
+    as_command,
+    folder_with,
+)
 
 LACKING = missing(*PACKAGES)
 FIRST_LOOP = "1 1 1 4096 -2224\n1 2 0 4096 0\n"
@@ -17,7 +33,7 @@ FIRST_LOOP = "1 1 1 4096 -2224\n1 2 0 4096 0\n"
 
 def command(name: str, *words: str, **how) -> subprocess.CompletedProcess:
     """A run of a command of scripts/."""
-    return subprocess.run([sys.executable, os.path.join(TOP, "scripts", name + ".py"), *words], capture_output="stdout" not in how, text=True, **how)
+    return subprocess.run([*as_command(name), *words], capture_output="stdout" not in how, text=True, **how)
 
 
 class Files(unittest.TestCase):
@@ -76,10 +92,10 @@ class Files(unittest.TestCase):
     def test_disk_that_is_full(self):
         """A limit on a file's size fails the write after the open."""
         code = (
-            "import resource, signal, sys; sys.path.insert(0, sys.argv[1]); from common import files; signal.signal(signal.SIGXFSZ, signal.SIG_IGN);"
+            "import resource, signal; from scripts.common import files; signal.signal(signal.SIGXFSZ, signal.SIG_IGN);"
             "resource.setrlimit(resource.RLIMIT_FSIZE, (10, 10)); files.write('two', 'x' * 100)"
         )
-        got = subprocess.run([sys.executable, "-c", code, os.path.join(TOP, "scripts")], capture_output=True, text=True)
+        got = subprocess.run([sys.executable, "-c", code], env=os.environ | {"PYTHONPATH": TOP}, capture_output=True, text=True)
         self.assertIn("File too large: 'two'", got.stderr)
         with open("two", encoding="ascii") as file:
             self.assertEqual((file.read(), sorted(os.listdir("."))), ("2\n", ["one", "two"]))
@@ -184,9 +200,8 @@ class Commands(unittest.TestCase):
             if os.path.isfile(path):
                 with open(path, encoding="utf-8") as file:
                     text = file.read()
-                self.assertTrue(os.access(path, os.X_OK) and text.startswith("#!/usr/bin/env python3\n") and "\n    run(" in text, name)
-        for name in os.listdir(os.path.join(TOP, "scripts", "common")):
-            self.assertFalse(name.endswith(".py") and os.access(os.path.join(TOP, "scripts", "common", name), os.X_OK), name)
+                self.assertTrue(name.startswith("__") or "\n    run(" in text, name)
+                self.assertFalse(os.access(path, os.X_OK) or text.startswith("#!"), f"{name} is run by ./mpc, as a part of its package")
 
     def test_help_into_a_full_disk(self):
         names = ["explain", "refusals", "pages"] + ([] if LACKING else ["coordinates", "design", "draft", "discretise", "policy", "faces", "exact_loop", "plot", "judge", "reach", "states"])
@@ -256,8 +271,8 @@ class Commands(unittest.TestCase):
                 self.assertEqual(file.read(len(start)), start)
 
     def test_progress_on_a_terminal_alone(self):
-        code = "import sys, time; sys.path.insert(0, sys.argv[1]); from common import progress; progress.FIRST = 0\nwith progress.Progress('states', 9) as told:\n    time.sleep(0.6); told.reach(4)"
-        words = [sys.executable, "-c", code, os.path.join(TOP, "scripts")]
+        code = "import time; from scripts.common import progress; progress.FIRST = 0\nwith progress.Progress('states', 9) as told:\n    time.sleep(0.6); told.reach(4)"
+        words = ["env", f"PYTHONPATH={TOP}", sys.executable, "-c", code]
         self.assertEqual(subprocess.run(words, capture_output=True).stderr, b"")
         here, there = pty.openpty()
         subprocess.run(words, stderr=there)

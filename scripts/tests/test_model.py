@@ -1,19 +1,13 @@
 """The independent model of checks/fuzz, on worked designs whose exact numbers are too long, and against the numbers that the prover computes in
 crates/trials_definitions/proofs/FineWorked.antt and CornersWorked.antt."""
 import os
-import sys
 import unittest
 
-from common.condensed import condense
-from common.design_text import design_of
-from tests.worked import AXIS, FIRST, ROOMY_FINE_AXIS, SECOND_JSON, SECOND_REPORT, TOP
+from checks.fuzz import at_corners, cases, forms, model, program
+from scripts.common.condensed import condense
+from scripts.common.design_text import design_of
 
-sys.path.insert(0, os.path.join(TOP, "checks", "fuzz"))
-import at_corners
-import cases
-import forms
-import model
-import program
+from .worked import AXIS, FIRST, ROOMY_FINE_AXIS, SECOND_JSON, SECOND_REPORT, TOP
 
 BASE = {"n": 1, "p": 1, "stages": 1, "den": 1, "a": [[1]], "b": [[1]], "cost_den": 1, "row_den": 1, "input": [1], "cost": [[1, 0, 1]], "final_cost": [], "limit_den": 4,
         "rows": [[0, 4, 4], [0, -4, 4]], "final_rows": [[4, 1]], "grid": 0, "lo": [0], "hi": [1], "target_den": 1, "violation": 16, "gap": 1}

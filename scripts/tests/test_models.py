@@ -2,21 +2,21 @@
 import json
 import os
 import subprocess
-import sys
 import unittest
 import warnings
 
-from common.libraries import PACKAGES, Refusal, missing
-from tests.changed_models import changed_models
-from tests.worked import TOP, folder_with
+from scripts.common.libraries import PACKAGES, Refusal, missing
+
+from .changed_models import changed_models
+from .worked import as_command, folder_with
 
 LACKING = missing(*PACKAGES)
 if not LACKING:
     import numpy
     import scipy.io
 
-    import draft
-    from common import models
+    from scripts import draft
+    from scripts.common import models
 
 PLANT = "period = 0.5\nstages = 5\na = [[0.0, 1.0], [0.0, 0.0]]\nb = [[0.0], [1.0]]\n"
 LIMIT = "[[limit]]\ninput = [1.0]\nbound = 1.0\nleast = -1.0\ntolerance = 0.25\n"
@@ -107,7 +107,7 @@ class Faults(unittest.TestCase):
         _, paths = folder_with(self, model=MODEL.replace("grid", "gird").replace("stages = 5", "stages = 0"), bytes=b"\xff\xfe", long=b"#" * 4194305)
         for name, words in (("model", ": stages: a whole number from 1 to 20 is expected, and 0 stands there\n"), ("bytes", ": no UTF-8: "), ("long", " is longer than 4194304 bytes")):
             for script in ("draft", "discretise"):
-                got = subprocess.run([sys.executable, os.path.join(TOP, "scripts", script + ".py"), paths[name]], capture_output=True, text=True)
+                got = subprocess.run([*as_command(script), paths[name]], capture_output=True, text=True)
                 self.assertEqual((got.returncode, got.stdout, got.stderr.startswith(f"{script}.py: {paths[name]}{words}")), (1, "", True), got.stderr)
 
 

@@ -4,17 +4,18 @@ import os
 import unittest
 from fractions import Fraction
 
-from common import sizes
-from common.condensed import condense, curvature
-from common.corners import corners_of, cost_limit, exact_corner, fine_corner, lean_multiplier_of, margin_of, multiplier_of, steps_of
-from common.design_text import design_of, plain, read_design, text_of
-from common.enclosures import combined, condense_fine, product
-from common.excess import excesses_of
-from common.libraries import Refusal
-from explain import explain, ranges
-from common.trajectories import slacks_of
-from common.texts import controller_of, kind_of, loop_lines_of, read_text, records_of, report_of
-from tests.worked import (
+from scripts.common import sizes
+from scripts.common.condensed import condense, curvature
+from scripts.common.corners import corners_of, cost_limit, exact_corner, fine_corner, lean_multiplier_of, margin_of, multiplier_of, steps_of
+from scripts.common.design_text import design_of, plain, read_design, text_of
+from scripts.common.enclosures import combined, condense_fine, product
+from scripts.common.excess import excesses_of
+from scripts.common.libraries import Refusal
+from scripts.common.texts import controller_of, kind_of, loop_lines_of, read_text, records_of, report_of
+from scripts.common.trajectories import slacks_of
+from scripts.explain import explain, ranges
+
+from .worked import (
     AXIS,
     AXIS_OVER_1000,
     AXIS_POLICY,

@@ -1,14 +1,15 @@
 """What can be said of a model at once: poles, the growth of a stage, corners without a plan; and what is refused by name."""
 import unittest
 
-from common.libraries import PACKAGES, Refusal, missing
-from tests.test_design import MASS
+from scripts.common.libraries import PACKAGES, Refusal, missing
+
+from .test_design import MASS
 
 LACKING = missing(*PACKAGES)
 if not LACKING:
-    import outlook
-    from common.models import Model
-    from draft import draft
+    from scripts import outlook
+    from scripts.common.models import Model
+    from scripts.draft import draft
 
 
 def said(text):
@@ -22,7 +23,8 @@ class Outlook(unittest.TestCase):
         self.assertRegex(words[0], "^1 of the design is [0-9.]+ m of position, [0-9.]+ m/s of speed$")
         self.assertEqual(words[2], "a stage multiplies by 1 (pole 0 /s), 1 (pole 0 /s)")
         self.assertRegex(words[3], "^each of 4 corners has a plan that keeps every limit")
-        self.assertRegex(words[4], "^a plant over [0-9]+ with numbers that move by at most 0.1 % fits$")
+        self.assertRegex(words[4], "^a run of a lean controller: K about [0-9]+, [0-9.]+ % of a stage of a Cortex-M4 of 100 MHz$")
+        self.assertRegex(words[5], "^a plant over [0-9]+ with numbers that move by at most 0.1 % fits$")
 
     def test_poles_with_their_units(self):
         # 18.85 / s turns by 0.6 of a turn in 0.2 s
@@ -44,6 +46,18 @@ class Outlook(unittest.TestCase):
         sampled = MASS.replace("a = [[0.0, 1.0], [0.0, 0.0]]", "sampled = true\na = [[-9.0, 0.0], [0.0, 0.5]]")
         with self.assertRaisesRegex(Refusal, r"^a: a stage multiplies a state by -9, 6 stages by 531441: a plant that grows by at most 4 a stage"):
             said(sampled)
+
+    def test_a_run_that_takes_too_long(self):
+        """The same mass so much faster, with what it is off weighing more: what helps is said, where something does."""
+        for period, weight, wanted in (
+            (2e-4, 5.0, r"K about 772, 2500 % of a stage of a Cortex-M4 of 100 MHz; with inputs weighing 4 times as much as the model says K about 2, 6.9 % of a stage"),
+            (2e-5, 50.0, r"K about 16991, 550000 % .*; with a cost of the box's coordinates at the last stage, 3 times .* in place of the model's K about 2, 69 % of a stage"),
+            (2e-6, 5.0, r"K about 772, 250000 % .*; fewer stages, larger tolerances or a smaller box make it less \(docs/TARGETS.md\)"),
+        ):
+            fast = MASS.replace("weight = 2.0", f"weight = {weight}").replace("period = 0.2", f"period = {period}")
+            fast = fast.replace("[[0.0, 1.0], [0.0, 0.0]]", f"[[0.0, {0.2 / period}], [0.0, 0.0]]").replace("[[0.0], [1.0]]", f"[[0.0], [{0.2 / period}]]")
+            (line,) = [line for line in said(fast) if "lean" in line]
+            self.assertRegex(line, f"^warning: a run of a lean controller doesn't end in time: {wanted}$")
 
     def test_corners_without_a_plan(self):
         held = MASS.replace("[cost]", "[[limit]]\nname = 'place'\nstate = [1.0, 0.0]\nbound = 1.0\nleast = -1.0\ntolerance = 0.01\n[cost]")

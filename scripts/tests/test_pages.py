@@ -3,23 +3,21 @@ import contextlib
 import io
 import os
 import re
-import sys
 import unittest
 import unittest.mock
 
-import pages
-from tests.worked import TOP, folder_with
+from bench.gate import page
+from scripts import pages
 
-sys.path.insert(0, os.path.join(TOP, "bench", "gate"))
-import page
+from .worked import TOP, folder_with
 
-PAGE = "Text\n\n    ./one a && ./two b\n\nprints\n\n    first\n      second\n\nText\n\n    ./three\n    ./four\n\n    ./scripts/five\n\n    version = 1\n"
+PAGE = "Text\n\n    ./one a && ./two b\n\nprints\n\n    first\n      second\n\nText\n\n    ./three\n    ./four\n\n    ./mpc plot\n\n    version = 1\n"
 
 
 class Pages(unittest.TestCase):
     def test_commands(self):
         self.assertEqual(
-            list(pages.commands_of(PAGE)), [("./one a && ./two b", ["first", "  second"]), ("./three\n./four", []), ("./scripts/five", ["version = 1"])]
+            list(pages.commands_of(PAGE)), [("./one a && ./two b", ["first", "  second"]), ("./three\n./four", []), ("./mpc plot", ["version = 1"])]
         )
 
     def wrong(self, printed, lacking=()):
@@ -27,19 +25,19 @@ class Pages(unittest.TestCase):
             return list(pages.wrong_in(PAGE, lacking, lambda command: printed.get(command, [])))
 
     def test_all_right(self):
-        self.assertEqual(self.wrong({"./one a && ./two b": ["first", "  second"], "./scripts/five": ["version = 1"]}), [])
+        self.assertEqual(self.wrong({"./one a && ./two b": ["first", "  second"], "./mpc plot": ["version = 1"]}), [])
 
     def test_another_line(self):
-        self.assertEqual(len(self.wrong({"./one a && ./two b": ["first", "second"], "./scripts/five": ["version = 1"]})), 1)
+        self.assertEqual(len(self.wrong({"./one a && ./two b": ["first", "second"], "./mpc plot": ["version = 1"]})), 1)
 
     def test_lines_in_another_order(self):
-        self.assertEqual(len(self.wrong({"./one a && ./two b": ["  second", "first"], "./scripts/five": ["version = 1"]})), 1)
+        self.assertEqual(len(self.wrong({"./one a && ./two b": ["  second", "first"], "./mpc plot": ["version = 1"]})), 1)
 
     def test_a_line_where_none_is_said(self):
-        self.assertEqual(len(self.wrong({"./one a && ./two b": ["first", "  second"], "./three\n./four": ["x"], "./scripts/five": ["version = 1"]})), 1)
+        self.assertEqual(len(self.wrong({"./one a && ./two b": ["first", "  second"], "./three\n./four": ["x"], "./mpc plot": ["version = 1"]})), 1)
 
     def test_rewritten(self):
-        printed = {"./one a && ./two b": ["first", "third"], "./three\n./four": [], "./scripts/five": ["version = 2", "x"]}
+        printed = {"./one a && ./two b": ["first", "third"], "./three\n./four": [], "./mpc plot": ["version = 2", "x"]}
         text = PAGE.replace("    first\n      second\n", "    first\n    third\n").replace("    version = 1\n", "    version = 2\n    x\n")
         self.assertEqual(pages.rewritten(PAGE, printed.get), text)
         self.assertEqual(pages.rewritten(text, printed.get), text)
@@ -80,6 +78,15 @@ class Costs(unittest.TestCase):
         self.assertEqual(told, self.written("The first answer takes 7 minutes."))
         self.assertEqual(page.first_line(page.with_first(told, "The first answer takes 6 minutes.")), "The first answer takes 6 minutes.")
 
+    def test_rows_of_more_than_one_run(self):
+        """What was measured stays, what is gone falls away, and what is new has an empty row."""
+        costs = page.rows_in(self.written())
+        self.assertEqual(costs, {"low": page.Cost(30, 0, 2, 61, 0.7), "mid": page.Cost(121, 0, 0, 0, 1.5), "trials_low": page.Cost(3, 181, 0, 0, 2)})
+        told = page.renewed({"low": costs["low"], "new": page.Cost(), "mid": page.Cost(100, memory=1)}, (130, ["low", "mid"]), "The first answer takes 7 minutes.", "Of two runs.", 1)
+        self.assertEqual(told.split("\n")[-4:], ["| `low` | 30 |  | 2 | 61 | 0.7 | 0 |", "| `new` |  |  |  |  |  | 0 |", "| `mid` | 100 |  |  |  | 1.0 | 0 |", ""])
+        for words in ("one check in GB. Of two runs.\n", "Of 3 crates 2 were measured: their proofs take 2 processor minutes", "Not measured: `new`.", "is 2.2 minutes: `low`, `mid`.\nThe first answer takes 7"):
+            self.assertIn(words, told)
+
     def test_pace(self):
         """Twice the marks' time for the three crates is a pace of 2, and what is measured is told beside its mark at that pace."""
         seconds = {name: 2 * mark for name, mark in page.PACE.items()}
@@ -91,7 +98,10 @@ class Costs(unittest.TestCase):
     def test_the_page_has_the_form(self):
         text = page.read(os.path.join(TOP, "bench", "gate", "COSTS.md"))
         self.assertTrue(text.startswith(page.HEAD) and page.first_line(text))
-        self.assertGreater(len(re.findall(r"^\| `[a-z_]+` \|(?: [*0-9]* \|){4} [0-9.]+ \| [0-9]+ \|$", text, re.M)), 60)
+        rows = re.findall(r"^\| `([a-z_]+)` \|(?: [*0-9]* \|){4} [0-9.]* \| [0-9]+ \|$", text, re.M)
+        with open(os.path.join(TOP, "crates.txt"), encoding="utf-8") as file:
+            crates = re.findall(r"^([a-z]\w*)[^:\n]*:", file.read(), re.M)
+        self.assertEqual((set(rows) - set(crates), len(rows) > 60), (set(), True), "--renew drops rows of crates that are gone")
 
 
 if __name__ == "__main__":

@@ -5,16 +5,15 @@ import io
 import os
 import unittest
 
-from common import design_text
-from common.libraries import PACKAGES, missing
-from tests.worked import EXAMPLES
+from scripts.common import design_text
+from scripts.common.libraries import PACKAGES, missing
+
+from .worked import EXAMPLES
 
 LACKING = missing(*PACKAGES)
 if not LACKING:
-    import draft
-    from common import corners, excess, models, sizes
-    import policy
-    from common import programs
+    from scripts import draft, policy
+    from scripts.common import corners, excess, models, programs, sizes
 
 PLANT = "period = 0.5\nstages = 5\na = [[0.0, 1.0], [0.0, 0.0]]\nb = [[0.0], [1.0]]\n"
 WIDE = PLANT.replace("b = [[0.0], [1.0]]", "b = [[0.0, 0.1], [1.0, 0.0]]")

@@ -8,10 +8,10 @@ import subprocess
 import sys
 import unittest
 
-import refusals
-from common import usage
-from common.libraries import missing
-from tests.worked import (
+from scripts import refusals
+from scripts.common import usage
+
+from .worked import (
     AXIS,
     AXIS_POLICY,
     FAR,
@@ -34,6 +34,7 @@ from tests.worked import (
     THIRDS,
     THIRDS_POLICY,
     TOP,
+    as_command,
     folder_with,
 )
 
@@ -199,7 +200,7 @@ class Explained(unittest.TestCase):
     def test_steps_of_a_lean_controller(self):
         told = self.lean("error 8 too-many-steps 8388608")
         self.assertIn("K = 2^(s+1) R over 15/16 of the target", told)
-        self.assertIn("or a policy with a smaller excess, as scripts/policy.py --lean finds it", told)
+        self.assertIn("or a policy with a smaller excess, as ./mpc policy --lean finds it", told)
 
     def test_sizes_of_a_lean_controller(self):
         self.assertIn("passes 2^126 (it is 2^181.7)", self.lean("error 10 too-wide excess", reference="1,0\n1,-999999999999999\n"))
@@ -368,7 +369,7 @@ class Explained(unittest.TestCase):
 
 class Page(unittest.TestCase):
     def test_page_is_made_of_the_texts(self):
-        printed = subprocess.run([sys.executable, os.path.join(TOP, "scripts", "refusals.py"), "--table"], capture_output=True, text=True).stdout
+        printed = subprocess.run([*as_command("refusals"), "--table"], capture_output=True, text=True).stdout
         with open(os.path.join(TOP, "docs", "REFUSALS.md"), encoding="utf-8") as file:
             self.assertEqual(file.read(), printed)
 
@@ -681,13 +682,13 @@ mkdir -p crates/mpc_generate/out; printf '#!/bin/bash\necho built\n' >crates/mpc
         self.assertIn(r"The argument \xff\xfe is no UTF-8 text", got.stderr)
         self.assertIn("The system gave the program no arguments", self.run_in(self.folder("exit 99"), "./mpc solve c s").stderr)
 
-    def test_link_to_a_launcher_and_a_script(self):
+    def test_link_to_a_launcher(self):
         folder = self.folder('echo "$1"')
-        self.run_in(folder, "mkdir far; ln -s ../mpc far/mine; ln -s ../scripts/judge.py far/judge")
+        self.run_in(folder, "mkdir far; ln -s ../mpc far/mine")
         self.assertEqual(self.run_in(folder, "far/mine solve c s").stdout, "solve\n")
-        code = "import sys, runpy; sys.path.insert(0, 'scripts'); print(runpy.run_path('far/judge')['solved'].__defaults__[0])"
-        if not missing("numpy", "cvxopt"):
-            self.assertEqual(self.run_in(folder, f'{sys.executable} -c "{code}"').stdout, os.path.realpath(os.path.join(folder, "mpc")) + "\n")
+        self.assertIn("./mpc explain FILE", self.run_in(folder, "cd far; ./mine explain --help").stdout)
+        code = "from scripts.common import launcher; print(launcher.LAUNCHER)"
+        self.assertEqual(self.run_in(folder, f'{sys.executable} -c "{code}"').stdout, os.path.realpath(os.path.join(folder, "mpc")) + "\n")
 
     def test_lines_are_counted_on_a_terminal(self):
         folder = self.folder("for i in 1 2 3; do echo $i; sleep 2; done")

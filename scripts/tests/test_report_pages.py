@@ -5,9 +5,10 @@ import subprocess
 import unittest
 import xml.dom.minidom
 
-import report_page
-from common.libraries import Refusal
-from tests.worked import FIRST, FIRST_CONTROLLER, FIRST_REPORT, folder_with
+from scripts import report_page
+from scripts.common.libraries import Refusal
+
+from .worked import FIRST, FIRST_CONTROLLER, FIRST_REPORT, as_command, folder_with
 
 SVG = '<?xml version="1.0"?>\n<svg xmlns="http://www.w3.org/2000/svg" width="4" height="4"><rect width="4" height="4"/></svg>\n'
 JUDGED = "at 2 states, at 1 of which a limit binds:\ngreatest violation 0.25 & more < 1\n"
@@ -35,6 +36,12 @@ class Pages(unittest.TestCase):
             self.assertIn(words, text)
         # nothing is fetched from anywhere
         self.assertNotRegex(text, r'(?:src|href)="http')
+
+    def test_another_cost(self):
+        head = "# a model whose loops never leave the box, by ./mpc staying"
+        self.assertNotIn("asked for", self.warned(fitted_toml=head + "\n"))
+        told = self.warned(fitted_toml=head + "; so that a run ends in time its cost and its stages are not what was asked for\n")
+        self.assertIn("So that a run ends in time its cost and its stages are not what was asked for: what is promised of the cost is promised of this one.", told)
 
     def test_promises_by_row(self):
         # 8850854903808 over 2^40 of 16, in units of 2 N
@@ -74,7 +81,7 @@ class Pages(unittest.TestCase):
         self.assertEqual(self.run_page(os.path.join(folder, "nowhere")).returncode, 1)
 
     def run_page(self, *words):
-        return subprocess.run([report_page.__file__, *words], capture_output=True, text=True)
+        return subprocess.run([*as_command("report_page"), *words], capture_output=True, text=True)
 
     @unittest.skipUnless(BROWSER, "no Chromium is installed")
     def test_in_a_browser(self):

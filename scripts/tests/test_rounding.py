@@ -4,17 +4,16 @@ import re
 import unittest
 from fractions import Fraction
 
-from common.libraries import PACKAGES, missing
-from tests.worked import EXAMPLES
+from scripts.common.libraries import PACKAGES, missing
+
+from .worked import EXAMPLES
 
 LACKING = missing(*PACKAGES)
 if not LACKING:
     import numpy
 
-    import discretise
-    import draft
-    from common import models
-    from common import rounding
+    from scripts import discretise, draft
+    from scripts.common import models, rounding
 
 # Two zones of a house, 5 degrees outside, with heaters; the third state is 1. What the zones settle at follows from what heats them and from what they lose.
 HOUSE = """period = 900.0

@@ -2,25 +2,17 @@
 import os
 import random
 import subprocess
-import sys
 import unittest
 
-from tests.worked import EXAMPLES, TOP, folder_with
+from checks.fuzz import control, model, program, settle_cases, settling
+from scripts import settles
+from scripts.common import promises
+from scripts.common.design_text import design_of
+from scripts.common.libraries import missing
+from scripts.common.texts import controller_of
+from scripts.common.tubes import Box, Certificate, Loop, Stillness, Tubes, cost_box, first_fault, settled_box
 
-sys.path.insert(0, os.path.join(TOP, "scripts"))
-sys.path.append(os.path.join(TOP, "checks", "fuzz"))
-import control
-import model
-import program
-import settle_cases
-import settling
-
-import settles
-from common import promises
-from common.design_text import design_of
-from common.libraries import missing
-from common.texts import controller_of
-from common.tubes import Box, Certificate, Loop, Stillness, Tubes, first_fault, settled_box
+from .worked import EXAMPLES, as_command, folder_with
 
 WORDS = {10: "too-wide", 23: "moves", 24: "unsettled", 25: "no-return"}
 STILL = [0] * 6
@@ -38,7 +30,7 @@ def lean_texts(name):
 
 def as_ours(s):
     box = lambda b: Box(tuple(b.low), tuple(b.high))
-    return Certificate(s.turns, s.back, box(s.start), box(s.still), box(s.rest))
+    return Certificate(s.turns, s.back, box(s.start), box(s.still), box(s.rest), s.after)
 
 
 class Examples(unittest.TestCase):
@@ -93,9 +85,19 @@ class Examples(unittest.TestCase):
         self.settles("satellite/stay", 98, "0.25", 12, shift=(4, 1))
         self.settles("motor/stay", 90, "0.25", 6, shift=(9, 9))
 
-    def test_no_rest(self):
-        with self.assertRaisesRegex(settles.Refusal, "the loop has no one state at which it rests"):
-            self.settles("kiln", 0, "0.05", 0)
+    def test_held_states(self):
+        """A target or a disturbance that is a state: the rows of the cost tell how near to it loops come."""
+        for name, kept, turns, back, after, costs in (("kiln", 0.4, 15, 14, 27, [3]), ("tracking", 1, 11, 1, 24, [7])):
+            design, controller = map(lambda read, text: read(text), (design_of, controller_of), lean_texts(name))
+            still = STILL[: design.states]
+            found = settles.proposed(design, controller, still, still, 1000, settles.RESTS)
+            s, loop = found.certificate, Loop(design, controller, still, still)
+            self.assertEqual((float(found.kept), s.turns, s.back, s.after, list(found.costs.high)), (kept, turns, back, after, costs))
+            self.assertEqual(cost_box(loop, s.still, s.after)[0], found.costs)
+            self.assertIsNone(first_fault(loop, Stillness(controller), s))
+            promise = promises.Promise(s.turns, found.settled, s.after, found.costs)
+            self.assertEqual(promises.promise_of(promises.promise_text(promise), design.states), promise)
+            self.assertEqual(promises.certificate_of(promises.certificate_text(s), design.states), s)
 
 
 class BesideTheModel(unittest.TestCase):
@@ -109,7 +111,7 @@ class BesideTheModel(unittest.TestCase):
                 continue
             design, text, s, shifts = made
             try:
-                box, told = settling.check(model.read_design(design), control.read_controller(text), s, shifts), None
+                (box, costs), told = settling.check(model.read_design(design), control.read_controller(text), s, shifts), None
             except model.Refused as refused:
                 told = (WORDS[refused.args[0]], *(refused.args[1:] if refused.args[0] != 10 else ()))
             ours, c = as_ours(s), controller_of(text.decode())
@@ -119,6 +121,8 @@ class BesideTheModel(unittest.TestCase):
             if told is None:
                 found = settled_box(Tubes(loop, ours.still), ours)
                 self.assertEqual((list(found.low), list(found.high)), (box.low, box.high))
+                rows = cost_box(loop, ours.still, ours.after)[0]
+                self.assertEqual((list(rows.low), list(rows.high)), (costs.low, costs.high))
         self.assertEqual(seen, {None, *WORDS.values()})
 
 
@@ -130,7 +134,7 @@ class Command(unittest.TestCase):
         folder, paths = folder_with(self, d=design, c=controller, **texts)
         paths["s"] = os.path.join(folder, "s")
         self.paths = paths
-        got = subprocess.run([sys.executable, os.path.join(TOP, "scripts", "settles.py"), *(paths.get(word, word) for word in ("d", "c", *words))], capture_output=True, text=True)
+        got = subprocess.run([*as_command("settles"), *(paths.get(word, word) for word in ("d", "c", *words))], capture_output=True, text=True)
         written = ""
         if os.path.exists(paths["s"]):
             with open(paths["s"], encoding="utf-8") as file:
@@ -162,14 +166,14 @@ class Command(unittest.TestCase):
         design, promise = self.paths["d"], self.paths["p"]
         with open(promise, encoding="ascii") as file:
             self.assertEqual(file.read(), "turn 9\nstate 1 -25 25\nstate 2 -57 57\n")
-        explain = lambda *paths: subprocess.run([sys.executable, os.path.join(TOP, "scripts", "explain.py"), *paths], capture_output=True, text=True)
+        explain = lambda *paths: subprocess.run([*as_command("explain"), *paths], capture_output=True, text=True)
         words = "every loop from its certificate's start box lies after 9 turns (0.045 s), for ever, with angle in 8 ms within 0.02441 rad, speed within 4.453 rad/s\n"
         self.assertEqual(explain(promise, design).stdout, words)
         self.assertIn("is explained with its design", explain(promise).stderr)
 
     @unittest.skipIf(missing("matplotlib"), "no matplotlib")
     def test_picture(self):
-        import plot
+        from scripts import plot
 
         design = design_of(lean_texts("motor")[0])
         certificate = promises.certificate_of("9,-448,-1009,448,1009\n0,-448,-1009,448,1009\n1,-25,-57,25,57\n", 2)
@@ -187,7 +191,7 @@ class Command(unittest.TestCase):
 
     def test_refused(self):
         for name, words, line in (
-            ("kiln", ("s",), "one of its states stands still wherever it is"),
+            ("kiln", ("s", "--within", "0.05"), "loops from within 5 % of the box aren't shown to be back there"),
             ("motor/stay", ("s", "--disturbances", "w"), "after 1000 turns angle in 12 ms may be 0.291 rad"),
             ("motor", ("s", "--within", "0.9"), "a multiplier may move within 90 % of the box: none moves in 87.67 % of it"),
         ):

@@ -11,25 +11,27 @@ import unittest
 from dataclasses import replace
 from fractions import Fraction
 
-from common.libraries import PACKAGES, Refusal, missing
-from common.trajectories import dot, next_state
-from tests.changed_models import changed_text, changed_value
-from tests.test_design import MASS
-from tests.worked import EXAMPLES
+from scripts.common.libraries import PACKAGES, Refusal, missing
+from scripts.common.trajectories import dot, next_state
+
+from .changed_models import changed_text, changed_value
+from .test_design import MASS
+from .worked import EXAMPLES
 
 LACKING = missing(*PACKAGES)
 if not LACKING:
     import numpy
 
-    import faces
-    import staying
-    from common.budget import Budget
-    from common.disturbances import box_in
-    from common.design_text import read_design
-    from common.kept_boxes import Plant, covered, largest, short_of
-    from common.models import Model, read_model
-    from common.texts import read_text, records_of
-    from draft import draft
+    from scripts import faces, staying
+    from scripts.common import turns
+    from scripts.common.budget import Budget
+    from scripts.common.design_text import read_design
+    from scripts.common.disturbances import box_in
+    from scripts.common.kept_boxes import Plant, covered, largest, short_of
+    from scripts.common.models import Model, read_model
+    from scripts.common.run_costs import SAME, Weighing, weighings
+    from scripts.common.texts import read_text, records_of
+    from scripts.draft import draft
 
 # the folders of the examples whose loops never leave the box
 STAY = ("antenna/stay", "kiln", "motor/stay", "satellite/stay")
@@ -174,6 +176,29 @@ class Search(unittest.TestCase):
             design, records = staying.found_faces(Model(model.text | keys))
             self.assertIsNone(faces.first_fault(design, records, lean_excess_of(design)), keys)
 
+    def test_a_run_that_takes_too_long(self):
+        """On a slow processor a cost is taken, or fewer stages, by which a run ends in time; but where both are to stay."""
+        model = Model(SLOW.replace("stages = 2", "stages = 4"))
+        budget = Budget(1000)
+        made = lambda clock, same, most=staying.MOST_STEPS: staying.Search(model, budget, False, clock, same, most)
+        choice = next(limited for found in made(1.0, True).coordinates() if (limited := staying.with_faces(model, found, False)))
+        # a run takes ten stages
+        clock = made(1.0, True).timely(choice).share / 10
+        slow, quick = (made(clock, same).timely(choice) for same in (True, False))
+        self.assertEqual((slow.weighing, slow.stages), (SAME, None))
+        self.assertGreater(slow.share, 1)
+        self.assertLess(slow.steps, staying.MOST_STEPS)
+        self.assertLess(quick.share, staying.ENOUGH)
+        self.assertIn("so that a run ends in time", staying.words_of(model, quick))
+        # and where it ends in time, but takes more steps than it may
+        self.assertLess(made(1.0, False, slow.steps / 2).timely(choice).steps, slow.steps / 2)
+        text = staying.with_limits(model, quick)
+        self.assertNotEqual((text["cost"], text.get("stages")), (model.text["cost"], 4))
+        self.assertRegex(staying.others_words(model, text), "^; so that a run ends in time its (cost|stages|cost and its stages) (is|are) not what was asked for$")
+        self.assertEqual(staying.others_words(model, staying.with_limits(model, slow)), "")
+        # what the faces rest on is the same
+        self.assertEqual((text["box"], text["limit"]), (staying.with_limits(model, slow)["box"], model.text["limit"]))
+
     def test_nothing_is_needed(self):
         lag = WHOLE.replace("[[1.0, 1.0], [0.0, 1.0]]", "[[0.5, 0.0], [0.0, 0.5]]").replace("[[5.0], [1.0]]", "[[1.0], [0.5]]")
         found, holds, said = self.found(lag + REST)
@@ -188,16 +213,51 @@ class Search(unittest.TestCase):
         self.assertRegex(said, "without what is disturbed it would be [0-9.]+: a smaller `disturbed` helps")
 
 
+TRACKED = SLOW.replace("[[limit]]", "[[held]]\nname = 'target m'\ninto = [0.0, 0.0]\nhi = 0.5\n[[limit]]", 1)
+TRACKED = TRACKED.replace("{ state = [1.0, 0.0], weight = 2.0 }", "{ state = [1.0, 0.0], held = [-1.0], weight = 2.0 }")
+
+
+@unittest.skipIf(LACKING, f"missing: {', '.join(LACKING)}")
+class Costs(unittest.TestCase):
+    """Costs by which a run takes few steps."""
+
+    def test_inputs_that_weigh_more(self):
+        model = Model(SLOW)
+        self.assertEqual(Weighing(4.0).cost(model, model.text, [1.1]), model.text["cost"] | {"input": [4.0]})
+
+    def test_the_box(self):
+        # the force weighs 1.21 at its limit of 1.1 N, and so does each coordinate at its end of 1 m and 0.2 m/s; three times that at the last stage alone
+        model = Model(SLOW)
+        rows = lambda weights: [{"state": state, "weight": weight} for state, weight in zip([[1.0, 0.0], [0.0, 1.0]], weights)]
+        self.assertEqual(Weighing(1.0, "rows").cost(model, model.text, [1.1]), {"input": [1.0], "rows": rows([1.21, 30.2])})
+        self.assertEqual(Weighing(3.0, "final").cost(model, model.text, [1.1]), {"input": [1.0], "final": rows([3.63, 90.8])})
+
+    def test_what_loops_follow(self):
+        """A coordinate costs what it is off where the loops rest, whatever the target is."""
+        model = Model(TRACKED)
+        rows = [{"state": [1.0, 0.0], "held": [-1.0], "weight": 1.21}, {"state": [0.0, 1.0], "held": [0.0], "weight": 30.2}]
+        self.assertEqual(Weighing(1.0, "rows").cost(model, model.text, [1.1])["rows"], rows)
+        # what is called off the target already is 0 there
+        turned = model.text | {"coordinates": {"rows": [[1.0, 0.5], [0.0, 1.0]], "held": [[-1.0], [0.0]]}}
+        self.assertEqual(Weighing(1.0, "rows").cost(model, turned, [1.1])["rows"][0], rows[0] | {"state": [1.0, 0.5]})
+        # a target of the speed, at which no loop rests
+        moving = Model(TRACKED.replace("state = [1.0, 0.0], held", "state = [0.0, 1.0], held"))
+        self.assertEqual({one.key for one in weighings(moving, [1.1])}, {""})
+
+    def test_a_target_keeps_its_rows(self):
+        model = Model(SLOW.replace("weight = 2.0", "weight = 2.0, target = 0.3"))
+        self.assertEqual([one.key for one in weighings(model, [1.1])], [""] * 2)
+        self.assertEqual([one.key for one in weighings(Model(SLOW), [math.inf])], [""] * 2)
+        self.assertIn(Weighing(1.0, "final"), weighings(Model(SLOW), [1.1]))
+
+
 @unittest.skipIf(LACKING, f"missing: {', '.join(LACKING)}")
 class Coordinates(unittest.TestCase):
     """Held states and last inputs in coordinates."""
 
-    TRACKED = SLOW.replace("[[limit]]", "[[held]]\nname = 'target m'\ninto = [0.0, 0.0]\nhi = 0.5\n[[limit]]", 1)
-    TRACKED = TRACKED.replace("{ state = [1.0, 0.0], weight = 2.0 }", "{ state = [1.0, 0.0], held = [-1.0], weight = 2.0 }")
-
     def test_a_difference_from_a_target(self):
-        model = Model(self.TRACKED + "[coordinates]\nrows = [[1.0, 0.5], [0.0, 1.0]]\nheld = [[-1.0], [0.0]]\nnames = ['off m', 'speed m/s']\n")
-        plain_one = Model(self.TRACKED)
+        model = Model(TRACKED + "[coordinates]\nrows = [[1.0, 0.5], [0.0, 1.0]]\nheld = [[-1.0], [0.0]]\nnames = ['off m', 'speed m/s']\n")
+        plain_one = Model(TRACKED)
         turn = numpy.array([[1.0, 0.5, -1.0], [0.0, 1.0, 0.0], [0.0, 0.0, 1.0]])
         self.assertTrue(numpy.allclose(model.a, turn @ plain_one.a @ numpy.linalg.inv(turn)))
         self.assertTrue(numpy.allclose(model.b, turn @ plain_one.b))
@@ -265,7 +325,7 @@ grid = 8
 
     def test_limits_on_changes(self):
         with contextlib.redirect_stderr(io.StringIO()) as said:
-            found, holds = staying.search(Model(self.FILLED), seconds=240)
+            found, holds = staying.search(Model(self.FILLED.replace("bound = 0.25\nleast = -0.25", "bound = 0.12\nleast = -0.12")), seconds=240)
         self.assertTrue(holds, said.getvalue())
         self.assertIn("of the box of last flow", said.getvalue())
         model = Model(found)
@@ -274,7 +334,7 @@ grid = 8
         self.assertIsNone(faces.first_fault(design, records, lean_excess_of(design)))
 
     def test_texts_of_choices(self):
-        model = Model(self.TRACKED)
+        model = Model(TRACKED)
         units = model.state_units
         choice = staying.Choice({(0, 1): 0.5 * units[1] / units[0], (0, 2): -units[2] / units[0]}, [0.5, 1.0, 0.8])
         made = Model(staying.changed(model, choice))
@@ -312,6 +372,42 @@ class Boxes(unittest.TestCase):
         found = largest(plant, turn, numpy.zeros(2), 0.0)
         self.assertAlmostEqual(found.least, 1.0)
         self.assertEqual(covered(plant, turn, found.parts), 1.0)
+
+    # what leaves one comes to the other, and a third of a second's flow of it moves the box by little
+    EXCHANGED = ([[1.0, 0.0], [0.0, 1.0]], [[1.0], [-0.5]])
+
+    def test_what_no_input_moves(self):
+        """A sum that stays as it is is kept in its box, whatever rounding adds, but under no disturbance."""
+        plant = replace(self.plant(*self.EXCHANGED, [4.0, 4.0], 1.0, 0.01), disturbed=numpy.zeros(2))
+        turn = numpy.array([[1.0, 0.0], [0.5, 1.0]])
+        self.assertEqual([plant.turned(turn).stands(i) for i in range(2)], [False, True])
+        self.assertIsNone(largest(plant, numpy.eye(2), numpy.array([0.02, 0.02]), 0.0))
+        found = largest(plant, turn, numpy.array([0.02, 0.0]), 0.0)
+        self.assertAlmostEqual(found.least, 1.0)
+        disturbed = replace(plant, disturbed=numpy.array([0.0, 0.001]))
+        self.assertFalse(disturbed.turned(turn).stands(1))
+        self.assertIsNone(largest(disturbed, turn, numpy.array([0.02, 0.0]), 0.0))
+
+    def test_sums_that_are_kept(self):
+        a, b = map(numpy.array, self.EXCHANGED)
+        for row, wanted in (([0.5, 1.0], True), ([0.5, 1.00001], False), ([1.0, 0.0], False)):
+            self.assertEqual(turns.is_kept(numpy.array(row), a, b), wanted)
+        self.assertFalse(turns.is_kept(numpy.array([0.5, 1.0]), numpy.diag([1.0, 0.999]), b))
+        # all digits of what is kept, two of what only shrinks
+        units = numpy.ones(2)
+        self.assertEqual([turns.short(numpy.array([0.349066, 1.0]), 1, units, units, digits) for digits in (2, 9)], [{0: 0.35}, {0: 0.349066}])
+
+    def test_what_inputs_move_by_little(self):
+        """A next state is kept inside the box by no more than a part of what inputs move it by."""
+        plant = self.plant(*self.EXCHANGED, [4.0, 100.0], 1.0)
+        # the limit of 1 and its tolerance: 2 of 4, and 1 of 100
+        self.assertEqual(plant.within_reach(numpy.eye(2), 0.5).tolist(), [0.25, 0.005])
+        self.assertEqual([plant.moves(i) for i in range(2)], [True, False])
+        model = Model(Coordinates.FILLED)
+        with Budget(1000) as budget:
+            found = staying.Search(model, budget, False, 100.0).larger({(0, 1): 0.05 * model.state_units[1] / model.state_units[0]}, 0.2)
+        # half of 0.25 s and 0.05 s of the change of 0.3 m/s
+        self.assertAlmostEqual(found.stay[0], 0.045)
 
     def test_interrupted(self):
         with contextlib.redirect_stderr(io.StringIO()) as said, Budget(1000) as budget:

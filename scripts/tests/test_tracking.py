@@ -4,28 +4,22 @@ import io
 import os
 import shutil
 import subprocess
-import sys
 import tempfile
 import unittest
 
-from common.libraries import PACKAGES, missing
-from tests.worked import EXAMPLES, TOP
+from checks.fuzz import control, held_boxes, model, program
+from scripts.common.libraries import PACKAGES, missing
 
-sys.path.append(os.path.join(TOP, "checks", "fuzz"))
-import control
-import held_boxes
-import model
-import program
+from .worked import EXAMPLES, as_command
 
 LACKING = missing(*PACKAGES)
 if not LACKING:
-    import faces
-    import policy
-    from common.design_text import read_design
-    from common.disturbances import box_in
-    from common.models import grid_disturbances, read_model
-    from common.texts import read_text, records_of
-    from draft import draft
+    from scripts import faces, policy
+    from scripts.common.design_text import read_design
+    from scripts.common.disturbances import box_in
+    from scripts.common.models import grid_disturbances, read_model
+    from scripts.common.texts import read_text, records_of
+    from scripts.draft import draft
 
 FOLDER = os.path.join(EXAMPLES, "tracking")
 CC = os.environ.get("CC", "cc")
@@ -52,7 +46,7 @@ class Tracking(unittest.TestCase):
         path = os.path.join(cls.held.name, "controller.txt")
         with open(path, "wb") as file:
             file.write(said.written["c"])
-        subprocess.run([sys.executable, os.path.join(TOP, "scripts", "c_source.py"), path, "--name", "motor", "--out", cls.held.name], check=True, capture_output=True)
+        subprocess.run([*as_command("c_source"), path, "--name", "motor", "--out", cls.held.name], check=True, capture_output=True)
         flags = ["-std=c99", "-Wall", "-Wextra", "-pedantic", "-Wconversion", "-Werror", "-O2", "-I", cls.held.name, "-I", FOLDER]
         cls.program = os.path.join(cls.held.name, "tracking")
         subprocess.run([CC, *flags, os.path.join(FOLDER, "main.c"), os.path.join(cls.held.name, "motor.c"), "-o", cls.program], check=True)

@@ -3,12 +3,11 @@ import os
 import sys
 import tempfile
 
+from checks.rows import worked_texts
+
 HERE = os.path.dirname(os.path.abspath(__file__))
 TOP = os.path.dirname(os.path.dirname(HERE))
 EXAMPLES = os.path.join(TOP, "examples")
-sys.path.append(os.path.join(TOP, "checks", "rows"))
-import worked_texts
-
 FIRST, FIRST_POLICY, FIRST_CONTROLLER, FIRST_REPORT = worked_texts.DESIGN, worked_texts.POLICY, worked_texts.CONTROLLER, worked_texts.REPORT
 FIRST_LISTING, FIRST_REFERENCE = worked_texts.LISTING, worked_texts.REFERENCE
 FIRST_LEAN_CONTROLLER, FIRST_LEAN_REPORT, FIRST_LEAN_JSON = worked_texts.LEAN_CONTROLLER, worked_texts.LEAN_REPORT, worked_texts.LEAN_JSON
@@ -150,6 +149,11 @@ gap = 16
 """
 CORNERS_OF_THIRD = "3,1,-2\n7,5,0\n"
 CORNERS_OF_CROSSED = "3,1,-2,4,0\n7,5,0,-1,2\n9,1,1,1,1\n11,3,-3,2,-2\n"
+
+
+def as_command(name: str) -> list[str]:
+    """The words before those of a command of scripts/: it is run from anywhere, by the Python that runs the tests."""
+    return ["env", f"PYTHONPATH={TOP}", sys.executable, "-P", "-m", f"scripts.{name}"]
 
 
 def folder_with(case, **files):

@@ -1,1 +1,1 @@
-"""Tests of the model: python3 -m unittest discover -s checks/fuzz -t checks/fuzz"""
+"""Tests of the model: python3 -m unittest discover -s checks/fuzz -t ."""

@@ -6,10 +6,9 @@ import subprocess
 import tempfile
 import unittest
 
-import cases
-import compiled
-import control
-from tests.worked import CONTROLLER, sub, told
+from checks.fuzz import cases, compiled, control
+
+from .worked import CONTROLLER, sub, told
 
 STRICT = ["-O2", "-Wall", "-Wextra", "-Wconversion", "-Wsign-conversion", "-Wpedantic", "-Werror", "-std=c99"]
 COMPILERS = [name for name in ("gcc", "clang") if shutil.which(name)]

@@ -1,19 +1,13 @@
 """The model of `lean` against worked rows, whose numbers another program computed in exact whole numbers."""
 import os
-import sys
 import unittest
 
-import control
-import excess
-import forms
-import model
-import program
-from tests.test_staying import FACES, HELD
-from tests.worked import told
+from checks.fuzz import control, excess, forms, model, program
+from checks.rows.lean_rows import LEAN as WORDS
+from checks.rows.worked_texts import DESIGN, LEAN_CONTROLLER, LEAN_JSON, LEAN_REPORT, POLICY, REFERENCE
 
-sys.path.append(os.path.join(os.path.dirname(os.path.abspath(__file__)), "..", "..", "rows"))
-from lean_rows import LEAN as WORDS
-from worked_texts import DESIGN, LEAN_CONTROLLER, LEAN_JSON, LEAN_REPORT, POLICY, REFERENCE
+from .test_staying import FACES, HELD
+from .worked import told
 
 TIGHT = DESIGN.replace("den = 1\nviolation = 16\ngap = 1\n", "den = 10\nviolation = 1\ngap = 10\n")
 SECOND = DESIGN.replace("version = 1", "version = 2").replace("violation = 16", "violation = 1")

@@ -2,11 +2,9 @@
 import random
 import unittest
 
-import cases
-import control
-import listing
-import model
-from tests.worked import CONTROLLER, DESIGN, sub, told
+from checks.fuzz import cases, control, listing, model
+
+from .worked import CONTROLLER, DESIGN, sub, told
 
 TEXT = told("list c l", c=CONTROLLER)[3]["l"].encode()
 SECOND = sub(CONTROLLER, (b"mpc-controller 1", b"mpc-controller 2"), (b"words 6\n", b"words 6\nexps 1 1 0\n"))

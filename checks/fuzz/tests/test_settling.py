@@ -3,11 +3,9 @@ import itertools
 import random
 import unittest
 
-import control
-import model
-import settle_cases
-import settling
-from tests.worked import told
+from checks.fuzz import control, model, settle_cases, settling
+
+from .worked import told
 
 # x+ = x + u with the limits -1 and 1 on the input, from -2.5 to 2.5, and its plan -x / 2 where no multiplier moves
 DESIGN = b"""version = 2
@@ -87,8 +85,8 @@ class Worked(unittest.TestCase):
             (b"4,-31\n", "5 text 3 fields 1"),
             (b"4,-31,32\n0,-31,a\n", "5 text 3 number 2 3"),
             (b"4097,-31,32\n0,-31,32\n1,-2,2\n", "5 text 3 range 1"),
-            (b"-1,-31,32\n1,-31,32\n1,-2,2\n", "5 text 3 range 1"),
-            (b"4,-31,32\n1,-31,32\n1,-2,2\n", "5 text 3 range 2"),
+            (b"-1,-31,32\n-1,-31,32\n1,-2,2\n", "5 text 3 range 1"),
+            (b"4,-31,32\n4097,-31,32\n1,-2,2\n", "5 text 3 range 2"),
             (b"4,-31,32\n0,-41,32\n0,-2,2\n", "5 text 3 range 2"),
             (b"4,-31,32\n0,-31,32\n0,-2,2\n", "5 text 3 range 3"),
             (b"4,-31,32\n0,-31,32\n4097,-2,2\n", "5 text 3 range 3"),
@@ -133,18 +131,19 @@ class Random(unittest.TestCase):
             design, text, s, shifts = made
             d, c = model.read_design(design), control.read_controller(text)
             try:
-                box = settling.check(d, c, s, shifts)
+                boxes = settling.check(d, c, s, shifts)
             except model.Refused:
                 continue
             accepted += 1
             for start in itertools.islice(itertools.product(*zip(s.start.low, s.start.high)), 4):
-                self.follow(pick, d, c, s, shifts, box, list(start))
+                self.follow(pick, d, c, s, shifts, *boxes, list(start))
         self.assertGreater(accepted, 15)
 
-    def follow(self, pick, d, c, s, shifts, box, state):
+    def follow(self, pick, d, c, s, shifts, box, costs, state):
         for turn in range(self.TURNS):
             here = settling.Box(state, state)
             self.assertTrue(s.still.holds(here) and (turn < s.turns or box.holds(here)), turn)
+            self.assertTrue(turn < s.after or costs.holds(settling.cost_numbers(d, s, state)), turn)
             moved = control.next_state(d, c, state, control.run(c, state))
             state = [v + pick.choice([low, high]) for v, low, high in zip(moved, shifts.low, shifts.high)]
 

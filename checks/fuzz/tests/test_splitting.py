@@ -2,14 +2,9 @@
 import random
 import unittest
 
-import at_corners
-import cases
-import control
-import model
-import program
-import split_boxes
-import split_cases
-from tests.worked import CONTROLLER, DESIGN, POLICY, sub, told
+from checks.fuzz import at_corners, cases, control, model, program, split_boxes, split_cases
+
+from .worked import CONTROLLER, DESIGN, POLICY, sub, told
 
 CUTS, PLANS = b"1,0\n", b"1,0\n1,0\n8,-7\n8,-7\n"
 # the controllers of 0 and of 1, and the reports of the first design with these boxes

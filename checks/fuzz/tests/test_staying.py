@@ -3,11 +3,9 @@ import random
 import unittest
 from fractions import Fraction
 
-import control
-import model
-import program
-import held_boxes
-from tests.worked import CONTROLLER, DESIGN, POLICY, sub, told
+from checks.fuzz import control, held_boxes, model, program
+
+from .worked import CONTROLLER, DESIGN, POLICY, sub, told
 
 # x+ = x + u from 0 to 1, whose next state is to lie in it, too
 HELD = sub(DESIGN, (b"final = [[4, 1]]", b"final = [[4, 1], [-4, 1]]"), (b"den = 1\nviolation = 16\ngap = 1", b"den = 10\nviolation = 1\ngap = 10"))

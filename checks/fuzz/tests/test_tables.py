@@ -1,9 +1,9 @@
 """The tables: each whole text is accepted, and each changed one is another text."""
 import unittest
 
-import program
-import tables
-from tests.worked import told
+from checks.fuzz import program, tables
+
+from .worked import told
 
 
 class Tables(unittest.TestCase):

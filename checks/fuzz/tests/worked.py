@@ -1,8 +1,7 @@
 """The worked design and controller, and how a command is asked of the model."""
 import os
 
-import model
-import program
+from checks.fuzz import model, program
 
 FIRST = os.path.join(os.path.dirname(os.path.abspath(__file__)), "..", "..", "..", "examples", "first")
 

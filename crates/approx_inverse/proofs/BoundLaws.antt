@@ -1,5 +1,5 @@
 -- How large entries and residuals get, and how a step to one bit more keeps what is known.
-use Rattle.std.proofs.Common.{◌≡◌, inl, inr, ℕ, zero, suc, ◌+◌, ◌*◌, ◌^◌, ◌<◌, ◌≤◌, List, ℤ, pos, negsuc, ◌-ℤ◌, ◌*ℤ◌, ◌≤ℤ◌, neg_ℤ, unsigned_abs, arith, ap, sym, ◌∙◌, refl, add-one}
+use Rattle.std.proofs.Common.{◌≡◌, inl, inr, ℕ, zero, suc, ◌+◌, ◌*◌, ◌^◌, ◌<◌, ◌≤◌, List, ℤ, pos, negsuc, ◌-ℤ◌, ◌*ℤ◌, ◌≤ℤ◌, neg_ℤ, unsigned_abs, arith, ap, sym, ◌∙◌, refl}
 use Rattle.std.specs.Prelude.{FitsSigned}
 use Rattle.std.specs.Int.{w128}
 use Rattle.std.proofs.lemmas.Int.{ints, unsigned_abs-mul}
@@ -224,15 +224,6 @@ roomy_from n h c floor l f convex order all =
         low_none = rw (value_none n h (aim l c)) (omega (arith, ints))
 
 -- ---- loops over absolute sums
-pub size_part : (k n : ℕ) (f : ℕ → ℤ) → k ≤ n → size k f ≤ size n f
-size_part k zero f h = let e : k ≡ 0 = omega arith in rw e (omega arith)
-size_part k (suc n) f h = elim (cases_lt n k) [
-  | inl l ↦ (let e : k ≡ suc n = omega arith in rw e (omega arith))
-  | inr l ↦ omega (arith, size_part k n f l)
-]
-
-pub size_more : (k : ℕ) (f : ℕ → ℤ) → size (k + 1) f ≡ size k f + unsigned_abs (f k)
-size_more k f = rw add-one refl
 
 pub negated_fits : (n : ℕ) (c : ℕ → ℤ) (k : ℕ) → size n c ≤ 2 ^ 126 → k < n → FitsSigned w128 (neg_ℤ (c k))
 negated_fits n c k h l = close (c k) (omega (arith, at_size k n c l))

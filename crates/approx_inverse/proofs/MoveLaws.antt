@@ -230,16 +230,6 @@ module _ (n : ℕ) (h : ℕ → ℕ → ℤ) (b x r : ℕ → ℤ) (j : ℕ) (t 
         rw v next_lower,
       )
 
--- what the quotient asks
-pub nearest_fits : (n : ℕ) (h : ℕ → ℕ → ℤ) (b x r : ℕ → ℤ) (j : ℕ) (floor : ℤ) → j < n → IsConvex n h floor → IsRoomy n h b → IsDescent n h b x r →
-    FitsSigned w128 (pos 2 *ℤ h j j) × FitsSigned w128 (pos 2 *ℤ r j +ℤ h j j) × FitsSigned w128 (pos 2 *ℤ r j)
-nearest_fits n h b x r j floor l convex roomy at_x =
-    small (h j j) (r j) (diagonal_positive n h floor j l convex) (roomy.diagonal j l) (rw (at_x.rest j l) (roomy.rest x at_x.low j l))
-  where
-    small : (d r : ℤ) → pos 1 ≤ℤ d → d ≤ℤ pos (2 ^ 125) → unsigned_abs r ≤ 2 ^ 125 →
-        FitsSigned w128 (pos 2 *ℤ d) × FitsSigned w128 (pos 2 *ℤ r +ℤ d) × FitsSigned w128 (pos 2 *ℤ r)
-    small d r p q k = (omega (arith, ints), omega (arith, ints), omega (arith, ints))
-
 -- the measure of the loop
 pub measure_falls : (n : ℕ) (h : ℕ → ℕ → ℤ) (b x y : ℕ → ℤ) (floor : ℤ) → IsConvex n h floor → value n h b y <ℤ value n h b x →
     unsigned_abs (value n h b y +ℤ dot n b b) < unsigned_abs (value n h b x +ℤ dot n b b)

@@ -33,16 +33,6 @@ pub column_among : (h : Form) (f i : ℕ) → i < columns h → descent_of_colum
 column_among h f i l =
     sum_mono (greatest_row h.entries h.entries (solve_matrix h)) _ _ _ _ f (greatest_term i (columns h) (column_bound h f) l) (greatest_term i (columns h) (column_size h) l)
 
--- a row or a column that is too large alone
-pub wide_row : (h : Form) (f : ℕ) → 2 ^ 126 < greatest_row h.entries h.entries (solve_matrix h) → 2 ^ 126 < descent_size h f
-wide_row h f w = close (greatest_row h.entries h.entries (solve_matrix h)) (greatest (columns h) (column_bound h f)) (2 ^ (f + 1) * greatest (columns h) (column_size h)) (2 ^ 126) w
-  where
-    close : (row e rest top : ℕ) → top < row → top < 2 * row * (e + 1) + rest
-    close row e rest top h = omega (arith, mul-le-mul_left (2 * row) (one e))
-      where
-        one : (e : ℕ) → 1 ≤ e + 1
-        one e = omega arith
-
 pub wide_column : (h : Form) (f i : ℕ) → i < columns h → 2 ^ 126 < column_size h i → 2 ^ 126 < descent_size h f
 wide_column h f i l w =
     close (2 * greatest_row h.entries h.entries (solve_matrix h) * (greatest (columns h) (column_bound h f) + 1)) (2 ^ (f + 1)) (greatest (columns h) (column_size h))

@@ -13,7 +13,7 @@ use Rattle.integer_algebra.proofs.RingLaws.{mul-add_z}
 use Rattle.integer_algebra.proofs.SumLaws.{total_same, total_add, total_scale, total_more}
 use Rattle.integer_algebra.specs.Bounds.{absolute}
 use Rattle.integer_algebra.specs.Division.{IsFloor}
-use Rattle.integer_algebra.proofs.OrderLaws.{le_by, add-le-add_z, add_nonneg_z, mul_nonneg_z, mul-le-mul_left_z}
+use Rattle.integer_algebra.proofs.OrderLaws.{le_by, add-le-add_z, add_nonneg_z, mul_nonneg_z}
 use Rattle.integer_algebra.proofs.Quoting.{by_ring, quotes}
 
 -- x s is at most p q (a b + |a| + |b| + 1), where a and b are x / p and s / q rounded down: e and g are what was dropped, u and v absolute values
@@ -64,13 +64,6 @@ sum_more i g u m n t h e k = rw (total_more i g, mul-add_z u m n) (close (total 
   where
     close : (a b c d : ℤ) → a ≤ℤ c → b ≤ℤ d → (a +ℤ b) ≤ℤ (c +ℤ d)
     close a b c d h k = omega (arith, ints)
-
--- a sum at most 0
-pub low_from : (u s t : ℤ) → pos 0 ≤ℤ u → s ≤ℤ pos 0 → t ≤ℤ (u *ℤ s) → t ≤ℤ pos 0
-low_from u s t h k l = close (u *ℤ s) (u *ℤ pos 0) t (mul-le-mul_left_z u h k) (by_ring (u ∷ []) (search quotes depth 60 fits 20000) refl) l
-  where
-    close : (a b t : ℤ) → a ≤ℤ b → b ≡ pos 0 → t ≤ℤ a → t ≤ℤ pos 0
-    close a b t h e l = omega (arith, ints)
 
 -- the value by the residual: x'(r - b), where r = h x - b
 pub value_by : (n : ℕ) (h : ℕ → ℕ → ℤ) (b x r : ℕ → ℤ) → ((i : ℕ) → i < n → r i ≡ system_residual n h b x i) → total n (λ i. x i *ℤ (r i -ℤ b i)) ≡ value n h b x

@@ -1,10 +1,9 @@
 -- One repetition of the body makes one step of the controller's machine.
-use Rattle.std.proofs.Common.{◌≡◌, ℕ, suc, ◌+◌, ◌^◌, ◌<◌, ◌≤◌, true, ℤ, pos, ◌+ℤ◌, ◌-ℤ◌, List, [], ◌∷◌, length, map, unsigned_abs, refl, sym, ap, subst, ◌∙◌, arith, le_refl}
+use Rattle.std.proofs.Common.{◌≡◌, ℕ, suc, ◌+◌, ◌^◌, ◌<◌, ◌≤◌, true, ℤ, pos, ◌+ℤ◌, ◌-ℤ◌, List, [], ◌∷◌, length, map, unsigned_abs, refl, sym, ap, subst, ◌∙◌, arith}
 use Rattle.std.specs.List.{range_with_len}
 use Rattle.std.specs.Int.{int_max, int_min}
 use Rattle.std.proofs.lemmas.Int.{ints, clamps}
 use Rattle.std.proofs.lemmas.Bool.{cond_both}
-use Rattle.std.proofs.lemmas.Nat.{mul-le}
 use Rattle.std.proofs.lemmas.List.FromFn.{length-map-range_with_len, get_or-map-range_with_len}
 use Rattle.integer_algebra.specs.Division.{floor_of}
 use Rattle.integer_algebra.specs.Sums.{at}
@@ -76,9 +75,6 @@ made_at f n i l = sym (get_or-map-range_with_len f 0 n i i (pos 0) l (omega arit
 
 plan_long : (c : Numbers) (state : List ℤ) (made : Iterate) → length (step_of c state made).plan ≡ length c.offsets
 plan_long c state made = length-map-range_with_len (plan_entry c state (raised c made.multipliers)) 0 (length c.offsets)
-
-entry_top_le : (c : Numbers) (j : ℕ) → 1 ≤ c.steps → entry_top c j ≤ sum_magnitude c j
-entry_top_le c j h = omega (arith, mul-le 1 (entry_top c j) c.steps (entry_top c j) h (le_refl (entry_top c j)))
 
 -- ---- a difference
 difference_runs : (c : Numbers) (state : List ℤ) (made : Iterate) (i : ℕ) (e : Environment) → StepReady c state made → i < length c.bounds → Stands c state made i 0 0 0 0 e →

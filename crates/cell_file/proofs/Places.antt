@@ -63,12 +63,6 @@ place_more cells n p e d place lt is within = record {
 pub place_stops : (cells : List Numbers) (n : ℕ) (p : Place) (d : Numbers) → IsPlaceOf cells n p → p.cells < length cells → n < p.start + length (keyed_lines (get_or cells p.cells d)) → IsPlace cells n p
 place_stops cells n p d place lt short = record { few = place.few; start = place.start; within = place.within; next = λ l. omega (arith, before_next cells p.cells d lt, place.start, short) }
 
-pub place_ends : (cells : List Numbers) (n : ℕ) (p : Place) → IsPlaceOf cells n p → p.cells ≡ length cells → IsPlace cells n p
-place_ends cells n p place all = record { few = place.few; start = place.start; within = place.within; next = λ l. absurd (omega (arith, l, all)) }
-
-pub none_placed : (cells : List Numbers) (ls more : List Keyed) → 0 < length ls → cells_lines cells ≡ ls ++ more → IsPlaceOf cells (length ls) (record { cells = 0; start = 1 })
-none_placed cells ls more some e = record { few = omega arith; start = refl; within = omega (arith, some) }
-
 -- the cell that begins there
 pub begins_cell : (cells : List Numbers) (ls more : List Keyed) (p : Place) → AreCells cells → cells_lines cells ≡ ls ++ more → IsPlaceOf cells (length ls) p → p.cells < length cells → BeginsCell (drop p.start ls)
 begins_cell cells ls more p are e place lt = record {

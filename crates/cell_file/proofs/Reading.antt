@@ -2,7 +2,7 @@
 use Rattle.std.proofs.Common.{◌≡◌, inl, inr, ℕ, ◌+◌, ◌-◌, ◌<◌, ◌≤◌, pos, List, [], ◌∷◌, ◌++◌, length, get_or, take, drop, Option, Some, None, Result, Ok, Err, refl, sym, ap, subst, ◌∙◌, append_assoc, arith, below_more}
 use Rattle.std.specs.Prelude.{All, codes, IfErr, IsErrAnd}
 use Rattle.std.specs.List.{flat_map}
-use Rattle.std.proofs.lemmas.List.{take_at, take_more, take_all, length-map, append-nil, take-map, drop-map, get_or_append_left, get_or_push, get_or_default, length_push}
+use Rattle.std.proofs.lemmas.List.{take_at, take_more, length-map, append-nil, take-map, drop-map, get_or_append_left, get_or_push, get_or_default, length_push}
 use Rattle.integer_algebra.specs.Sums.{at}
 use Rattle.qp_model.specs.machine.Controller.{Numbers, FitsWord}
 use Rattle.qp_model.specs.machine.AbsoluteSums.{IsController}
@@ -19,7 +19,7 @@ use Rattle.number_text.specs.Lines.{line_of, text_of}
 use Rattle.qp_model.specs.text.ControllerText.{controller_text}
 use Rattle.cell_file.specs.Lines.{rest_lines, cells_lines}
 use Rattle.cell_file.specs.Reading.{IsOf, IsNoneOf, AreNoneOf}
-use Rattle.cell_file.proofs.Places.{blank_one, Told, IsPlaceOf, count_is, tail_is, begins_cell, none_placed, cell_inside, cell_after, cell_stops}
+use Rattle.cell_file.proofs.Places.{blank_one, Told, IsPlaceOf, tail_is, begins_cell, cell_inside, cell_after, cell_stops}
 use Rattle.cell_file.proofs.Follows.{whole_before}
 
 -- ---- so far
@@ -38,18 +38,12 @@ module _ (cells : List Numbers) (lines : List Line) (are : AreCells cells) (e : 
   some_lines : 0 < length lines
   some_lines = omega (arith, ap length e, length-map lines view)
 
-  pub none_read : IsReadTo cells lines [] 0 1
-  none_read = record { place = none_placed cells (views lines) [] (omega (arith, some_lines, length-map lines view)) (all_of cells lines e); read = refl }
-
   pub there : (counter end : ℕ) → end ≡ small (at (line_in (views lines) 0) 0) → counter < end → counter < length cells
   there counter end is lt = cell_inside cells lines [] (record { cells = counter; start = 0 }) counter end some_lines are (all_of cells lines e) refl is lt
 
   module _ (items : List Numbers) (counter start : ℕ) (so_far : IsReadTo cells lines items counter start) (lt : counter < length cells) where
     p : Place
     p = record { cells = counter; start = start }
-
-    pub start_inside : start ≤ length lines
-    start_inside = omega (arith, so_far.place.within, length-map lines view)
 
     pub cell_begins : BeginsCell (drop start (views lines))
     unfolding p
@@ -97,11 +91,6 @@ module _ (cells : List Numbers) (lines : List Line) (are : AreCells cells) (e : 
         read = pushed ∙ ap (λ (xs : List Numbers). xs ++ k ∷ []) so_far.read ∙ ap (λ (c : Numbers). take counter cells ++ c ∷ []) (of.one (get_or cells counter blank_one) (are.form counter blank_one lt) (slice_is end is))
             ∙ sym (take_more cells counter blank_one lt);
       }
-
-  pub all_read : (items : List Numbers) (counter end start : ℕ) → end ≡ small (at (line_in (views lines) 0) 0) → end ≤ counter → IsReadTo cells lines items counter start → items ≡ cells
-  all_read items counter end start is le so_far =
-      let count = count_is cells (views lines) [] (omega (arith, some_lines, length-map lines view)) are (all_of cells lines e) in
-      so_far.read ∙ take_all counter cells (omega (arith, is, le, count))
 
 -- ---- the answer
 pub none_of_each : (lines : List Line) (items : List Numbers) (counter start bound : ℕ) (found : Option ℕ) (end : ℕ) (e : BadController) → AreReadTo lines items counter start →

@@ -1,5 +1,5 @@
 -- Controllers are made cell by cell, and the first refusal is the only one.
-use Rattle.std.proofs.Common.{◌≡◌, ◌⊎◌, inl, inr, ℕ, ◌+◌, ◌-◌, ◌<◌, ◌≤◌, ℤ, List, [], ◌∷◌, ◌++◌, length, get_or, map, true, Result, Ok, Err, refl, sym, ap, subst, ◌∙◌, arith, below_more}
+use Rattle.std.proofs.Common.{◌≡◌, ◌⊎◌, inl, inr, ℕ, ◌+◌, ◌-◌, ◌<◌, ◌≤◌, ℤ, List, [], ◌∷◌, ◌++◌, length, get_or, map, true, Result, Ok, Err, sym, ap, subst, ◌∙◌, arith, below_more}
 use Rattle.std.specs.Prelude.{IsOk, OnOk}
 use Rattle.std.specs.Result.{is_ok}
 use Rattle.std.proofs.lemmas.Bool.{cases_order}
@@ -26,9 +26,6 @@ own_plans policies policy k lt own =
     ap plans_of own ∙ sym (get_or-map plans_of policies k policy d lt) ∙ ap (λ (j : ℕ). get_or (map plans_of policies) j d) (back k)
 
 -- ---- controllers, one after the other
-pub none_made : (p : DesignParts) (cuts : List (List ℤ)) (policies : List Plans) (controllers : List Numbers) (bounds : List Bounds) → controllers ≡ [] → bounds ≡ [] →
-    AreMadeTo p cuts policies 0 controllers (map printed bounds)
-none_made p cuts policies controllers bounds none no_bounds = rw (none, no_bounds) (record { count = refl; bound_count = refl; each = λ k c b lt. absurd (omega (arith, lt)) })
 
 more_made : (p : DesignParts) (cuts : List (List ℤ)) (policies : List Plans) (k : ℕ) (controllers : List Numbers) (bounds : List Printed) (c : Numbers) (b : Printed) →
     IsCellMade p cuts (k + 1) (cell_plans policies (k + 1)) c b → AreMadeTo p cuts policies k controllers bounds → AreMadeTo p cuts policies (k + 1) (controllers ++ c ∷ []) (bounds ++ b ∷ [])

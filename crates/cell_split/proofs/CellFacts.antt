@@ -1,13 +1,11 @@
 -- The parts of a cell, coordinate by coordinate.
-use Rattle.std.proofs.Common.{◌≡◌, ℕ, zero, suc, ◌+◌, ◌-◌, ◌/◌, ◌%◌, ◌<◌, ℤ, pos, ◌+ℤ◌, List, [], ◌∷◌, ◌++◌, length, drop, get_or, Vec, refl, sym, ap, ◌∙◌, arith, below_more}
+use Rattle.std.proofs.Common.{◌≡◌, ℕ, suc, ◌+◌, ◌/◌, ◌%◌, ◌<◌, ℤ, pos, List, [], ◌∷◌, ◌++◌, length, drop, get_or, Vec, refl, sym, ap, ◌∙◌, arith, below_more}
 use Rattle.std.specs.declared.alloc.Global.{Global}
 use Rattle.std.proofs.lemmas.List.{drop_more, get_or-map, length-map, length_push, get_or_append_left, get_or_push}
 use Rattle.integer_algebra.specs.Sums.{at}
 use Rattle.mat_int.specs.Lines.{lists}
 use Rattle.qp_model.specs.problem.Runs.{Holds}
-use Rattle.cell_split.specs.Cuts.{part_low}
 use Rattle.cell_split.specs.Cells.{cuts_of, part_of}
-use Rattle.cell_split.specs.Parts.{AreParts}
 
 -- those of the first i coordinates, and what is left of the cell's number
 pub record PartsUpTo (cuts : List (Vec ℤ Global)) (k rest : ℕ) (parts : List ℕ) (i : ℕ) : Type 0 where
@@ -46,19 +44,6 @@ part_more cuts v k rest n i parts new l e s q f = rw (q, s) (record {
 
     here : rest % (length v.items + 1) ≡ part_of (lists cuts) k i
     here = sym (first_part v.items (drop (i + 1) (lists cuts)) rest) ∙ ap (λ (xs : List (List ℤ)). part_of xs rest 0) (sym (split_list cuts v i l e)) ∙ f.left 0 ∙ ap (part_of (lists cuts) k) (same i)
-
-pub all_parts : (cuts : List (Vec ℤ Global)) (k rest i : ℕ) (parts : List ℕ) → i ≡ length cuts → PartsUpTo cuts k rest parts i → AreParts (lists cuts) k parts
-all_parts cuts k rest i parts e f =
-    let n = length-map cuts (λ (w : Vec ℤ Global). w.items) in
-    record { long = omega (arith, f.long, e, n); each = λ j l. f.each j (omega (arith, l, e, n)) }
-
--- an end of a part that isn't the first
-pub low_inside : (lo : ℤ) (cuts : List ℤ) (k : ℕ) → 0 < k → part_low lo cuts k ≡ at cuts (k - 1) +ℤ pos 1
-low_inside lo cuts zero l = absurd (omega (arith, l))
-low_inside lo cuts (suc k) l = ap (λ (j : ℕ). at cuts j +ℤ pos 1) (back k)
-  where
-    back : (k : ℕ) → k ≡ suc k - 1
-    back k = omega arith
 
 -- ---- ends, one by one
 pub pushed : (xs new : List ℤ) (z : ℤ) (i : ℕ) (f : ℕ → ℤ) → new ≡ xs ++ z ∷ [] → z ≡ f i → Holds xs i f → Holds new (i + 1) f

@@ -1,12 +1,12 @@
 -- The policies of all cells, which one text holds one after the other.
-use Rattle.std.proofs.Common.{◌≡◌, ◌⊎◌, inl, inr, ℕ, suc, ◌+◌, ◌*◌, ◌/◌, ◌%◌, ◌^◌, ◌<◌, ◌≤◌, List, [], ◌∷◌, ◌++◌, length, get_or, map, Vec, Result, Ok, Err, ℤ, sym, ap, subst, ◌∙◌, arith, below_more}
+use Rattle.std.proofs.Common.{◌≡◌, ◌⊎◌, inl, inr, ℕ, suc, ◌+◌, ◌*◌, ◌/◌, ◌%◌, ◌^◌, ◌<◌, ◌≤◌, List, [], ◌∷◌, ◌++◌, get_or, map, Vec, Result, Ok, Err, sym, ap, subst, ◌∙◌, arith, below_more}
 use Rattle.std.specs.Prelude.{All, IfOk, IfErr, MatchResult}
 use Rattle.std.specs.declared.alloc.Global.{Global}
 use Rattle.std.proofs.lemmas.List.{get_or_append_left, get_or_push, length_push, ext_get_or, length-map, get_or-map}
 use Rattle.std.proofs.lemmas.Nat.{pow_pos}
 use Rattle.std.proofs.Math.Nat.{mul-le-mul_right, mod-lt, div-add-mod, div-lt_iff_lt-mul}
 use Rattle.integer_algebra.specs.Sums.{at}
-use Rattle.mat_int.specs.Matrix.{Matrix, row_of}
+use Rattle.mat_int.specs.Matrix.{row_of}
 use Rattle.number_text.specs.declared.text_fault.TextFault.{TextFault}
 use Rattle.number_text.specs.declared.text_fault.TextFault.TheVariants.{Memory}
 use Rattle.qp_model.specs.declared.policy.Policy.{Policy}
@@ -14,19 +14,9 @@ use Rattle.qp_model.specs.problem.Design.{Design}
 use Rattle.qp_model.specs.problem.Policy.{Plans, plans_of, IsPolicyFor}
 use Rattle.policy_file.specs.Records.{HoldsNumbers, HoldUpTo, records_of, record_at}
 use Rattle.policy_file.specs.PolicyText.{policy_rule, record_length, ArePlans}
-use Rattle.policy_file.proofs.MatrixFacts.{row_pushed}
 use Rattle.policy_file.proofs.UniqueFacts.{both_ways, held_or_wrong, plans_one, plans_by, sized_by}
-use Rattle.cell_split.specs.PlanRuns.{AreRowsFrom, IsRun, AreRuns}
+use Rattle.cell_split.specs.PlanRuns.{IsRun, AreRuns}
 use Rattle.cell_split.specs.PoliciesText.{HoldPolicy, ArePolicies, IsPoliciesFault}
-
--- ---- rows of a run
-pub no_rows : (all m : Matrix) (start : ℕ) → m.cols ≡ all.cols → length m.rows ≡ 0 → AreRowsFrom all start 0 m
-no_rows all m start cols none = record { cols = cols; long = none; each = λ e lt. absurd (omega (arith, lt)) }
-
-pub one_row : (all m new : Matrix) (start i : ℕ) (xs : List ℤ) → new ≡ record m { rows = m.rows ++ xs ∷ [] } → xs ≡ row_of all (start + i) → AreRowsFrom all start i m → AreRowsFrom all start (i + 1) new
-one_row all m new start i xs is here rows =
-    let more = row_pushed (λ e ys. ys ≡ row_of all (start + e)) m new all.cols i xs is here (record { long = rows.long; cols = rows.cols; each = rows.each }) in
-    record { cols = more.cols; long = more.long; each = more.each }
 
 -- ---- runs
 pub one_run : (all : Plans) (number i : ℕ) (policies more : List Plans) (p : Plans) → more ≡ policies ++ p ∷ [] → IsRun all (i * number) number p → AreRuns all number i policies → AreRuns all number (i + 1) more

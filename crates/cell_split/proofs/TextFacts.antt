@@ -1,5 +1,5 @@
 -- The records of a text of cuts, one after the other.
-use Rattle.std.proofs.Common.{◌≡◌, ◌≢◌, ◌⊎◌, ℕ, ◌+◌, ◌<◌, ◌≤◌, ℤ, List, [], ◌∷◌, ◌++◌, length, map, get_or, Vec, All, Result, Ok, Err, IfOk, IfErr, refl, sym, ap, ◌∙◌, arith, below_more, inl, inr}
+use Rattle.std.proofs.Common.{◌≡◌, ◌≢◌, ◌⊎◌, ℕ, ◌+◌, ◌<◌, ◌≤◌, ℤ, List, [], ◌∷◌, ◌++◌, length, map, get_or, Vec, All, Result, Ok, Err, IfOk, IfErr, sym, ap, ◌∙◌, arith, below_more, inl, inr}
 use Rattle.std.specs.declared.alloc.Global.{Global}
 use Rattle.std.proofs.lemmas.Bool.{cases_lt}
 use Rattle.std.proofs.lemmas.List.{length_push, get_or_append_left, get_or_push, get_or-map, length-map, map-append}
@@ -18,9 +18,6 @@ pub record ReadUpTo (d : Design) (rows : List (List (List ℕ))) (read : List (L
   pub long : length read ≡ i
   pub inside : i ≤ length rows
   pub each : (j : ℕ) → j < i → HoldsCoordinate d rows j (cuts_of read j)
-
-pub none_read : (d : Design) (rows : List (List (List ℕ))) (read : List (Vec ℤ Global)) → read ≡ [] → ReadUpTo d rows (lists read) 0
-none_read d rows read e = rw e (record { long = refl; inside = omega arith; each = λ j l. absurd (omega (arith, l)) })
 
 pub record_is : (records : List Row) (row : Row) (i : ℕ) → i < length records → row ≡ get_or records i row → fields_of row ≡ record_at (map fields_of records) i
 record_is records row i l e = ap fields_of e ∙ sym (get_or-map fields_of records i row [] l)

@@ -91,13 +91,6 @@ module _ (c : Numbers) (b : Printed) (states : Matrix) where
   report_fault (Some old) None some p = p
   report_fault None last some p = tt
 
-  nothing : (old : List ℕ) → IsTextPrinted c b states Memory old old
-  nothing old = record { done = λ is. absurd (let never : ⊥ = cc in never); fault = λ is. absurd (let never : ⊥ = cc in never); memory = λ is. inl refl }
-
-  pub nothing_put : (got : Option (List ℕ)) → IfSome got (λ old. IsSomeAnd got (IsTextPrinted c b states Memory old))
-  nothing_put (Some old) = nothing old
-  nothing_put None = tt
-
   -- ---- the answers of the whole
   prints_of : (number : ℕ) (s : Status) (old new : List ℕ) → IsShown number c b states → (s ≡ Memory) ⊎ ((s ≡ Done) ⊎ (s ≡ WriteFault 0)) → IsTextPrinted c b states s old new → DemoPrints number s old new
   prints_of number s old new is ends p = record {

@@ -9,18 +9,10 @@ use Rattle.qp_model.specs.problem.Design.{Design}
 use Rattle.command_line.specs.Limit.{file_limit}
 use Rattle.command_line.specs.Answers.{ReadsThen, IsFileRefused, IsCaused, IsWrongBy, EndsReading}
 use Rattle.command_line.specs.Does.{IsTelling}
+use Rattle.command_line.proofs.Doing.{IsRefusal}
 use Rattle.command_line.specs.declared.status.Status.{Status}
-use Rattle.command_line.specs.declared.status.Status.TheVariants.{Done, Memory, ReadFault, WriteFault, Text, Controller, OutsideBox, Long}
+use Rattle.command_line.specs.declared.status.Status.TheVariants.{Done, ReadFault, WriteFault, Controller, Long}
 use Rattle.command_design_files.specs.Texts.{TellsFault, DesignWrong, PolicyWrong}
-
--- neither done, nor out of memory, nor a fault, nor of a state that a loop met; and it tells
-pub record IsRefusal (s : Status) : Type 0 where
-  pub done : s ≢ Done
-  pub memory : s ≢ Memory
-  pub read : (file : ℕ) → s ≢ ReadFault file
-  pub write : (file : ℕ) → s ≢ WriteFault file
-  pub outside : (entry turn coordinate : ℕ) → s ≢ OutsideBox entry turn coordinate
-  pub telling : IsTelling s
 
 pub long_refusal : (file : ℕ) (s : Status) → s ≡ Long file → IsRefusal s
 long_refusal file s is = record {

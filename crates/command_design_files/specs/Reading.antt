@@ -3,12 +3,20 @@ use Rattle.std.specs.Prelude.{ℕ, List, Option}
 use Rattle.io_edge.specs.Faults.{Files}
 use Rattle.qp_model.specs.problem.Design.{Design}
 use Rattle.qp_model.specs.problem.Policy.{Plans}
-use Rattle.qp_model.specs.problem.Parts.{design_numbers}
+use Rattle.qp_model.specs.problem.Parts.{DesignNumbers, design_numbers}
 use Rattle.qp_model.specs.declared.design_parts.DesignParts.{DesignParts}
 use Rattle.command_line.specs.Limit.{file_limit}
 use Rattle.command_line.specs.Answers.{ReadsThen, IsRightFor, EndsReading}
+use Rattle.command_line.specs.Kind.{Kind, whole_kind}
 use Rattle.command_line.specs.declared.status.Status.{Status}
 use Rattle.command_design_files.specs.Texts.{DesignRight, DesignWrong, PolicyRight, PolicyWrong}
+
+-- ---- the kinds of these files; a design is known by its numbers
+abbrev pub design_kind : Kind
+design_kind = record { Value = DesignParts; Seen = DesignNumbers; view = design_numbers; limit = file_limit; right = DesignRight; wrong = DesignWrong }
+
+abbrev pub policy_kind : Design → Kind
+policy_kind d = whole_kind file_limit (PolicyRight d) (PolicyWrong d)
 
 -- ---- what comes after a file, in what a command is called to answer
 abbrev pub ReadsDesign : ℕ → Option (List ℕ) → (DesignParts → Status → Type 0) → Status → Type 0

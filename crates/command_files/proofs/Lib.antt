@@ -2,5 +2,5 @@
 pub mod Controllers
 -- a command that a file ends
 pub mod Stopping
--- a command of two files, of which the second has states
-pub mod TwoFiles
+-- what a file holds is one thing
+pub mod OneThing

@@ -1,5 +1,5 @@
 -- A command that a file of a controller, of states or of cells ends.
-use Rattle.std.proofs.Common.{◌≡◌, ◌≢◌, inl, inr, ℕ, List, Option}
+use Rattle.std.proofs.Common.{◌≢◌, inl, inr, ℕ, List, Option}
 use Rattle.qp_model.specs.problem.Design.{Design}
 use Rattle.controller_text.specs.declared.bad_controller.BadController.{BadController}
 use Rattle.controller_text.specs.declared.bad_controller.BadController.TheVariants.{Line, Unsafe, Memory as no_space}
@@ -8,7 +8,8 @@ use Rattle.cell_file.specs.Text.{IsBadCellsLine, AreUnsafe}
 use Rattle.command_line.specs.Limit.{file_limit, cells_limit}
 use Rattle.command_line.specs.Answers.{IsFileRefused}
 use Rattle.command_line.specs.declared.status.Status.{Status}
-use Rattle.command_design_files.proofs.Stopping.{IsRefusal, long_refusal, controller_refusal, text_refused}
+use Rattle.command_line.proofs.Doing.{IsRefusal}
+use Rattle.command_design_files.proofs.Stopping.{long_refusal, controller_refusal, text_refused}
 use Rattle.command_files.specs.Texts.{ControllerWrong, StatesWrong, CellsWrong, IsFaultBy, ShiftsWrong, FacesWrong, RangeWrong, CutsWrong, CellPoliciesWrong}
 
 -- a fault of a text of controllers isn't that memory ran out

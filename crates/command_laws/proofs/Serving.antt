@@ -9,16 +9,18 @@ use Rattle.command_line.specs.Words.{word_of}
 use Rattle.command_line.specs.Limit.{file_limit}
 use Rattle.command_line.specs.Answers.{FileHolds}
 use Rattle.command_line.specs.declared.status.Status.TheVariants.{Done}
+use Rattle.command_line.proofs.Following.{called_told}
 use Rattle.command_files.specs.Texts.{CellsRight, StatesRight}
 use Rattle.command_split.specs.Cells.{IsServedBy}
 use Rattle.command_split.specs.Split.{AreSplitFrom}
 use Rattle.command_serve.specs.Served.{cell_states}
-use Rattle.command_serve.specs.Serve.{ServeCalls, HoldsServed}
-use Rattle.command_serve.proofs.Held.{serves_held}
+use Rattle.command_serve.specs.Serve.{HoldsServed}
+use Rattle.command_serve.specs.Deeds.{serve_work}
+use Rattle.command_serve.proofs.Held.{called_done, serves_held}
 use Rattle.command_serve.proofs.Serving.{one_cell_law}
 use Rattle.command_laws.specs.Runs.{IsPlannedBy}
 use Rattle.command_laws.specs.Laws.{SplitServeLaw}
-use Rattle.command_laws.proofs.States.{state_long, of_two}
+use Rattle.command_laws.proofs.States.{state_long}
 
 -- the state that one controller alone has gets the line of its plan
 planned : (d : Design) (cells : List Numbers) (bounds : List Printed) (xi : List ℤ) → IsServedBy d cells bounds xi → IsPlannedBy d cells bounds xi
@@ -33,7 +35,7 @@ states_of_all one two three text (c ∷ cells) bounds is_text made =
 
 pub split_serve_law : SplitServeLaw
 split_serve_law words asked files left made states s before now same grid run = record {
-  called = of_two (λ one two. ServeCalls one two Done) asked left (inr (made.cells, holds.cells_right, inr (states, holds.states_right, inr (refl, holds.served))));
+  called = called_told asked Done left serve_work (called_done (λ at. left (word_of asked at)) made.cells states holds);
   served = serves_held asked (Some left) s before now run.called run.prints made.cells states holds;
   planned = λ e lt. planned (design_of made.made.p) made.cells made.bounds (row_of states e) (by e lt);
 }

@@ -13,63 +13,60 @@ use Rattle.qp_model.specs.bounds.Certified.{IsCertified}
 use Rattle.qp_model.specs.bounds.Printed.{Printed}
 use Rattle.controller_file.proofs.Uniqueness.{one_controller}
 use Rattle.plan_lines.specs.Lines.{plan_lines}
-use Rattle.plan_lines.specs.Printing.{ArePrinted, AreFirstLines, IsSolved}
+use Rattle.plan_lines.specs.Inside.{AreInside}
+use Rattle.plan_lines.specs.Printing.{ArePrinted, AreFirstLines, IsSolved, lines_of_plans}
+use Rattle.plan_lines.proofs.Acting.{nothing_shown, lines_shown}
 use Rattle.command_line.specs.Words.{word_of}
 use Rattle.command_line.specs.Limit.{file_limit}
 use Rattle.command_line.specs.Answers.{Contents, ForContents, FileHolds}
 use Rattle.command_line.specs.Deeds.{IsCalledFor}
+use Rattle.command_line.specs.Script.{shows_of}
+use Rattle.command_line.proofs.Results.{both_some}
+use Rattle.command_line.proofs.Following.{called_told, shown_told}
 use Rattle.command_line.specs.declared.status.Status.{Status}
 use Rattle.command_line.specs.declared.status.Status.TheVariants.{Done}
 use Rattle.command_files.specs.Texts.{ControllerRight, StatesRight}
-use Rattle.command_files.proofs.TwoFiles.{one_content, one_states}
-use Rattle.command_solve.specs.Solve.{SolveCalls, SolvePrints, HoldsRuns, PrintsSome}
-use Rattle.command_solve.specs.Deeds.{solve_deeds}
+use Rattle.command_files.proofs.OneThing.{one_content, one_states}
+use Rattle.command_solve.specs.Solve.{HoldsRuns, solve_script}
+use Rattle.command_solve.specs.Deeds.{solve_work, solve_deeds}
 use Rattle.command_laws.specs.Runs.{HasAnswered, HoldsGridStates, IsSolvedAsCertified}
 use Rattle.command_laws.specs.Laws.{GenerateSolveLaw, LeanSolveLaw}
-use Rattle.command_laws.proofs.States.{state_long, grid_state_held, of_two, done_where_called}
+use Rattle.command_laws.proofs.States.{state_long, grid_state_held, done_where_called}
 
 -- ---- what a file holds is one thing
 same_controller : (content : Option (List ℕ)) (a b : Numbers) → FileHolds file_limit (ControllerRight a) content → FileHolds file_limit (ControllerRight b) content → a ≡ b
 same_controller content a b x y = one_controller x.bytes a b x.right (subst (λ (bytes : List ℕ). ControllerRight b bytes) (one_content file_limit file_limit content x y) y.right)
 
-module _ (first second : Option (List ℕ)) (c : Numbers) (states : Matrix) (holds : HoldsRuns first second c states) where
-  -- what is printed of what two files hold is printed of these, if they hold them
-  of_these : (Adds : Numbers → Matrix → Type 0) (a : Numbers) (m : Matrix) → HoldsRuns first second a m → Adds a m → Adds c states
-  of_these Adds a m runs printed =
-      let one : a ≡ c = same_controller first a c runs.controller_right holds.controller_right in
-      let right : FileHolds file_limit (StatesRight c.states m) second = subst (λ (k : Numbers). FileHolds file_limit (StatesRight k.states m) second) one runs.states_right in
-      let other : m ≡ states = one_states c.states second m states right holds.states_right in
-      subst (λ (k : Matrix). Adds c k) other (subst (λ (k : Numbers). Adds k m) one printed)
-
-  are_printed : (k : Contents) (s : Status) (old new : List ℕ) → k 1 ≡ first → k 2 ≡ second → SolvePrints k s old new → ArePrinted c states s old new
-  are_printed k s old new one two p = record {
-    done = λ is. let all = p.done is in told (λ a m. new ≡ old ++ plan_lines a m (length m.rows)) all.c all.m all.runs all.printed;
-    fault = λ is. let part = p.fault is in told (λ a m. GrowsByPart old new (plan_lines a m (length m.rows))) part.c part.m part.runs part.printed;
-    memory = λ is. some (p.memory is);
-  }
+-- what is printed of what two files hold is printed of these, if they hold them
+module _ (k : Contents) (c : Numbers) (states : Matrix) (holds : HoldsRuns (k 1) (k 2) c states) where
+  are_printed : (s : Status) (old new : List ℕ) → shows_of solve_script k s old new → ArePrinted c states s old new
+  are_printed s old new shown = by shown
     where
-      told : (Adds : Numbers → Matrix → Type 0) (a : Numbers) (m : Matrix) → HoldsRuns (k 1) (k 2) a m → Adds a m → Adds c states
-      told Adds a m runs = of_these Adds a m (subst (λ (x : Option (List ℕ)). HoldsRuns x second a m) one (subst (λ (x : Option (List ℕ)). HoldsRuns (k 1) x a m) two runs))
+      none : (a : Numbers) (m : Matrix) → new ≡ old → AreFirstLines a m old new
+      none a m same = record { count = 0; some = omega arith; printed = same ∙ sym (append-nil old) }
 
-      some : (new ≡ old) ⊎ PrintsSome (k 1) (k 2) old new → AreFirstLines c states old new
-      some (inl same) = record { count = 0; some = omega arith; printed = same ∙ sym (append-nil old) }
-      some (inr q) = told (λ a m. AreFirstLines a m old new) q.c q.m q.runs (record { count = q.count; some = q.some; printed = q.printed })
+      by : shows_of solve_script k s old new → ArePrinted c states s old new
+      by (inl nothing) = nothing_shown (lines_of_plans c states) s old new (none c states) nothing
+      by (inr (a, right, inl nothing)) = nothing_shown (lines_of_plans c states) s old new (none c states) nothing
+      by (inr (a, right, inr (m, states_right, lines))) =
+          let one = same_controller (k 1) a c right holds.controller_right in
+          let width = subst (λ (x : Numbers). FileHolds file_limit (StatesRight x.states m) (k 2)) one states_right in
+          let other : m ≡ states = one_states c.states (k 2) m states width holds.states_right in
+          let printed = lines_shown (lines_of_plans a m) s old new (none a m) (AreInside a m (length m.rows)) lines in
+          subst (λ (x : Matrix). ArePrinted c x s old new) other (subst (λ (x : Numbers). ArePrinted x m s old new) one printed)
 
 -- ---- a run over files that hold a controller and states of its box
 module _ (words : List (List ℕ)) (files : Files) (c : Numbers) (states : Matrix) (holds : HoldsRuns (files (word_of words 1)) (files (word_of words 2)) c states) where
   solve_called : IsCalledFor solve_deeds words (Some files) Done
-  solve_called =
-      of_two (λ one two. SolveCalls one two Done) words files
-      (inr (c, holds.controller_right, inr (states, holds.states_right, inr (refl, holds.inside))))
+  solve_called = called_told words Done files solve_work (inr (c, holds.controller_right, inr (states, holds.states_right, inr (refl, holds.inside))))
 
   is_solved : (s : Status) (before now : Option (List ℕ)) → HasAnswered solve_deeds words (Some files) s before now → IsSolved c states s before now
-  is_solved s before now run = record { done = done_where_called solve_deeds words files s before now run solve_called; printed = got before now run.prints }
-    where
-      got : (was is : Option (List ℕ)) → IfSome was (λ old. IsSomeAnd is (λ new. ForContents words (Some files) (λ k. SolvePrints k s old new))) →
-          IfSome was (λ old. IsSomeAnd is (ArePrinted c states s old))
-      got None is h = tt
-      got (Some old) None h = h
-      got (Some old) (Some new) h = are_printed (files (word_of words 1)) (files (word_of words 2)) c states holds h.contents s old new (h.told 1) (h.told 2) h.true_of
+  is_solved s before now run = record {
+    done = done_where_called solve_deeds words files s before now run solve_called;
+    printed =
+        both_some (shows_of solve_script (λ at. files (word_of words at)) s) (ArePrinted c states s) (are_printed (λ at. files (word_of words at)) c states holds s) before now
+        (shown_told words s files solve_script before now run.prints);
+  }
 
 -- ---- a controller that is certified for a design, whose box is that of the design
 module _ (d : Design) (c : Numbers) (b : Printed) (sizes : HasSizesOf d c) (certified : IsCertified d c b) where

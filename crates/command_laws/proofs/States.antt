@@ -1,5 +1,5 @@
--- Grid states of a design's box lie in the box of its controller, and what the first two files of a run call for.
-use Rattle.std.proofs.Common.{◌≡◌, ℕ, ◌<◌, ℤ, List, length, Option, Some, sym, subst, ◌∙◌, arith}
+-- Grid states of a design's box lie in the box of its controller, and what is done where `Done` is called for.
+use Rattle.std.proofs.Common.{◌≡◌, ℕ, ◌<◌, ℤ, List, length, Option, Some, sym, ◌∙◌, arith}
 use Rattle.integer_algebra.specs.Sums.{at}
 use Rattle.io_edge.specs.Faults.{Files}
 use Rattle.mat_int.specs.Matrix.{Matrix, row_of}
@@ -8,8 +8,7 @@ use Rattle.qp_model.specs.problem.Design.{Design}
 use Rattle.qp_model.specs.machine.Controller.{Numbers}
 use Rattle.qp_model.specs.machine.Machine.{IsAdmissible}
 use Rattle.qp_model.specs.bounds.Built.{HasSizesOf}
-use Rattle.command_line.specs.Words.{word_of}
-use Rattle.command_line.specs.Answers.{Contents, AreTold, IsCaused}
+use Rattle.command_line.specs.Answers.{IsCaused}
 use Rattle.command_line.specs.Deeds.{Deeds, IsCalledFor}
 use Rattle.command_line.specs.declared.status.Status.{Status}
 use Rattle.command_line.specs.declared.status.Status.TheVariants.{Done}
@@ -23,12 +22,6 @@ grid_state_held d c sizes xi long inside = record {
   long = long ∙ sym sizes.states;
   each = λ i l. let m : i < d.states = omega (arith, l, sizes.states) in record { low = rw (sizes.low i m) (inside i m).0; high = rw (sizes.high i m) (inside i m).1 };
 }
-
--- what is true of what the first two files hold is true of all contents that the store tells
-pub of_two : (P : (one two : Option (List ℕ)) → Type 0) (words : List (List ℕ)) (files : Files) → P (files (word_of words 1)) (files (word_of words 2)) →
-    (contents : Contents) → AreTold words (Some files) contents → P (contents 1) (contents 2)
-of_two P words files h contents told =
-    subst (λ (x : Option (List ℕ)). P x (contents 2)) (sym (told 1)) (subst (P (files (word_of words 1))) (sym (told 2)) h)
 
 -- where `Done` is called for, all is done but for want of memory and faults
 pub done_where_called : (deeds : Deeds) (words : List (List ℕ)) (files : Files) (s : Status) (before now : Option (List ℕ)) → HasAnswered deeds words (Some files) s before now →

@@ -15,10 +15,6 @@ pub told : (held : Option Files) (name : List ℕ) → IsTold held name (told_at
 told (Some files) name = refl
 told None name = tt
 
--- a store that tells the same
-pub told_as : (held later : Option Files) (name : List ℕ) (content : Option (List ℕ)) → later ≡ held → IsTold later name content → IsTold held name content
-told_as held later name content same is = subst (λ (o : Option Files). IsTold o name content) same is
-
 -- ---- contents
 -- what the store tells at every position
 abbrev pub told_contents : List (List ℕ) → Option Files → Contents

@@ -11,14 +11,6 @@ higher top a b c le le2 (inr is) = elim (cases_lt a b) [ inl lt ↦ inl (omega a
 pub rose_later : (a b c : ℕ) → a ≤ b → b ≤ c → Rose b c → Rose a c
 rose_later a b c le le2 rose = record { rise = higher (2 ^ 64 - 1) a b c le le2 rose.rise }
 
--- and so did one that rose at the beginning
-pub rose_first : (a b c : ℕ) → b ≤ c → Rose a b → Rose a c
-rose_first a b c le rose = record { rise = go rose.rise }
-  where
-    go : (a < b) ⊎ (a ≡ 2 ^ 64 - 1) → (a < c) ⊎ (a ≡ 2 ^ 64 - 1)
-    go (inl lt) = inl (omega arith)
-    go (inr is) = inr is
-
 -- no count falls over two calls
 pub none_falls_twice : (before mid now : List ℕ → ℕ) → NoneFalls before mid → NoneFalls mid now → NoneFalls before now
 none_falls_twice before mid now first second = record { each = λ name. omega (arith, first.each name, second.each name) }

@@ -7,7 +7,8 @@ use Rattle.number_text.specs.declared.text_fault.TextFault.TheVariants.{Memory a
 use Rattle.controller_text.specs.declared.bad_controller.BadController.TheVariants.{Memory as no_space}
 use Rattle.command_line.specs.Words.{word_of}
 use Rattle.command_line.specs.Answers.{ForContents, IsAnswer, IsCaused}
-use Rattle.command_line.specs.Deeds.{Deeds, IsCalledFor, UsesNoFile, IsUnwritten, IsUnprinted, WriteFailed, NoneRises}
+use Rattle.command_line.specs.Deeds.{Deeds, IsCalledFor, UsesNoFile, IsUnwritten, IsBeforePrinting, IsUnprinted, WriteFailed, NoneRises}
+use Rattle.command_line.specs.Script.{Act}
 use Rattle.command_line.specs.declared.status.Status.{Status}
 use Rattle.command_line.specs.declared.status.Status.TheVariants.{Memory, Usage, ReadFault, WriteFault, Text, Controller}
 
@@ -41,9 +42,34 @@ pub record Does {S O : Type 0} (disk : Disk S) (screen : Screen O) (words : List
   pub writes : NoneFalls (disk.write_faults before) (disk.write_faults now)
   pub no_fewer : screen.faults out ≤ screen.faults out_now
 
+-- ---- what a command does once its files are read
+pub record Acts {S O : Type 0} (disk : Disk S) (screen : Screen O) (words : List (List ℕ)) (deeds : Deeds) (before now : S) (out out_now : O) (s : Status) (a : Act) : Type 0 where
+  pub called : IsCaused s → IsAnswer a.calls s
+  pub read_fault : (file : ℕ) → s ≢ ReadFault file
+  pub write_fault : (file : ℕ) → s ≡ WriteFault file → a.starts × WriteFailed deeds words file (disk.write_faults before) (disk.write_faults now) (screen.faults out) (screen.faults out_now)
+  pub shows : IfSome (screen.got out) (λ old. IsSomeAnd (screen.got out_now) (a.shows s old))
+  pub quiet : IsUnprinted deeds s → out_now ≡ out
+  pub leaves : a.leaves words s (disk.held before) (disk.held now)
+  pub held : IsUnwritten deeds s → disk.held now ≡ disk.held before
+  pub reads : NoneFalls (disk.read_faults before) (disk.read_faults now)
+  pub writes : NoneFalls (disk.write_faults before) (disk.write_faults now)
+  pub no_fewer : screen.faults out ≤ screen.faults out_now
+
+-- so far as the output goes
+pub record Prints {O : Type 0} (screen : Screen O) (deeds : Deeds) (out out_now : O) (s : Status) (a : Act) : Type 0 where
+  pub called : IsCaused s → IsAnswer a.calls s
+  pub read_fault : (file : ℕ) → s ≢ ReadFault file
+  pub write_fault : (file : ℕ) → s ≡ WriteFault file → (file ≡ 0) × a.starts × Rose (screen.faults out) (screen.faults out_now)
+  pub shows : IfSome (screen.got out) (λ old. IsSomeAnd (screen.got out_now) (a.shows s old))
+  pub quiet : IsBeforePrinting deeds s → out_now ≡ out
+  pub no_fewer : screen.faults out ≤ screen.faults out_now
+
 -- ---- a command that has no output
 abbrev pub no_output : Screen ⊤
 no_output = record { got = λ out. None; faults = λ out. 0 }
 
 abbrev pub DoesInStore : {S : Type 0} → Disk S → List (List ℕ) → Deeds → (before now : S) → Status → Type 0
 DoesInStore disk words deeds before now s = Does disk no_output words deeds before now tt tt s
+
+abbrev pub ActsInStore : {S : Type 0} → Disk S → List (List ℕ) → Deeds → (before now : S) → Status → Act → Type 0
+ActsInStore disk words deeds before now s a = Acts disk no_output words deeds before now tt tt s a

@@ -6,4 +6,8 @@ pub mod Status
 pub mod StatusLine
 pub mod Answers
 pub mod Deeds
+pub mod Kind
+pub mod Script
 pub mod Does
+pub mod Running
+pub mod TwoTexts

@@ -1,10 +1,8 @@
 -- what the files and the loops of all records make of the answer, and what is printed
 pub mod Refusals
 pub mod Uniqueness
-pub mod Opening
 pub mod Looping
 pub mod Answering
-pub mod Row
 -- what a command that reads a design and a controller for it needs besides, which is handed on
 pub use Rattle.command_design_files.proofs as DesignFiles
 pub use Rattle.command_files.proofs as CommandFiles

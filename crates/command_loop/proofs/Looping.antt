@@ -15,10 +15,10 @@ use Rattle.closed_loop.specs.declared.fault.LoopFault.{LoopFault}
 use Rattle.closed_loop.specs.declared.fault.LoopFault.TheVariants as faults
 use Rattle.command_line.proofs.Counts.{rose_later}
 use Rattle.command_line.specs.declared.status.Status.{Status}
-use Rattle.command_line.specs.declared.status.Status.TheVariants.{Done, Memory, WriteFault, Refused, OutsideBox}
+use Rattle.command_line.specs.declared.status.Status.TheVariants.{Memory, WriteFault, Refused, OutsideBox}
 use Rattle.qp_model.specs.declared.refusal.Refusal.TheVariants.{TooWide}
-use Rattle.command_loop.specs.Loop.{Course, AllStay, FitsTurn, TellsLeavingLater, record_lines}
-use Rattle.command_loop.specs.Printing.{loop_status, RecordShows, IsBeforeLines, LoopsEnd, LoopsPrint}
+use Rattle.command_loop.specs.Loop.{Course, AllStay, FitsTurn, TellsLeavingLater, LoopsPrint, record_lines}
+use Rattle.command_loop.specs.Printing.{loop_status, RecordShows, IsBeforeLines, LoopsEnd}
 
 -- `turn` is within its limit where a loop is not refused for it
 pub narrow : (size : ℕ) (r : Result (Unit {0}) LoopFault) → ((quantity : Quantity) → (r ≡ Err (faults.TooWide quantity)) ↔ ((quantity ≡ Turn) × (2 ^ 126 < size))) →
@@ -98,24 +98,6 @@ module _ (d : Design) (c : Numbers) (l : Course) (m : Matrix) (turns : ℕ) wher
   -- ---- all records were run
   fits : (k : ℕ) → k ≡ length m.rows → (0 < k → turn_size d c ≤ 2 ^ 126) → FitsTurn d c m
   fits k is narrow = elim (cases_lt 0 k) [ inl lt ↦ inr (narrow lt) | inr le ↦ inl (omega (arith, le, is)) ]
-
-  pub all_end : (k : ℕ) → k ≡ length m.rows → (0 < k → turn_size d c ≤ 2 ^ 126) → AllStay c l m turns k → LoopsEnd d c l turns m Done
-  all_end k is narrow stay = inr (inr (inr (inr (refl, fits k is narrow, subst (AllStay c l m turns) is stay))))
-
-  all_lines : (old : List ℕ) → LoopsPrint d c l turns m Done old (old ++ record_lines l m turns (length m.rows))
-  all_lines old = record {
-    done = λ e. refl;
-    outside = λ told. let e = told.3 in absurd (let never : ⊥ = cc in never);
-    fault = λ e. absurd (let never : ⊥ = cc in never);
-    memory = λ e. absurd (let never : ⊥ = cc in never);
-    other = λ a b e f. absurd (a refl);
-  }
-
-  pub all_printed : (k : ℕ) (first last : Option (List ℕ)) → k ≡ length m.rows → last ≡ option_map (λ o. o ++ record_lines l m turns k) first → IfSome first (λ old. IsSomeAnd last (LoopsPrint d c l turns m Done old))
-  all_printed k None last is e = tt
-  all_printed k (Some old) last is e =
-      let whole = e ∙ ap (λ (i : ℕ). Some (old ++ record_lines l m turns i)) is in
-      subst (λ (o : Option (List ℕ)). IsSomeAnd o (LoopsPrint d c l turns m Done old)) (sym whole) (all_lines old)
 
   -- the first record's state lies in the box, where a line of some record may be put
   first_inside : (i : ℕ) → AllStay c l m turns i → MayBegin c (l.states (row_of m i)) turns → LieInside c (l.states (row_of m 0)) 1

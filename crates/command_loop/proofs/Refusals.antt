@@ -5,7 +5,7 @@ use Rattle.qp_model.specs.machine.Controller.{Numbers}
 use Rattle.command_line.specs.declared.status.Field.{Field}
 use Rattle.command_line.specs.declared.status.Status.{Status}
 use Rattle.command_line.specs.declared.status.Status.TheVariants.{Mismatch}
-use Rattle.command_design_files.proofs.Stopping.{IsRefusal}
+use Rattle.command_line.proofs.Doing.{IsRefusal}
 use Rattle.command_loop.specs.Loop.{IsMismatch}
 
 field_refusal : (field : Field) (x y : ℤ) (s : Status) → s ≡ Mismatch field x y → IsRefusal s

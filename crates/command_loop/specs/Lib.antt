@@ -1,5 +1,4 @@
 pub mod Loop
-pub mod Files
 pub mod Printing
 pub mod Deeds
 -- what the contracts are stated in besides, which is handed on: a crate above that names fewer others is stamped on fewer paths

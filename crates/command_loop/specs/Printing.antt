@@ -1,5 +1,5 @@
--- What the records of a design, a controller for it and states are answered, and what the output gets, on the way.
-use Rattle.std.specs.Prelude.{◌≡◌, ◌≢◌, ◌⊎◌, ⊤, ℕ, ◌-◌, ◌^◌, ◌<◌, ◌≤◌, ℤ, List, ◌++◌, length, Option, Some, None, option_map, IfSome, IsSomeAnd}
+-- What the records of a design, a controller for it and states are answered, on the way.
+use Rattle.std.specs.Prelude.{◌≡◌, ◌⊎◌, ⊤, ℕ, ◌-◌, ◌^◌, ◌<◌, ◌≤◌, ℤ, List, ◌++◌, length, Option, Some, None, option_map, IfSome, IsSomeAnd}
 use Rattle.mat_int.specs.Matrix.{Matrix}
 use Rattle.packed_rows.specs.Walk.{Walk}
 use Rattle.qp_model.specs.problem.Design.{Design}
@@ -10,7 +10,7 @@ use Rattle.closed_loop.specs.Answers.{LeavesAmong, MayBegin, GrowsByLines, Grows
 use Rattle.closed_loop.specs.Under.{AreSmallShifts}
 use Rattle.closed_loop.specs.declared.fault.LoopFault.{LoopFault}
 use Rattle.closed_loop.specs.declared.fault.LoopFault.TheVariants as faults
-use Rattle.command_loop.specs.Loop.{Course, MayPrintLine, LoopsCall, TellsLeaving, AreToLeaving, AreTurns, ArePrefix, record_lines}
+use Rattle.command_loop.specs.Loop.{Course, MayPrintLine, LoopsCall}
 use Rattle.command_line.specs.declared.status.Status.{Status}
 use Rattle.command_line.specs.declared.status.Status.TheVariants.{Done, Memory, WriteFault, Refused, OutsideBox}
 use Rattle.qp_model.specs.declared.refusal.Refusal.TheVariants.{TooWide}
@@ -57,11 +57,3 @@ IsBeforeLines faults.WriteFault = ⊥
 -- out of memory, or a print of a line failed, or what is called for
 abbrev pub LoopsEnd : Design → Numbers → Course → (turns : ℕ) → Matrix → Status → Type 0
 LoopsEnd d c l turns m s = (s ≡ Memory) ⊎ (((s ≡ WriteFault 0) × MayPrintLine d c l turns m) ⊎ LoopsCall d c l turns m s)
-
--- what the output got, by the answer
-pub record LoopsPrint (d : Design) (c : Numbers) (l : Course) (turns : ℕ) (m : Matrix) (s : Status) (old new : List ℕ) : Type 0 where
-  pub done : s ≡ Done → new ≡ old ++ record_lines l m turns (length m.rows)
-  pub outside : TellsLeaving s → AreToLeaving d c l turns m s old new
-  pub fault : s ≡ WriteFault 0 → ArePrefix d c l turns m old new
-  pub memory : s ≡ Memory → (new ≡ old) ⊎ AreTurns d c l turns m old new
-  pub other : s ≢ Done → (TellsLeaving s → ⊥) → s ≢ WriteFault 0 → s ≢ Memory → new ≡ old

@@ -3,8 +3,8 @@ ghost use Rattle.command_line.specs.Words.{IsLoop};
 ghost use Rattle.command_line.specs.Does.{Does};
 ghost use Rattle.command_loop.specs.Deeds.{loop_deeds};
 
-use crate::files::read_loops;
-use crate::records::print_loops;
+use crate::files::run_design;
+use command_design_files::read_design_file;
 use command_line::Status;
 use io_edge::{Sink, Store, Words};
 use std::alloc::Global;
@@ -23,8 +23,8 @@ pub fn run_loops<S: Store, O: Sink>(
     requires { IsLoop words.now turns disturbed }
     ensures { Does S.Store O.Sink words.now (loop_deeds turns disturbed) store.old store.new out.old out.new result }
 {
-    match read_loops(alloc, words, turns, disturbed, store) {
-        Ok(loops) => print_loops(alloc, &loops, turns, out),
+    match read_design_file(alloc, 1, words.at(1), store) {
+        Ok(design) => run_design(alloc, words, turns, disturbed, &design, store, out),
         Err(status) => status,
     }
 }

@@ -1,178 +1,107 @@
-// The files of a loop.
-ghost use Rattle.std.specs.Prelude.{◌≡◌, ◌<◌, ◌^◌, length, Ok, Err, IfOk, IfErr};
-ghost use Rattle.io_edge.specs.Faults.{NoneFalls};
+// The files of a loop, one after the other.
+ghost use Rattle.std.specs.Prelude.{◌≡◌, ◌<◌, ◌^◌, length};
 ghost use Rattle.qp_model.specs.problem.Parts.{design_of};
 ghost use Rattle.qp_model.specs.machine.Successor.{IsFor};
-ghost use Rattle.command_line.specs.Words.{word_of, IsLoop};
-ghost use Rattle.command_design_files.specs.Reading.{IsDesignRead};
-ghost use Rattle.command_files.specs.Reading.{IsControllerRead, AreStatesRead};
-ghost use Rattle.command_loop.specs.Files.{EndsMatching, AreShiftsTaken, EndsStarts, AreRunsRead, EndsLoops};
-ghost use Rattle.command_loop.specs.Printing.{AreShiftsFor};
+ghost use Rattle.command_line.specs.Words.{IsLoop};
+ghost use Rattle.command_line.specs.Running.{Runs};
+ghost use Rattle.command_loop.specs.Loop.{loop_shifts, loop_states, loop_design};
+ghost use Rattle.command_loop.specs.Deeds.{loop_deeds};
 
 use crate::mismatch::mismatch_of;
-use crate::shifts::take_shifts;
-use command_design_files::read_design_file;
-use command_files::{read_controller_file, read_states_file};
+use crate::records::print_loops;
+use command_files::{read_controller_file, read_shifts_file, read_states_file};
 use command_line::Status;
-use io_edge::{Store, Words};
+use io_edge::{Sink, Store, Words};
 use overflow_check::Controller;
 use packed_rows::PackedRows;
 use qp_model::Design;
 use std::alloc::Global;
 
-/// The states that loops start from, a row each, and the shifts after each turn where there are disturbances, a row each.
-#[derive(Drop)]
-pub struct Starts {
-    pub states: PackedRows,
-    pub shifts: Option<PackedRows>,
-}
-
-/// A design, a controller for it, and what its loops start from.
-#[derive(Drop)]
-pub struct Loops {
-    pub design: Design,
-    pub controller: Controller,
-    pub starts: Starts,
-}
-
-/// The controller for a design under a name, that of the second file, or the status that ends the run.
-pub fn read_controller_for<S: Store>(
+// The shifts, where there are disturbances, and the loops.
+fn run_states<S: Store, O: Sink>(
     alloc: Global,
-    name: &str,
+    words: &Words,
+    turns: u32,
+    disturbed: bool,
+    design: &Design,
+    controller: &Controller,
+    states: &PackedRows,
+    store: &mut S,
+    out: &mut O,
+) -> Status
+    requires words { IsLoop words.now turns disturbed }
+    requires matched { IsFor controller.now (design_of design.now) }
+    requires width { states.now.cols ≡ controller.now.states }
+    requires count { length states.now.rows < 2 ^ 32 }
+    ensures { Runs S.Store O.Sink words.now (loop_deeds turns disturbed) store.old store.new out.old out.new result
+        (loop_shifts turns disturbed (design_of design.now) controller.now states.now) }
+{
+    if disturbed {
+        let n = controller.parts().n;
+        match read_shifts_file(alloc, 5, words.at(5), n, turns as usize, store) {
+            Ok(shifts) => print_loops(alloc, design, controller, states, &Some(shifts), turns, out),
+            Err(status) => status,
+        }
+    } else {
+        print_loops(alloc, design, controller, states, &None, turns, out)
+    }
+}
+
+// The states, and what comes after them, for a controller that is for the design.
+fn run_controller<S: Store, O: Sink>(
+    alloc: Global,
+    words: &Words,
+    turns: u32,
+    disturbed: bool,
+    design: &Design,
+    controller: &Controller,
+    store: &mut S,
+    out: &mut O,
+) -> Status
+    requires words { IsLoop words.now turns disturbed }
+    requires matched { IsFor controller.now (design_of design.now) }
+    ensures { Runs S.Store O.Sink words.now (loop_deeds turns disturbed) store.old store.new out.old out.new result
+        (loop_states turns disturbed (design_of design.now) controller.now) }
+{
+    match read_states_file(alloc, 3, words.at(3), controller.parts().n, store) {
+        Ok(states) => {
+            run_states(
+                alloc, words, turns, disturbed, design, controller, &states, store, out,
+            )
+        }
+        Err(status) => status,
+    }
+}
+
+/// The controller, which is to be for the design, and what comes after it.
+pub fn run_design<S: Store, O: Sink>(
+    alloc: Global,
+    words: &Words,
+    turns: u32,
+    disturbed: bool,
     design: &Design,
     store: &mut S,
-) -> Result<Controller, Status>
-    ensures right { IfOk result (λ c. IsControllerRead 2 (S.held store.old) name.now c) }
-    ensures matched { IfOk result (λ c. IsFor c (design_of design.now)) }
-    ensures ends { IfErr result (λ e. EndsMatching (design_of design.now) (S.held store.old) name.now
-        (S.read_faults store.old name.now) (S.read_faults store.new name.now) e) }
-    ensures held { S.held store.new ≡ S.held store.old }
-    ensures reads { NoneFalls (S.read_faults store.old) (S.read_faults store.new) }
-    ensures writes { NoneFalls (S.write_faults store.old) (S.write_faults store.new) }
+    out: &mut O,
+) -> Status
+    requires { IsLoop words.now turns disturbed }
+    ensures { Runs S.Store O.Sink words.now (loop_deeds turns disturbed) store.old store.new out.old out.new result
+        (loop_design turns disturbed (design_of design.now)) }
 {
-    let controller = read_controller_file(alloc, 2, name, store)?;
+    let controller = match read_controller_file(alloc, 2, words.at(2), store) {
+        Ok(controller) => controller,
+        Err(ended) => return ended,
+    };
     match mismatch_of(design, &controller) {
-        Some(status) => Err(status),
-        None => Ok(controller),
-    }
-}
-
-// The states of `n` numbers each in the third file, and then the shifts.
-fn read_starts<S: Store>(
-    alloc: Global,
-    words: &Words,
-    turns: u32,
-    disturbed: bool,
-    n: usize,
-    store: &mut S,
-) -> Result<Starts, Status>
-    requires { IsLoop words.now turns disturbed }
-    ensures states { IfOk result (λ r. AreStatesRead n 3 (S.held store.old) (word_of words.now 3) r.states) }
-    ensures width { IfOk result (λ r. r.states.cols ≡ n) }
-    ensures count { IfOk result (λ r. length r.states.rows < 2 ^ 32) }
-    ensures shifts { IfOk result (λ r. AreShiftsTaken disturbed n turns (S.held store.old) (word_of words.now 5) r.shifts) }
-    ensures ends { IfErr result (EndsStarts disturbed n turns words.now (S.held store.old) (S.read_faults store.old) (S.read_faults store.new)) }
-    ensures held { S.held store.new ≡ S.held store.old }
-    ensures reads { NoneFalls (S.read_faults store.old) (S.read_faults store.new) }
-    ensures writes { NoneFalls (S.write_faults store.old) (S.write_faults store.new) }
-{
-    let states = read_states_file(alloc, 3, words.at(3), n, store)?;
-    match take_shifts(alloc, words, turns, disturbed, n, store) {
-        Ok(shifts) => Ok(Starts { states, shifts }),
-        Err(status) => Err(status),
-    }
-}
-
-// A design, a controller and what was read after them, or the status that ended that read.
-fn loops_of(
-    design: Design,
-    controller: Controller,
-    starts: Result<Starts, Status>,
-) -> Result<Loops, Status>
-    ensures design { IfOk result (λ l. l.design ≡ design) }
-    ensures controller { IfOk result (λ l. l.controller ≡ controller) }
-    ensures starts { IfOk result (λ l. starts ≡ Ok l.starts) }
-    ensures ends { IfErr result (λ e. starts ≡ Err e) }
-{
-    match starts {
-        Ok(starts) => Ok(Loops {
+        Some(status) => status,
+        None => run_controller(
+            alloc,
+            words,
+            turns,
+            disturbed,
             design,
-            controller,
-            starts,
-        }),
-        Err(status) => Err(status),
+            &controller,
+            store,
+            out,
+        ),
     }
-}
-
-// What stands after the controller, after a design and a controller for it were read from the first two files.
-fn read_after_controller<S: Store>(
-    alloc: Global,
-    words: &Words,
-    turns: u32,
-    disturbed: bool,
-    design: Design,
-    controller: Controller,
-    store: &mut S,
-) -> Result<Loops, Status>
-    requires words { IsLoop words.now turns disturbed }
-    requires design { IsDesignRead 1 (S.held store.now) (word_of words.now 1) design }
-    requires controller { IsControllerRead 2 (S.held store.now) (word_of words.now 2) controller }
-    requires matched { IsFor controller (design_of design) }
-    ensures right { IfOk result (λ l. AreRunsRead disturbed turns words.now (S.held store.old) l.design l.controller l.starts.states l.starts.shifts) }
-    ensures width { IfOk result (λ l. l.starts.states.cols ≡ l.controller.states) }
-    ensures count { IfOk result (λ l. length l.starts.states.rows < 2 ^ 32) }
-    ensures shifts { IfOk result (λ l. AreShiftsFor l.controller.states turns l.starts.shifts) }
-    ensures ends { IfErr result (EndsLoops disturbed turns words.now (S.held store.old) (S.read_faults store.old) (S.read_faults store.new)) }
-    ensures held { S.held store.new ≡ S.held store.old }
-    ensures reads { NoneFalls (S.read_faults store.old) (S.read_faults store.new) }
-    ensures writes { NoneFalls (S.write_faults store.old) (S.write_faults store.new) }
-{
-    let starts = read_starts(alloc, words, turns, disturbed, controller.parts().n, store);
-    loops_of(design, controller, starts)
-}
-
-// The controller's file and what stands after it, after a design was read from the first.
-fn read_after_design<S: Store>(
-    alloc: Global,
-    words: &Words,
-    turns: u32,
-    disturbed: bool,
-    design: Design,
-    store: &mut S,
-) -> Result<Loops, Status>
-    requires words { IsLoop words.now turns disturbed }
-    requires design { IsDesignRead 1 (S.held store.now) (word_of words.now 1) design }
-    ensures right { IfOk result (λ l. AreRunsRead disturbed turns words.now (S.held store.old) l.design l.controller l.starts.states l.starts.shifts) }
-    ensures width { IfOk result (λ l. l.starts.states.cols ≡ l.controller.states) }
-    ensures count { IfOk result (λ l. length l.starts.states.rows < 2 ^ 32) }
-    ensures shifts { IfOk result (λ l. AreShiftsFor l.controller.states turns l.starts.shifts) }
-    ensures ends { IfErr result (EndsLoops disturbed turns words.now (S.held store.old) (S.read_faults store.old) (S.read_faults store.new)) }
-    ensures held { S.held store.new ≡ S.held store.old }
-    ensures reads { NoneFalls (S.read_faults store.old) (S.read_faults store.new) }
-    ensures writes { NoneFalls (S.write_faults store.old) (S.write_faults store.new) }
-{
-    let controller = read_controller_for(alloc, words.at(2), &design, store)?;
-    read_after_controller(alloc, words, turns, disturbed, design, controller, store)
-}
-
-// All files, or the status that ends the run.
-pub fn read_loops<S: Store>(
-    alloc: Global,
-    words: &Words,
-    turns: u32,
-    disturbed: bool,
-    store: &mut S,
-) -> Result<Loops, Status>
-    requires { IsLoop words.now turns disturbed }
-    ensures right { IfOk result (λ l. AreRunsRead disturbed turns words.now (S.held store.old) l.design l.controller l.starts.states l.starts.shifts) }
-    ensures width { IfOk result (λ l. l.starts.states.cols ≡ l.controller.states) }
-    ensures count { IfOk result (λ l. length l.starts.states.rows < 2 ^ 32) }
-    ensures shifts { IfOk result (λ l. AreShiftsFor l.controller.states turns l.starts.shifts) }
-    ensures ends { IfErr result (EndsLoops disturbed turns words.now (S.held store.old) (S.read_faults store.old) (S.read_faults store.new)) }
-    ensures held { S.held store.new ≡ S.held store.old }
-    ensures reads { NoneFalls (S.read_faults store.old) (S.read_faults store.new) }
-    ensures writes { NoneFalls (S.write_faults store.old) (S.write_faults store.new) }
-{
-    let design = read_design_file(alloc, 1, words.at(1), store)?;
-    read_after_design(alloc, words, turns, disturbed, design, store)
 }

@@ -5,10 +5,9 @@ mod command;
 mod files;
 mod mismatch;
 mod records;
-mod shifts;
 
 pub use command::run_loops;
 // What reads a design and a controller for it is handed on: a crate above that names fewer others is stamped on fewer paths.
 pub use command_design_files::{FILE_LIMIT, read_bytes, read_design_file, text_status};
-pub use command_files::read_range_file;
-pub use files::read_controller_for;
+pub use command_files::{read_controller_file, read_range_file};
+pub use mismatch::mismatch_of;

@@ -5,14 +5,14 @@ ghost use Rattle.qp_model.specs.problem.Parts.{design_of};
 ghost use Rattle.qp_model.specs.machine.Successor.{IsFor};
 ghost use Rattle.qp_model.specs.machine.LoopSize.{turn_size};
 ghost use Rattle.closed_loop.specs.Answers.{LieInside};
-ghost use Rattle.command_loop.specs.Loop.{TellsLeavingLater, course_of};
-ghost use Rattle.command_loop.specs.Printing.{AreShiftsFor, RecordShows, IsBeforeLines, LoopsEnd, LoopsPrint, loop_status, rows_along};
+ghost use Rattle.command_loop.specs.Loop.{TellsLeavingLater, LoopsPrint, course_of};
+ghost use Rattle.command_loop.specs.Printing.{AreShiftsFor, RecordShows, IsBeforeLines, LoopsEnd, loop_status, rows_along};
 
-use crate::files::Loops;
 use closed_loop::{LoopFault, run_loop, run_loop_under};
 use command_line::Status;
 use fixed_kernel::Kernel;
 use io_edge::Sink;
+use overflow_check::Controller;
 use packed_rows::{PackedRows, RowWalk};
 use qp_model::{Design, Refusal};
 use std::alloc::{AllocError, Global};
@@ -123,32 +123,31 @@ fn walk_of(alloc: Global, shifts: &Option<PackedRows>) -> Result<Option<RowWalk<
 }
 
 // Prints the lines of all loops, by one kernel.
-pub fn print_loops<O: Sink>(alloc: Global, loops: &Loops, turns: u32, out: &mut O) -> Status
-    requires matched { IsFor loops.now.controller (design_of loops.now.design) }
-    requires width { loops.now.starts.states.cols ≡ loops.now.controller.states }
-    requires count { length loops.now.starts.states.rows < 2 ^ 32 }
-    requires shifts { AreShiftsFor loops.now.controller.states turns loops.now.starts.shifts }
-    ensures ends { LoopsEnd (design_of loops.now.design) loops.now.controller
-        (course_of (design_of loops.now.design) loops.now.controller loops.now.starts.shifts) turns loops.now.starts.states result }
-    ensures printed { IfSome (O.got out.old) (λ old. IsSomeAnd (O.got out.new) (LoopsPrint (design_of loops.now.design) loops.now.controller
-        (course_of (design_of loops.now.design) loops.now.controller loops.now.starts.shifts) turns loops.now.starts.states result old)) }
+pub fn print_loops<O: Sink>(
+    alloc: Global,
+    design: &Design,
+    controller: &Controller,
+    states: &PackedRows,
+    shifts: &Option<PackedRows>,
+    turns: u32,
+    out: &mut O,
+) -> Status
+    requires matched { IsFor controller.now (design_of design.now) }
+    requires width { states.now.cols ≡ controller.now.states }
+    requires count { length states.now.rows < 2 ^ 32 }
+    requires shifts { AreShiftsFor controller.now.states turns shifts.now }
+    ensures ends { LoopsEnd (design_of design.now) controller.now (course_of (design_of design.now) controller.now shifts.now) turns states.now result }
+    ensures printed { IfSome (O.got out.old) (λ old. IsSomeAnd (O.got out.new) (LoopsPrint (design_of design.now) controller.now
+        (course_of (design_of design.now) controller.now shifts.now) turns states.now result old)) }
     ensures quiet { result ≢ Status.Done → result ≢ Status.Memory → result ≢ Status.WriteFault 0 → ¬ TellsLeavingLater result → out.new ≡ out.old }
     ensures failed { result ≡ Status.WriteFault 0 → Rose (O.faults out.old) (O.faults out.new) }
     ensures no_fewer { O.faults out.old ≤ O.faults out.new }
 {
-    let Ok(mut kernel) = Kernel::prepare(alloc, &loops.controller) else {
+    let Ok(mut kernel) = Kernel::prepare(alloc, controller) else {
         return Status::Memory;
     };
-    let Ok(mut shifts) = walk_of(alloc, &loops.starts.shifts) else {
+    let Ok(mut shifts) = walk_of(alloc, shifts) else {
         return Status::Memory;
     };
-    print_records(
-        alloc,
-        &loops.design,
-        &mut kernel,
-        &loops.starts.states,
-        &mut shifts,
-        turns,
-        out,
-    )
+    print_records(alloc, design, &mut kernel, states, &mut shifts, turns, out)
 }

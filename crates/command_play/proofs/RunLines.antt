@@ -10,9 +10,9 @@ use Rattle.mat_int.specs.Matrix.{Matrix, row_of}
 use Rattle.number_text.specs.Lines.{spaced}
 use Rattle.mac_listing.specs.Listing.{Instructions}
 use Rattle.mac_machine.specs.Machine.{NeverTraps, outputs_of, after_repetitions}
+use Rattle.plan_lines.proofs.PlanLines.{ended, told_err}
 use Rattle.command_play.specs.Plays.{AreInBox, HaveRunRoom, IsTrapped, run_line, run_lines}
-use Rattle.command_play.specs.Play.{TellsTrapLater}
-use Rattle.command_play.specs.Printing.{TrapsFrom, PlaysEnd, PlaysPrint, ArePart}
+use Rattle.command_play.specs.Printing.{TellsTrapLater, TrapsFrom, PlaysEnd, PlaysPrint, ArePart}
 use Rattle.command_line.specs.declared.status.Status.{Status}
 use Rattle.command_line.specs.declared.status.Status.TheVariants.{Done, Memory, WriteFault}
 
@@ -22,9 +22,6 @@ lines_more l m i lt =
     ∙ ap (λ (line : List ℕ). run_lines l m i ++ line) (append-nil (run_line l (row_of m i)))
 
 -- a line has its line feed at least
-ended : (xs : List ℕ) → 0 < length (xs ++ 10 ∷ [])
-ended xs = omega (arith, length-append xs (10 ∷ []))
-
 line_some : (l : Instructions) (xi : List ℤ) → 0 < length (run_line l xi)
 line_some l xi = ended (spaced (l.denominator ∷ outputs_of l (after_repetitions l xi l.repetitions).words))
 
@@ -50,10 +47,6 @@ cut l m i old new lt room p = record {
     left : (length (run_line l (row_of m i)) ≡ 0) ⊎ (0 < length p.rest) → 0 < length p.rest
     left (inl none) = absurd (omega (arith, none, line_some l (row_of m i)))
     left (inr some) = some
-
-told_err : {T E P : Type 0} (r : Result T E) → is_err r ≡ true → OnErr r P → P
-told_err (Ok x) is h = absurd (let never : ⊥ = cc in never)
-told_err (Err e) is h = h
 
 -- a print that failed
 pub print_cut : {T E : Type 0} (r : Result T E) (l : Instructions) (m : Matrix) (i : ℕ) (line : List ℕ) (first mid last : Option (List ℕ)) → is_err r ≡ true →
@@ -97,7 +90,7 @@ stop_prints l m i s old inside lt room (inl memory) = record {
 }
 stop_prints l m i s old inside lt room (inr traps) = record {
   done = λ is. absurd (let told = traps.is in let never : ⊥ = cc in never);
-  trap = λ told. record { trapped = trapped_at l m i s lt room traps; printed = refl };
+  trap = λ told. (inside, record { trapped = trapped_at l m i s lt room traps; printed = refl });
   fault = λ is. absurd (let told = traps.is in let never : ⊥ = cc in never);
   memory = λ is. absurd (let told = traps.is in let never : ⊥ = cc in never);
   other = λ done trap fault memory. absurd (trap (i + 1, traps.step, traps.place, traps.is));
@@ -120,23 +113,18 @@ stop_first l xi i s (inl memory) some later = absurd (some memory)
 stop_first l xi zero s (inr traps) some later = refl
 stop_first l xi (suc i) s (inr traps) some later = absurd (later (suc i + 1, traps.step, traps.place, traps.is, omega arith))
 
-pub part_prints : (l : Instructions) (m : Matrix) (old new : List ℕ) → ArePart l m old new → PlaysPrint l m (WriteFault 0) old new
-part_prints l m old new part = record {
+pub part_prints : (l : Instructions) (m : Matrix) → AreInBox l m (length m.rows) → (old new : List ℕ) → ArePart l m old new → PlaysPrint l m (WriteFault 0) old new
+part_prints l m inside old new part = record {
   done = λ is. absurd (let never : ⊥ = cc in never);
   trap = λ told. absurd (let is = told.3 in let never : ⊥ = cc in never);
-  fault = λ is. part;
+  fault = λ is. (inside, part);
   memory = λ is. absurd (let never : ⊥ = cc in never);
   other = λ done trap fault memory. absurd (fault refl);
 }
 
-pub cut_prints : (l : Instructions) (m : Matrix) (first last : Option (List ℕ)) → IfSome first (λ old. IsSomeAnd last (ArePart l m old)) → IfSome first (λ old. IsSomeAnd last (PlaysPrint l m (WriteFault 0) old))
-cut_prints l m (Some old) (Some new) p = part_prints l m old new p
-cut_prints l m (Some old) None p = p
-cut_prints l m None last p = tt
-
-pub all_print : (l : Instructions) (m : Matrix) (k : ℕ) (old : List ℕ) → k ≡ length m.rows → HaveRunRoom l m k → PlaysPrint l m Done old (old ++ run_lines l m k)
-all_print l m k old e room = record {
-  done = λ is. (subst (HaveRunRoom l m) e room, ap (λ (n : ℕ). old ++ run_lines l m n) e);
+pub all_print : (l : Instructions) (m : Matrix) → AreInBox l m (length m.rows) → (k : ℕ) (old : List ℕ) → k ≡ length m.rows → HaveRunRoom l m k → PlaysPrint l m Done old (old ++ run_lines l m k)
+all_print l m inside k old e room = record {
+  done = λ is. (inside, subst (HaveRunRoom l m) e room, ap (λ (n : ℕ). old ++ run_lines l m n) e);
   trap = λ told. absurd (let is = told.3 in let never : ⊥ = cc in never);
   fault = λ is. absurd (let never : ⊥ = cc in never);
   memory = λ is. absurd (let never : ⊥ = cc in never);
@@ -144,10 +132,6 @@ all_print l m k old e room = record {
 }
 
 -- ---- a line more
-pub told_ok : {T E : Type 0} (r : Result T E) (P : Type 0) → is_err r ≡ false → OnOk r P → P
-told_ok (Ok x) P is h = h
-told_ok (Err e) P is h = absurd (let never : ⊥ = cc in never)
-
 pub grown : (l : Instructions) (m : Matrix) (i : ℕ) (line : List ℕ) (first mid last : Option (List ℕ)) → i < length m.rows → line ≡ run_line l (row_of m i) →
     mid ≡ option_map (λ old. old ++ run_lines l m i) first → last ≡ option_map (λ old. old ++ line) mid → last ≡ option_map (λ old. old ++ run_lines l m (i + 1)) first
 grown l m i line first mid last lt is before put = put ∙ ap (option_map (λ (old : List ℕ). old ++ line)) before ∙ both first

@@ -17,18 +17,23 @@ use Rattle.mac_machine.specs.Laws.{PlaysController}
 use Rattle.mac_machine.proofs.ListingLaw.{listing_law}
 use Rattle.plan_lines.specs.Inside.{AreInside}
 use Rattle.plan_lines.specs.Lines.{plan_lines}
-use Rattle.plan_lines.specs.Printing.{ArePrinted, AreFirstLines}
+use Rattle.plan_lines.specs.Printing.{ArePrinted, AreFirstLines, lines_of_plans}
+use Rattle.plan_lines.proofs.Acting.{nothing_shown}
 use Rattle.command_line.specs.Words.{word_of}
 use Rattle.command_line.specs.Limit.{file_limit}
 use Rattle.command_line.specs.Answers.{Contents, ForContents, FileHolds, IsAnswer, IsCaused}
+use Rattle.command_line.specs.Script.{calls_of, shows_of}
+use Rattle.command_line.proofs.Results.{both_some}
+use Rattle.command_line.proofs.Following.{called_told, shown_told}
 use Rattle.command_line.specs.declared.status.Status.{Status}
 use Rattle.command_line.specs.declared.status.Status.TheVariants.{Done}
 use Rattle.command_files.specs.Texts.{StatesRight}
-use Rattle.command_files.proofs.TwoFiles.{one_content, one_states}
+use Rattle.command_files.proofs.OneThing.{one_content, one_states}
 use Rattle.command_play.specs.Texts.{ListingRight}
 use Rattle.command_play.specs.Plays.{AreInBox, HaveRunRoom, run_line, run_lines}
-use Rattle.command_play.specs.Play.{PlayCalls, PlayPrints, HoldsPlays, PrintsSomeRuns}
-use Rattle.command_play.specs.Printing.{ArePart, AreSome}
+use Rattle.command_play.specs.Printing.{ArePart, AreSome, PlaysPrint}
+use Rattle.command_play.specs.Play.{play_script}
+use Rattle.command_play.specs.Deeds.{play_work}
 use Rattle.command_play.specs.AsSolved.{HoldsListed, PlaysAsSolved}
 
 -- ---- lines
@@ -88,56 +93,45 @@ module _ (c : Numbers) (m : Matrix) (sound : IsController c) (inside : AreInside
 same_listing : (content : Option (List ℕ)) (a b : Instructions) → FileHolds file_limit (ListingRight a) content → FileHolds file_limit (ListingRight b) content → a ≡ b
 same_listing content a b x y = read_right x.bytes a b x.right (subst (λ (bytes : List ℕ). IsListingText bytes b) (one_content file_limit file_limit content x y) y.right)
 
-module _ (first second : Option (List ℕ)) (c : Numbers) (m : Matrix) (holds : HoldsListed first second c m) where
-  called_done : PlayCalls first second Done
+module _ (k : Contents) (c : Numbers) (m : Matrix) (holds : HoldsListed (k 1) (k 2) c m) where
+  called_done : calls_of play_script k Done
   called_done = inr (listing_of c, holds.listing_right, inr (m, holds.states_right, inr (in_box c m holds.sound holds.inside, inr (refl, room c m holds.sound holds.inside))))
 
-  -- what is printed of what they hold is printed of these
-  of_these : (Adds : Instructions → Matrix → Type 0) (l : Instructions) (n : Matrix) → HoldsPlays first second l n → Adds l n → Adds (listing_of c) m
-  of_these Adds l n plays printed =
-      let one : l ≡ listing_of c = same_listing first l (listing_of c) plays.listing_right holds.listing_right in
-      let right : FileHolds file_limit (StatesRight c.states n) second = subst (λ (k : Instructions). FileHolds file_limit (StatesRight k.states n) second) one plays.states_right in
-      let other : n ≡ m = one_states c.states second n m right holds.states_right in
-      subst (λ (k : Matrix). Adds (listing_of c) k) other (subst (λ (k : Instructions). Adds k n) one printed)
-
-  are_printed : (k : Contents) (s : Status) (old new : List ℕ) → k 1 ≡ first → k 2 ≡ second → PlayPrints k s old new → ArePrinted c m s old new
-  are_printed k s old new one two p = record {
-    done = λ is.
-        let all = p.done is in
-        told (λ l n. new ≡ old ++ run_lines l n (length n.rows)) all.l all.m all.plays all.printed ∙ ap (λ (x : List ℕ). old ++ x) (same_lines c m holds.sound holds.inside (length m.rows) (omega arith));
-    fault = λ is.
-        let part = p.fault is in
-        part_printed c m holds.sound holds.inside old new (told (λ l n. ArePart l n old new) part.l part.m part.plays (record { count = part.count; some = part.some; room = part.room; printed = part.printed }));
-    memory = λ is. some_printed c m holds.sound holds.inside old new (some (p.memory is));
-  }
+  -- what is printed of what two files hold is printed of these
+  are_printed : (s : Status) (old new : List ℕ) → shows_of play_script k s old new → ArePrinted c m s old new
+  are_printed s old new shown = by shown
     where
-      told : (Adds : Instructions → Matrix → Type 0) (l : Instructions) (n : Matrix) → HoldsPlays (k 1) (k 2) l n → Adds l n → Adds (listing_of c) m
-      told Adds l n plays = of_these Adds l n (subst (λ (x : Option (List ℕ)). HoldsPlays x second l n) one (subst (λ (x : Option (List ℕ)). HoldsPlays (k 1) x l n) two plays))
+      none : new ≡ old → AreFirstLines c m old new
+      none same = record { count = 0; some = omega arith; printed = same ∙ sym (append-nil old) }
 
-      some : (new ≡ old) ⊎ PrintsSomeRuns (k 1) (k 2) old new → (new ≡ old) ⊎ (AreInBox (listing_of c) m (length m.rows) × AreSome (listing_of c) m old new)
-      some (inl same) = inl same
-      some (inr q) = inr (
-        in_box c m holds.sound holds.inside,
-        told (λ l n. AreSome l n old new) q.l q.m q.plays (record { count = q.count; some = q.some; room = q.room; printed = q.printed }),
-      )
+      these : PlaysPrint (listing_of c) m s old new → ArePrinted c m s old new
+      these p = record {
+        done = λ is. (p.done is).2 ∙ ap (λ (x : List ℕ). old ++ x) (same_lines c m holds.sound holds.inside (length m.rows) (omega arith));
+        fault = λ is. part_printed c m holds.sound holds.inside old new (p.fault is).1;
+        memory = λ is. some_printed c m holds.sound holds.inside old new (p.memory is);
+      }
+
+      by : shows_of play_script k s old new → ArePrinted c m s old new
+      by (inl nothing) = nothing_shown (lines_of_plans c m) s old new none nothing
+      by (inr (l, right, inl nothing)) = nothing_shown (lines_of_plans c m) s old new none nothing
+      by (inr (l, right, inr (n, states_right, p))) =
+          let one = same_listing (k 1) l (listing_of c) right holds.listing_right in
+          let width = subst (λ (x : Instructions). FileHolds file_limit (StatesRight x.states n) (k 2)) one states_right in
+          let other : n ≡ m = one_states c.states (k 2) n m width holds.states_right in
+          these (subst (λ (x : Matrix). PlaysPrint (listing_of c) x s old new) other (subst (λ (x : Instructions). PlaysPrint x n s old new) one p))
 
 -- by what is called for, and what the output got
-pub plays_as_solved : (words : List (List ℕ)) (held : Option Files) (s : Status) (before now : Option (List ℕ)) →
-    (IsCaused s → ForContents words held (λ k. IsAnswer (PlayCalls (k 1) (k 2)) s)) →
-    IfSome before (λ old. IsSomeAnd now (λ new. ForContents words held (λ k. PlayPrints k s old new))) → PlaysAsSolved words held s before now
+pub plays_as_solved : (words : List (List ℕ)) (held : Option Files) (s : Status) (before now : Option (List ℕ)) → (IsCaused s → ForContents words held (λ k. IsAnswer (calls_of play_script k) s)) →
+    IfSome before (λ old. IsSomeAnd now (λ new. ForContents words held (λ k. shows_of play_script k s old new))) → PlaysAsSolved words held s before now
 plays_as_solved words None s before now called prints = tt
-plays_as_solved words (Some files) s before now called prints = λ c m holds. record { room = room c m holds.sound holds.inside; solved = record { done = is_done c m holds; printed = got c m holds before now prints } }
-  where
-    is_done : (c : Numbers) (m : Matrix) → HoldsListed (files (word_of words 1)) (files (word_of words 2)) c m → IsCaused s → s ≡ Done
-    is_done c m holds caused =
+plays_as_solved words (Some files) s before now called prints = λ c m holds. record {
+  room = room c m holds.sound holds.inside;
+  solved = record {
+    done = λ caused.
         let found = called caused in
-        let calls : PlayCalls (found.contents 1) (found.contents 2) Done =
-        subst (λ (x : Option (List ℕ)). PlayCalls x (found.contents 2) Done) (sym (found.told 1))
-        (subst (λ (x : Option (List ℕ)). PlayCalls (files (word_of words 1)) x Done) (sym (found.told 2)) (called_done (files (word_of words 1)) (files (word_of words 2)) c m holds)) in
-        sym (found.true_of.only Done calls)
-
-    got : (c : Numbers) (m : Matrix) → HoldsListed (files (word_of words 1)) (files (word_of words 2)) c m → (was is : Option (List ℕ)) →
-        IfSome was (λ old. IsSomeAnd is (λ new. ForContents words (Some files) (λ k. PlayPrints k s old new))) → IfSome was (λ old. IsSomeAnd is (ArePrinted c m s old))
-    got c m holds None is h = tt
-    got c m holds (Some old) None h = h
-    got c m holds (Some old) (Some new) h = are_printed (files (word_of words 1)) (files (word_of words 2)) c m holds h.contents s old new (h.told 1) (h.told 2) h.true_of
+        sym (found.true_of.only Done (called_told words Done files play_work (called_done (λ at. files (word_of words at)) c m holds) found.contents found.told));
+    printed =
+        both_some (shows_of play_script (λ at. files (word_of words at)) s) (ArePrinted c m s) (are_printed (λ at. files (word_of words at)) c m holds s) before now
+        (shown_told words s files play_script before now prints);
+  };
+}

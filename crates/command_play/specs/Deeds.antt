@@ -1,17 +1,11 @@
 -- What `play` does: its row of the table of commands.
-use Rattle.std.specs.Prelude.{◌≡◌, ◌⊎◌, ⊤}
 use Rattle.command_line.specs.Deeds.{Deeds}
-use Rattle.command_play.specs.Play.{PlayCalls, PlayReaches, PlayStarts, PlayPrints, TellsTrapLater}
+use Rattle.command_line.specs.Script.{Work, printing_work, deeds_of_work}
+use Rattle.command_play.specs.Printing.{TellsTrapLater}
+use Rattle.command_play.specs.Play.{play_script}
+
+abbrev pub play_work : Work
+play_work = printing_work play_script TellsTrapLater
 
 abbrev pub play_deeds : Deeds
-play_deeds = record {
-  reads = λ file. (file ≡ 1) ⊎ (file ≡ 2);
-  writes = λ file. ⊥;
-  prints = ⊤;
-  calls = λ contents. PlayCalls (contents 1) (contents 2);
-  reaches = λ contents. PlayReaches (contents 1);
-  starts = λ contents. PlayStarts (contents 1) (contents 2);
-  tells = TellsTrapLater;
-  shows = λ contents. PlayPrints contents;
-  leaves = λ words s old new. new ≡ old;
-}
+play_deeds = deeds_of_work play_work

@@ -1,6 +1,6 @@
 pub mod Texts
 pub mod Plays
-pub mod Play
 pub mod Printing
+pub mod Play
 pub mod AsSolved
 pub mod Deeds

@@ -7,7 +7,6 @@ use Rattle.mac_machine.specs.Machine.{NeverTraps}
 use Rattle.mac_machine.specs.Traps.{Stops}
 use Rattle.mac_machine.specs.declared.stop.Stop.TheVariants as stops
 use Rattle.command_play.specs.Plays.{AreInBox, HaveRunRoom, IsTrapped, PlaysCall, run_lines}
-use Rattle.command_play.specs.Play.{TellsTrap}
 use Rattle.command_line.specs.declared.status.Status.{Status}
 use Rattle.command_line.specs.declared.status.Status.TheVariants.{Done, Memory, WriteFault, Trap}
 
@@ -29,6 +28,14 @@ abbrev pub PlaysEnd : Instructions → Matrix → Status → Type 0
 PlaysEnd l states s = (s ≡ Memory) ⊎ (((s ≡ WriteFault 0) × MayPrint l states) ⊎ PlaysCall l states s)
 
 -- ---- what the output gets
+-- the status tells of a trap
+abbrev pub TellsTrap : Status → Type 0
+TellsTrap s = (entry : ℕ) × (step : ℕ) × (place : ℕ) × (s ≡ Trap entry step place)
+
+-- it did so after a line: of a record before
+abbrev pub TellsTrapLater : Status → Type 0
+TellsTrapLater s = (entry : ℕ) × (step : ℕ) × (place : ℕ) × (s ≡ Trap entry step place) × (1 < entry)
+
 -- the lines of the states before the one whose run traps
 pub record AreToTrap (l : Instructions) (states : Matrix) (s : Status) (old new : List ℕ) : Type 0 where
   pub trapped : IsTrapped l states s
@@ -48,10 +55,10 @@ pub record AreSome (l : Instructions) (states : Matrix) (old new : List ℕ) : T
   pub room : HaveRunRoom l states count
   pub printed : new ≡ old ++ run_lines l states count
 
--- by the answer
+-- by the answer; a line only where all states lie in the box
 pub record PlaysPrint (l : Instructions) (states : Matrix) (s : Status) (old new : List ℕ) : Type 0 where
-  pub done : s ≡ Done → HaveRunRoom l states (length states.rows) × (new ≡ old ++ run_lines l states (length states.rows))
-  pub trap : TellsTrap s → AreToTrap l states s old new
-  pub fault : s ≡ WriteFault 0 → ArePart l states old new
+  pub done : s ≡ Done → AreInBox l states (length states.rows) × HaveRunRoom l states (length states.rows) × (new ≡ old ++ run_lines l states (length states.rows))
+  pub trap : TellsTrap s → AreInBox l states (length states.rows) × AreToTrap l states s old new
+  pub fault : s ≡ WriteFault 0 → AreInBox l states (length states.rows) × ArePart l states old new
   pub memory : s ≡ Memory → (new ≡ old) ⊎ (AreInBox l states (length states.rows) × AreSome l states old new)
   pub other : s ≢ Done → (TellsTrap s → ⊥) → s ≢ WriteFault 0 → s ≢ Memory → new ≡ old

@@ -4,8 +4,7 @@ ghost use Rattle.io_edge.specs.Faults.{Rose};
 ghost use Rattle.mac_machine.specs.Box.{IsInBox};
 ghost use Rattle.mac_machine.specs.Machine.{NeverTraps, outputs_of, play_line};
 ghost use Rattle.command_play.specs.Plays.{AreInBox, run_line};
-ghost use Rattle.command_play.specs.Play.{TellsTrapLater};
-ghost use Rattle.command_play.specs.Printing.{TrapsFrom, PlaysEnd, PlaysPrint};
+ghost use Rattle.command_play.specs.Printing.{TellsTrapLater, TrapsFrom, PlaysEnd, PlaysPrint};
 
 use command_line::Status;
 use io_edge::Sink;

@@ -1,7 +1,8 @@
 // A listing's file.
 ghost use Rattle.std.specs.Prelude.{◌≡◌, ◌≢◌, ◌⊎◌, ℕ, IfOk, IfErr};
 ghost use Rattle.io_edge.specs.Faults.{NoneFalls};
-ghost use Rattle.command_play.specs.Texts.{IsListingRead, EndsListing};
+ghost use Rattle.command_line.specs.Kind.{IsRead, EndsRead};
+ghost use Rattle.command_play.specs.Texts.{listing_kind};
 
 use command_design_files::{FILE_LIMIT, read_bytes};
 use command_line::Status;
@@ -27,8 +28,8 @@ pub fn read_listing_file<S: Store>(
     name: &str,
     store: &mut S,
 ) -> Result<Listing, Status>
-    ensures right { IfOk result (λ l. IsListingRead file (S.held store.old) name.now l) }
-    ensures ends { IfErr result (λ e. EndsListing file (S.held store.old) name.now (S.read_faults store.old name.now) (S.read_faults store.new name.now) e) }
+    ensures right { IfOk result (λ l. IsRead listing_kind file (S.held store.old) name.now l) }
+    ensures ends { IfErr result (EndsRead listing_kind file (S.held store.old) name.now (S.read_faults store.old name.now) (S.read_faults store.new name.now)) }
     ensures held { S.held store.new ≡ S.held store.old }
     ensures reads { NoneFalls (S.read_faults store.old) (S.read_faults store.new) }
     ensures writes { NoneFalls (S.write_faults store.old) (S.write_faults store.new) }

@@ -1,8 +1,8 @@
 // The lines of a listing from states, or why there are none.
-ghost use Rattle.std.specs.Prelude.{◌≡◌, ◌≢◌, ◌≤◌, ◌<◌, ◌^◌, length, IfSome, IsSomeAnd};
-ghost use Rattle.io_edge.specs.Faults.{Rose};
-ghost use Rattle.command_play.specs.Play.{TellsTrapLater};
-ghost use Rattle.command_play.specs.Printing.{PlaysEnd, PlaysPrint};
+ghost use Rattle.std.specs.Prelude.{◌≡◌, ◌<◌, ◌^◌, length};
+ghost use Rattle.command_line.specs.Does.{Prints};
+ghost use Rattle.command_play.specs.Play.{play_act};
+ghost use Rattle.command_play.specs.Deeds.{play_deeds};
 
 use crate::inside::all_inside;
 use crate::lines::print_lines;
@@ -22,11 +22,7 @@ pub fn print_plays<O: Sink>(
 ) -> Status
     requires width { states.now.cols ≡ listing.now.states }
     requires count { length states.now.rows < 2 ^ 32 }
-    ensures ends { PlaysEnd listing.now states.now result }
-    ensures printed { IfSome (O.got out.old) (λ old. IsSomeAnd (O.got out.new) (PlaysPrint listing.now states.now result old)) }
-    ensures quiet { result ≢ Status.Done → result ≢ Status.Memory → result ≢ Status.WriteFault 0 → ¬ TellsTrapLater result → out.new ≡ out.old }
-    ensures failed { result ≡ Status.WriteFault 0 → Rose (O.faults out.old) (O.faults out.new) }
-    ensures no_fewer { O.faults out.old ≤ O.faults out.new }
+    ensures { Prints O.Sink play_deeds out.old out.new result (play_act listing.now states.now) }
 {
     let Ok(mut machine) = Machine::prepare(alloc, listing) else {
         return Status::Memory;

@@ -25,12 +25,7 @@ line_of cells xi held =
 pub served_same : (cells : List Numbers) (xi row : List ℤ) (line sent : List ℕ) → sent ≡ line → xi ≡ row → IsServedLine cells xi line → IsServedLine cells row sent
 served_same cells xi row line sent is same served = subst (λ (x : List ℤ). IsServedLine cells x sent) same (subst (IsServedLine cells xi) (sym is) served)
 
--- what holds of a call that is no error
-pub told_ok : {T E P : Type 0} (r : Result T E) → is_err r ≡ false → OnOk r P → P
-told_ok (Ok x) is h = h
-told_ok (Err e) is h = absurd (let never : ⊥ = cc in never)
-
--- and a line has its line feed at least
+-- a line has its line feed at least
 served_some : (cells : List Numbers) (xi : List ℤ) (line : List ℕ) → IsServedLine cells xi line → 0 < length line
 served_some cells xi line served =
     let c = some_cell cells served.cell served.first.there in

@@ -1,8 +1,9 @@
 // The lines of cells from states, or why there are none.
-ghost use Rattle.std.specs.Prelude.{◌≡◌, ◌≢◌, ◌≤◌, ◌<◌, ◌^◌, length, IfSome, IsSomeAnd};
-ghost use Rattle.io_edge.specs.Faults.{Rose};
+ghost use Rattle.std.specs.Prelude.{◌<◌, ◌^◌, length};
+ghost use Rattle.command_line.specs.Does.{Prints};
 ghost use Rattle.command_serve.specs.Served.{HaveWidth};
-ghost use Rattle.command_serve.specs.Printing.{ServedEnd, ServedPrint};
+ghost use Rattle.command_serve.specs.Serve.{serve_act};
+ghost use Rattle.command_serve.specs.Deeds.{serve_deeds};
 
 use crate::lines::{kernels_of, print_served};
 use crate::unserved::all_served;
@@ -22,11 +23,7 @@ pub fn serve_states<O: Sink>(
     requires some { 0 < length cells.now }
     requires width { HaveWidth cells.now states.now.cols }
     requires count { length states.now.rows < 2 ^ 32 }
-    ensures ends { ServedEnd cells.now states.now result }
-    ensures printed { IfSome (O.got out.old) (λ old. IsSomeAnd (O.got out.new) (λ new. ServedPrint cells.now states.now result old new)) }
-    ensures quiet { result ≢ Status.Done → result ≢ Status.Memory → result ≢ Status.WriteFault 0 → out.new ≡ out.old }
-    ensures failed { result ≡ Status.WriteFault 0 → Rose (O.faults out.old) (O.faults out.new) }
-    ensures no_fewer { O.faults out.old ≤ O.faults out.new }
+    ensures { Prints O.Sink serve_deeds out.old out.new result (serve_act cells.now states.now) }
 {
     let Ok(mut kernels) = kernels_of(alloc, cells) else {
         return Status::Memory;

@@ -2,9 +2,7 @@
 pub mod BoxLines
 -- what a certificate calls for
 pub mod Calling
--- what the files make of the answer, and what is printed
-pub mod Opening
+-- the script, and what is answered and printed once the files are read
 pub mod Answering
-pub mod Row
 -- where all loops settle
 pub mod Settled

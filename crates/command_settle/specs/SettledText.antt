@@ -11,11 +11,15 @@ turn_line turn = text_of (line_of (codes "turn") (pos turn ∷ []) ∷ [])
 abbrev pub coordinate_line : Box → ℕ → List ℕ
 coordinate_line z i = text_of (line_of (codes "state") (pos (i + 1) ∷ z.low i ∷ z.high i ∷ []) ∷ [])
 
--- those of the first coordinates
-unfoldable pub coordinate_lines : Box → ℕ → List ℕ
-coordinate_lines z zero = []
-coordinate_lines z (suc k) = coordinate_lines z k ++ coordinate_line z k
+-- the line of row k of the cost: its number from 1, the turns from a start after which it lies there, and its least and its greatest over row_den 2^grid
+abbrev pub cost_line : (turns : ℕ) → Box → ℕ → List ℕ
+cost_line turns z k = text_of (line_of (codes "cost") (pos (k + 1) ∷ pos turns ∷ z.low k ∷ z.high k ∷ []) ∷ [])
 
--- the turn, and the box of n coordinates
-abbrev pub settled_text : (turn n : ℕ) → Box → List ℕ
-settled_text turn n z = turn_line turn ++ coordinate_lines z n
+-- the first lines of these
+unfoldable pub lines_to : (line : ℕ → List ℕ) → ℕ → List ℕ
+lines_to line zero = []
+lines_to line (suc k) = lines_to line k ++ line k
+
+-- the turn and the box of n coordinates, and m rows of the cost
+abbrev pub settled_text : (turn n : ℕ) → Box → (after m : ℕ) → Box → List ℕ
+settled_text turn n z after m y = (turn_line turn ++ lines_to (coordinate_line z) n) ++ lines_to (cost_line after y) m

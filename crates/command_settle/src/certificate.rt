@@ -6,7 +6,8 @@ ghost use Rattle.number_text.specs.declared.text_fault.TextFault.{TextFault};
 ghost use Rattle.number_text.specs.declared.text_fault.TextFault.TheVariants.{Memory};
 ghost use Rattle.settle_check.specs.Still.{box_of};
 ghost use Rattle.settle_check.specs.CertificateText.{CertificateNumbers, certificate_numbers, IsCertificateText, IsCertificateFault};
-ghost use Rattle.command_settle.specs.CertificateFile.{IsCertificateRead, EndsCertificate};
+ghost use Rattle.command_line.specs.Kind.{IsRead, EndsRead};
+ghost use Rattle.command_settle.specs.CertificateFile.{certificate_kind};
 
 use command_line::Status;
 use command_loop::{FILE_LIMIT, read_bytes, text_status};
@@ -24,9 +25,9 @@ pub fn read_certificate_file<S: Store>(
     controller: &Controller,
     store: &mut S,
 ) -> Result<CertificateParts, Status>
-    ensures right { IfOk result (λ p. IsCertificateRead controller.now file (S.held store.old) name.now (certificate_numbers p)) }
+    ensures right { IfOk result (λ p. IsRead (certificate_kind controller.now) file (S.held store.old) name.now (certificate_numbers p)) }
     ensures sized { IfOk result (IsCertificateFor controller.now.states) }
-    ensures ends { IfErr result (λ e. EndsCertificate controller.now file (S.held store.old) name.now
+    ensures ends { IfErr result (λ e. EndsRead (certificate_kind controller.now) file (S.held store.old) name.now
         (S.read_faults store.old name.now) (S.read_faults store.new name.now) e) }
     ensures held { S.held store.new ≡ S.held store.old }
     ensures reads { NoneFalls (S.read_faults store.old) (S.read_faults store.new) }
@@ -46,7 +47,8 @@ fn certificate_for(
     controller: &Controller,
 ) -> Result<CertificateParts, TextFault>
     requires { length bytes.now < 2 ^ 32 }
-    ensures found { IfOk result (λ p. IsCertificateText bytes.now controller.now.states (box_of controller.now.low controller.now.high) (certificate_numbers p)) }
+    ensures found { IfOk result (λ p.
+        IsCertificateText bytes.now controller.now.states (box_of controller.now.low controller.now.high) (certificate_numbers p)) }
     ensures sized { IfOk result (IsCertificateFor controller.now.states) }
     ensures fault { IfErr result (λ e. (e ≡ Memory)
         ⊎ IsCertificateFault bytes.now controller.now.states (box_of controller.now.low controller.now.high) e) }

@@ -4,12 +4,12 @@ ghost use Rattle.qp_model.specs.problem.Parts.{design_of};
 ghost use Rattle.qp_model.specs.machine.Successor.{IsFor};
 ghost use Rattle.state_files.specs.RangeText.{IsShiftRange};
 ghost use Rattle.settle_check.specs.Still.{box_of, IsPartOf};
-ghost use Rattle.settle_check.specs.Settling.{LoopsSettle};
+ghost use Rattle.settle_check.specs.Settling.{LoopsSettle, told_rows};
 ghost use Rattle.settle_check.specs.Settles.{PassesSettling};
 ghost use Rattle.settle_check.specs.Certificates.{state_box, IsCertificateFor, IsBoxOf};
 ghost use Rattle.settle_check.specs.CertificateText.{certificate_numbers, certificate_in};
 ghost use Rattle.command_line.specs.Answers.{IsAnswer};
-ghost use Rattle.command_settle.specs.Settle.{settle_status, range_box, CertificateCalls, told_box, told_text};
+ghost use Rattle.command_settle.specs.Settle.{settle_status, range_box, CertificateCalls, told_box, told_costs, told_text};
 ghost use Rattle.command_settle.specs.Files.{IsUntold};
 
 use crate::lines::settled_text;
@@ -17,7 +17,7 @@ use command_line::Status;
 use mat_int::Mat;
 use overflow_check::Controller;
 use qp_model::{Design, Quantity, Refusal};
-use settle_check::{CertificateParts, SettleFault, StateBox, check_settling};
+use settle_check::{CertificateParts, SettleFault, Settled, check_settling};
 use std::alloc::Global;
 
 // The status that tells why a certificate doesn't show that loops settle.
@@ -60,13 +60,15 @@ fn box_settled(
     controller: &Controller,
     certificate: &CertificateParts,
     range: &Mat,
-) -> Result<StateBox, Status>
+) -> Result<Settled, Status>
     requires matched { IsFor controller.now (design_of design.now) }
     requires certificate { IsCertificateFor controller.now.states certificate.now }
     requires inside { IsPartOf controller.now.states (box_of controller.now.low controller.now.high) (state_box certificate.now.still) }
     requires range { IsShiftRange controller.now.states range.now }
-    ensures rest { IfOk result (IsBoxOf (design_of design.now).states
-        (told_box (design_of design.now) controller.now (certificate_numbers certificate.now) range.now)) }
+    ensures rest { IfOk result (λ b. IsBoxOf (design_of design.now).states
+        (told_box (design_of design.now) controller.now (certificate_numbers certificate.now) range.now) b.rest) }
+    ensures costs { IfOk result (λ b. IsBoxOf (told_rows (design_of design.now) certificate.now.after)
+        (told_costs (design_of design.now) controller.now (certificate_numbers certificate.now) range.now) b.costs) }
     ensures settles { IfOk result (λ _. LoopsSettle (design_of design.now) controller.now
         (range_box range.now) (certificate_in (certificate_numbers certificate.now))) }
     ensures passes { IfOk result (λ _. PassesSettling (design_of design.now) controller.now
@@ -77,7 +79,7 @@ fn box_settled(
 {
     let (d, c) = (design.parts(), controller.parts());
     match check_settling(alloc, d, c, certificate, range.row(0), range.row(1)) {
-        Ok(rest) => Ok(rest),
+        Ok(settled) => Ok(settled),
         Err(fault) => Err(settle_status(fault)),
     }
 }
@@ -103,8 +105,8 @@ pub fn text_settled(
         IsAnswer (CertificateCalls (design_of design.now) controller.now (certificate_numbers certificate.now) range.now) Status.Done) }
     ensures ends { IfErr result (IsUntold (design_of design.now) controller.now (certificate_numbers certificate.now) range.now) }
 {
-    let rest = box_settled(alloc, design, controller, certificate, range)?;
-    let text = settled_text(alloc, certificate.turns, &rest);
-    drop(rest);
+    let settled = box_settled(alloc, design, controller, certificate, range)?;
+    let text = settled_text(alloc, certificate.turns, certificate.after, &settled);
+    drop(settled);
     Ok(text?)
 }

@@ -1,183 +1,107 @@
-// The files of `settle`.
-ghost use Rattle.std.specs.Prelude.{◌≡◌, Ok, Err, IfOk, IfErr};
-ghost use Rattle.io_edge.specs.Faults.{NoneFalls};
+// The files of `settle`, one after the other.
+ghost use Rattle.std.specs.Prelude.{◌≡◌};
 ghost use Rattle.qp_model.specs.problem.Parts.{design_of};
 ghost use Rattle.qp_model.specs.machine.Successor.{IsFor};
-ghost use Rattle.state_files.specs.RangeText.{IsShiftRange};
 ghost use Rattle.settle_check.specs.Still.{box_of, IsPartOf};
 ghost use Rattle.settle_check.specs.Certificates.{state_box, IsCertificateFor};
 ghost use Rattle.settle_check.specs.CertificateText.{certificate_numbers};
-ghost use Rattle.command_line.specs.Words.{word_of, IsSettle};
-ghost use Rattle.command_loop.specs.DesignFiles.Reading.{IsDesignRead};
-ghost use Rattle.command_loop.specs.CommandFiles.Reading.{IsControllerRead};
-ghost use Rattle.command_settle.specs.Disturbances.{AreDisturbancesTaken, EndsDisturbances};
-ghost use Rattle.command_settle.specs.Files.{AreCertificateRead, EndsCertificateUnder, AreSettlingRead, EndsUnprinted};
+ghost use Rattle.command_line.specs.Words.{IsSettle};
+ghost use Rattle.command_line.specs.Running.{Runs};
+ghost use Rattle.command_settle.specs.Settle.{settle_range, settle_certificate, settle_design};
+ghost use Rattle.command_settle.specs.Deeds.{settle_deeds};
 
 use crate::certificate::read_certificate_file;
+use crate::printing::print_settled;
 use command_line::Status;
-use command_loop::{read_controller_for, read_design_file, read_range_file};
-use io_edge::{Store, Words};
+use command_loop::{mismatch_of, read_controller_file, read_range_file};
+use io_edge::{Sink, Store, Words};
 use mat_int::Mat;
 use overflow_check::Controller;
 use qp_model::Design;
 use settle_check::CertificateParts;
 use std::alloc::Global;
 
-/// A certificate, and the range of the shifts under which it is to hold.
-#[derive(Drop)]
-pub struct CertificateUnder {
-    pub certificate: CertificateParts,
-    pub range: Mat,
-}
-
-/// A design, a controller for it, and a certificate under a range of shifts.
-#[derive(Drop)]
-pub struct Settling {
-    pub design: Design,
-    pub controller: Controller,
-    pub under: CertificateUnder,
-}
-
-// The range of the shifts of `n` coordinates: that in the fourth file where there are disturbances, and zeros where there are none.
-fn take_disturbances<S: Store>(
+// The range of the disturbances, and what a certificate shows under it. Where there are none, the range is of zeros.
+fn run_certificate<S: Store, O: Sink>(
     alloc: Global,
     words: &Words,
     disturbed: bool,
-    n: usize,
-    store: &mut S,
-) -> Result<Mat, Status>
-    requires { IsSettle words.now disturbed }
-    ensures right { IfOk result (AreDisturbancesTaken disturbed n (S.held store.old) (word_of words.now 4)) }
-    ensures sized { IfOk result (IsShiftRange n) }
-    ensures ends { IfErr result (EndsDisturbances disturbed n (S.held store.old) (word_of words.now 4)
-        (S.read_faults store.old (word_of words.now 4)) (S.read_faults store.new (word_of words.now 4))) }
-    ensures held { S.held store.new ≡ S.held store.old }
-    ensures reads { NoneFalls (S.read_faults store.old) (S.read_faults store.new) }
-    ensures writes { NoneFalls (S.write_faults store.old) (S.write_faults store.new) }
-{
-    if disturbed {
-        read_range_file(alloc, 4, words.at(4), n, store)
-    } else {
-        Ok(Mat::zero(alloc, 2, n)?)
-    }
-}
-
-// The certificate in the third file, and then the range of the shifts.
-fn read_certificate_under<S: Store>(
-    alloc: Global,
-    words: &Words,
-    disturbed: bool,
+    design: &Design,
     controller: &Controller,
+    certificate: &CertificateParts,
     store: &mut S,
-) -> Result<CertificateUnder, Status>
-    requires { IsSettle words.now disturbed }
-    ensures right { IfOk result (λ u.
-        AreCertificateRead disturbed words.now (S.held store.old) controller.now (certificate_numbers u.certificate) u.range) }
-    ensures sized { IfOk result (λ u. IsCertificateFor controller.now.states u.certificate) }
-    ensures range { IfOk result (λ u. IsShiftRange controller.now.states u.range) }
-    ensures ends { IfErr result (EndsCertificateUnder disturbed controller.now words.now
-        (S.held store.old) (S.read_faults store.old) (S.read_faults store.new)) }
-    ensures held { S.held store.new ≡ S.held store.old }
-    ensures reads { NoneFalls (S.read_faults store.old) (S.read_faults store.new) }
-    ensures writes { NoneFalls (S.write_faults store.old) (S.write_faults store.new) }
+    out: &mut O,
+) -> Status
+    requires words { IsSettle words.now disturbed }
+    requires matched { IsFor controller.now (design_of design.now) }
+    requires certificate { IsCertificateFor controller.now.states certificate.now }
+    requires inside { IsPartOf controller.now.states (box_of controller.now.low controller.now.high) (state_box certificate.now.still) }
+    ensures { Runs S.Store O.Sink words.now (settle_deeds disturbed) store.old store.new out.old out.new result
+        (settle_range disturbed (design_of design.now) controller.now (certificate_numbers certificate.now)) }
 {
-    let certificate = read_certificate_file(alloc, 3, words.at(3), controller, store)?;
-    match take_disturbances(alloc, words, disturbed, controller.parts().n, store) {
-        Ok(range) => Ok(CertificateUnder { certificate, range }),
-        Err(status) => {
-            drop(certificate);
-            Err(status)
+    let n = controller.parts().n;
+    if disturbed {
+        match read_range_file(alloc, 4, words.at(4), n, store) {
+            Ok(range) => print_settled(alloc, design, controller, certificate, &range, out),
+            Err(status) => status,
+        }
+    } else {
+        match Mat::zero(alloc, 2, n) {
+            Ok(range) => print_settled(alloc, design, controller, certificate, &range, out),
+            Err(_) => Status::Memory,
         }
     }
 }
 
-// A design, a controller and what was read after them, or the status that ended that read.
-fn settling_of(
-    design: Design,
-    controller: Controller,
-    under: Result<CertificateUnder, Status>,
-) -> Result<Settling, Status>
-    ensures design { IfOk result (λ s. s.design ≡ design) }
-    ensures controller { IfOk result (λ s. s.controller ≡ controller) }
-    ensures under { IfOk result (λ s. under ≡ Ok s.under) }
-    ensures ends { IfErr result (λ e. under ≡ Err e) }
+// The certificate, and what comes after it, for a controller that is for the design.
+fn run_controller<S: Store, O: Sink>(
+    alloc: Global,
+    words: &Words,
+    disturbed: bool,
+    design: &Design,
+    controller: &Controller,
+    store: &mut S,
+    out: &mut O,
+) -> Status
+    requires words { IsSettle words.now disturbed }
+    requires matched { IsFor controller.now (design_of design.now) }
+    ensures { Runs S.Store O.Sink words.now (settle_deeds disturbed) store.old store.new out.old out.new result
+        (settle_certificate disturbed (design_of design.now) controller.now) }
 {
-    match under {
-        Ok(under) => Ok(Settling {
+    match read_certificate_file(alloc, 3, words.at(3), controller, store) {
+        Ok(certificate) => run_certificate(
+            alloc,
+            words,
+            disturbed,
             design,
             controller,
-            under,
-        }),
-        Err(status) => Err(status),
+            &certificate,
+            store,
+            out,
+        ),
+        Err(status) => status,
     }
 }
 
-// What stands after the controller, after a design and a controller for it were read from the first two files.
-fn read_after_controller<S: Store>(
+/// The controller, which is to be for the design, and what comes after it.
+pub fn run_design<S: Store, O: Sink>(
     alloc: Global,
     words: &Words,
     disturbed: bool,
-    design: Design,
-    controller: Controller,
+    design: &Design,
     store: &mut S,
-) -> Result<Settling, Status>
-    requires words { IsSettle words.now disturbed }
-    requires design { IsDesignRead 1 (S.held store.now) (word_of words.now 1) design }
-    requires controller { IsControllerRead 2 (S.held store.now) (word_of words.now 2) controller }
-    requires matched { IsFor controller (design_of design) }
-    ensures right { IfOk result (λ s.
-        AreSettlingRead disturbed words.now (S.held store.old) s.design s.controller (certificate_numbers s.under.certificate) s.under.range) }
-    ensures sized { IfOk result (λ s. IsCertificateFor s.controller.states s.under.certificate) }
-    ensures range { IfOk result (λ s. IsShiftRange s.controller.states s.under.range) }
-    ensures ends { IfErr result (EndsUnprinted disturbed words.now (S.held store.old) (S.read_faults store.old) (S.read_faults store.new)) }
-    ensures held { S.held store.new ≡ S.held store.old }
-    ensures reads { NoneFalls (S.read_faults store.old) (S.read_faults store.new) }
-    ensures writes { NoneFalls (S.write_faults store.old) (S.write_faults store.new) }
-{
-    let under = read_certificate_under(alloc, words, disturbed, &controller, store);
-    settling_of(design, controller, under)
-}
-
-// The controller's file and what stands after it, after a design was read from the first.
-fn read_after_design<S: Store>(
-    alloc: Global,
-    words: &Words,
-    disturbed: bool,
-    design: Design,
-    store: &mut S,
-) -> Result<Settling, Status>
-    requires words { IsSettle words.now disturbed }
-    requires design { IsDesignRead 1 (S.held store.now) (word_of words.now 1) design }
-    ensures right { IfOk result (λ s.
-        AreSettlingRead disturbed words.now (S.held store.old) s.design s.controller (certificate_numbers s.under.certificate) s.under.range) }
-    ensures sized { IfOk result (λ s. IsCertificateFor s.controller.states s.under.certificate) }
-    ensures range { IfOk result (λ s. IsShiftRange s.controller.states s.under.range) }
-    ensures ends { IfErr result (EndsUnprinted disturbed words.now (S.held store.old) (S.read_faults store.old) (S.read_faults store.new)) }
-    ensures held { S.held store.new ≡ S.held store.old }
-    ensures reads { NoneFalls (S.read_faults store.old) (S.read_faults store.new) }
-    ensures writes { NoneFalls (S.write_faults store.old) (S.write_faults store.new) }
-{
-    let controller = read_controller_for(alloc, words.at(2), &design, store)?;
-    read_after_controller(alloc, words, disturbed, design, controller, store)
-}
-
-/// All files, or the status that ends the run.
-pub fn read_settling<S: Store>(
-    alloc: Global,
-    words: &Words,
-    disturbed: bool,
-    store: &mut S,
-) -> Result<Settling, Status>
+    out: &mut O,
+) -> Status
     requires { IsSettle words.now disturbed }
-    ensures right { IfOk result (λ s.
-        AreSettlingRead disturbed words.now (S.held store.old) s.design s.controller (certificate_numbers s.under.certificate) s.under.range) }
-    ensures sized { IfOk result (λ s. IsCertificateFor s.controller.states s.under.certificate) }
-    ensures range { IfOk result (λ s. IsShiftRange s.controller.states s.under.range) }
-    ensures ends { IfErr result (EndsUnprinted disturbed words.now (S.held store.old) (S.read_faults store.old) (S.read_faults store.new)) }
-    ensures held { S.held store.new ≡ S.held store.old }
-    ensures reads { NoneFalls (S.read_faults store.old) (S.read_faults store.new) }
-    ensures writes { NoneFalls (S.write_faults store.old) (S.write_faults store.new) }
+    ensures { Runs S.Store O.Sink words.now (settle_deeds disturbed) store.old store.new out.old out.new result
+        (settle_design disturbed (design_of design.now)) }
 {
-    let design = read_design_file(alloc, 1, words.at(1), store)?;
-    read_after_design(alloc, words, disturbed, design, store)
+    let controller = match read_controller_file(alloc, 2, words.at(2), store) {
+        Ok(controller) => controller,
+        Err(ended) => return ended,
+    };
+    match mismatch_of(design, &controller) {
+        Some(status) => status,
+        None => run_controller(alloc, words, disturbed, design, &controller, store, out),
+    }
 }

@@ -6,5 +6,6 @@ mod check;
 mod command;
 mod files;
 mod lines;
+mod printing;
 
 pub use command::settle;

@@ -1,4 +1,2 @@
 pub mod Solve
-pub mod Inside
-pub mod Printing
 pub mod Deeds

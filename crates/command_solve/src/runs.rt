@@ -1,7 +1,8 @@
 // The lines of a controller from states, or why there are none.
-ghost use Rattle.std.specs.Prelude.{◌≡◌, ◌≢◌, ◌≤◌, ◌<◌, ◌^◌, length, IfSome, IsSomeAnd};
-ghost use Rattle.io_edge.specs.Faults.{Rose};
-ghost use Rattle.command_solve.specs.Printing.{RunsEnd, RunsPrint};
+ghost use Rattle.std.specs.Prelude.{◌≡◌, ◌<◌, ◌^◌, length};
+ghost use Rattle.command_line.specs.Does.{Prints};
+ghost use Rattle.command_solve.specs.Solve.{solve_act};
+ghost use Rattle.command_solve.specs.Deeds.{solve_deeds};
 
 use crate::inside::all_inside;
 use command_line::Status;
@@ -21,11 +22,7 @@ pub fn print_runs<O: Sink>(
 ) -> Status
     requires width { states.now.cols ≡ controller.now.states }
     requires count { length states.now.rows < 2 ^ 32 }
-    ensures ends { RunsEnd controller.now states.now result }
-    ensures printed { IfSome (O.got out.old) (λ old. IsSomeAnd (O.got out.new) (λ new. RunsPrint controller.now states.now result old new)) }
-    ensures quiet { result ≢ Status.Done → result ≢ Status.Memory → result ≢ Status.WriteFault 0 → out.new ≡ out.old }
-    ensures failed { result ≡ Status.WriteFault 0 → Rose (O.faults out.old) (O.faults out.new) }
-    ensures no_fewer { O.faults out.old ≤ O.faults out.new }
+    ensures { Prints O.Sink solve_deeds out.old out.new result (solve_act controller.now states.now) }
 {
     let Ok(mut kernel) = Kernel::prepare(alloc, controller) else {
         return Status::Memory;

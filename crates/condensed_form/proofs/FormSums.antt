@@ -72,9 +72,6 @@ module _ (fine : Bool) (p : DesignParts) (c : Condensed) (is : IsFormIn fine p c
   pub hessian_row : (i : ℕ) → i < entries (design_of p) → amount (entries (design_of p)) (far_hessian c i) ≤ hessian_in fine (design_of p)
   hessian_row i l = through (amount_term i (entries (design_of p)) (λ i. amount (entries (design_of p)) (far_hessian c i)) l) hessian_numbers
 
-  pub hessian_entry : (i j : ℕ) → i < entries (design_of p) → j < entries (design_of p) → far_hessian c i j ≤ hessian_in fine (design_of p)
-  hessian_entry i j l m = through (amount_term j (entries (design_of p)) (far_hessian c i) m) (hessian_row i l)
-
   pub diagonal_numbers : amount (entries (design_of p)) (λ j. far_hessian c j j) ≤ hessian_in fine (design_of p)
   diagonal_numbers = through (amount_mono (entries (design_of p)) _ _ (λ j l. amount_term j (entries (design_of p)) (far_hessian c j) l)) hessian_numbers
 

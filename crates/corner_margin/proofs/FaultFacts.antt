@@ -20,9 +20,6 @@ no_margin_same e = (cc, (cc, cc))
 pub same_error : {T U E : Type 0} {r : Result T E} {o : Result U E} {x y z : E} → r ≡ Err y → r ≡ Err z → o ≡ Err x → y ≡ x → o ≡ Err z
 same_error a b h e = cc
 
-handed_error : {T U E : Type 0} {r : Result T E} {o : Result U E} {x y z : E} → r ≡ Err y → o ≡ Err z → o ≡ Err x → y ≡ x → r ≡ Err z
-handed_error a b h e = cc
-
 -- ---- the places of a corner and of a row
 pub corner_few : (number states : ℕ) → number < 2 ^ states → states ≤ 6 → number < 64
 corner_few number states h k = let p : 2 ^ states ≤ 2 ^ 6 = pow-le-pow_right {n = 2} (omega arith) {i = states} {j = 6} k in omega (arith, h, p)
@@ -101,10 +98,3 @@ none_made P e = rw e tt
 
 pub none_on : {T : Type 0} {r : Result T MarginFault} {x : MarginFault} (P : Type 0) → r ≡ Err x → OnOk r P
 none_on P e = rw e tt
-
--- a fault is of one kind
-pub wide_unmemory : {T : Type 0} {q : Quantity} → ◌≡◌ {A = Result T MarginFault} (Err (TooWide q)) (Err Memory) → ⊥
-wide_unmemory e = cc
-
-pub wide_unshort : {T : Type 0} {q : Quantity} {c r : ℕ} {s : Frac} → ◌≡◌ {A = Result T MarginFault} (Err (TooWide q)) (Err (NoMargin c r s)) → ⊥
-wide_unshort e = cc

@@ -1,6 +1,6 @@
 -- What an answer says of the tests, and what is certified for what is built.
 use Rattle.std.proofs.Common.{◌≡◌, inl, inr, ◌⊎◌, ℕ, ◌<◌, ◌≤◌, ℤ, List, length, unsigned_abs, refl, ap, subst, rules, arith, Result, Ok, Err}
-use Rattle.std.specs.Prelude.{IfOk, IfErr, OnOk, IsOk}
+use Rattle.std.specs.Prelude.{IfOk, OnOk, IsOk}
 use Rattle.std.specs.Result.{IsErr, IsErrAnd}
 use Rattle.qp_model.specs.problem.Parts.{design_of}
 use Rattle.qp_model.specs.problem.Policy.{Plans, IsPolicyFor}
@@ -53,10 +53,6 @@ carried_with p a c some h xi long inside k l = carried p (form_of (design_of p))
 pub ok_map : {T E : Type 0} (r : Result T E) (p q : T → Type 0) → IfOk r p → ((x : T) → p x → q x) → IfOk r q
 ok_map (Ok x) p q h f = f x h
 ok_map (Err e) p q h f = h
-
-pub err_map : {T E : Type 0} (r : Result T E) (p q : E → Type 0) → IfErr r p → ((e : E) → p e → q e) → IfErr r q
-err_map (Ok x) p q h f = h
-err_map (Err e) p q h f = f e h
 
 pub absent_of_error : {T E : Type 0} (r : Result T E) (p : T → Type 0) → IsErr r → IfOk r p
 absent_of_error (Ok x) p h = absurd (search rules)

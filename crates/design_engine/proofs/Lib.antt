@@ -18,7 +18,6 @@ pub mod StageLaws
 pub mod CauseLaws
 pub mod AgreementLaws
 -- ---- what `generate` answers
-pub mod Classes
 pub mod GenerationFacts
 pub mod CauseCases
 pub mod RefusalFacts

@@ -1,7 +1,6 @@
 -- What tests of keys one after another answer, where all are made and the fault is the same.
-use Rattle.std.proofs.Common.{◌≡◌, ◌↔◌, IsTrue, Bool, true, false, List, [], ◌∷◌, ◌++◌, Option, Some, Result, Ok, Err, inl, refl}
-use Rattle.std.specs.Prelude.{◌&&◌, IfSome}
-use Rattle.toml.specs.Data.{Members}
+use Rattle.std.proofs.Common.{◌≡◌, ◌↔◌, IsTrue, Bool, true, false, List, [], ◌∷◌, ◌++◌, Result, Ok, Err, inl, refl}
+use Rattle.std.specs.Prelude.{◌&&◌}
 use Rattle.qp_model.specs.problem.Rules.{Rule, AllHold, IsFirstBroken, Tests, key}
 use Rattle.number_text.specs.declared.text_fault.TextFault.{TextFault}
 use Rattle.number_text.specs.declared.text_fault.TextFault.TheVariants.{Key}
@@ -21,10 +20,6 @@ more : (rules : List Rule) (a b : Bool) (P : Type 0) → Tests (told a) rules �
 more rules true true P held h = all_hold rules (key 0 P ∷ []) held (one P true h)
 more rules true false P held h = broken_after rules (key 0 P ∷ []) (Key 0) held (one P false h)
 more rules false b P broken h = broken_before rules (key 0 P ∷ []) (Key 0) broken
-
--- of the keys of a table that is there
-pub at_table : (o : Option Members) (t : Members) (Q : Members → Type 0) (b : Bool) → o ≡ Some t → IsTrue b ↔ Q t → IsTrue b ↔ IfSome o Q
-at_table o t Q b e h = rw e h
 
 -- of six
 module _ (P Q R S T U : Type 0) (a b c d e f : Bool) (p : IsTrue a ↔ P) (q : IsTrue b ↔ Q) (r : IsTrue c ↔ R) (s : IsTrue d ↔ S) (t : IsTrue e ↔ T) (u : IsTrue f ↔ U) where

@@ -1,5 +1,5 @@
 -- Products of columns, and matrices made row by row.
-use Rattle.std.proofs.Common.{◌≡◌, ℕ, zero, suc, ◌+◌, ◌*◌, ◌^◌, ◌<◌, ◌≤◌, ℤ, pos, negsuc, ◌+ℤ◌, ◌*ℤ◌, ◌≤ℤ◌, List, [], length, replicate, refl, get_or, unsigned_abs, arith, sym, ap, ◌∙◌, below_more, lit<, set, inl, inr}
+use Rattle.std.proofs.Common.{◌≡◌, ℕ, zero, suc, ◌+◌, ◌*◌, ◌^◌, ◌<◌, ◌≤◌, ℤ, pos, negsuc, ◌+ℤ◌, ◌*ℤ◌, ◌≤ℤ◌, List, [], length, replicate, refl, get_or, unsigned_abs, arith, sym, ap, ◌∙◌, below_more, set, inl, inr}
 use Rattle.std.proofs.lemmas.Int.{unsigned_abs-mul, ints}
 use Rattle.std.proofs.lemmas.Bool.{cases_eq, cases_lt}
 use Rattle.std.proofs.lemmas.List.{length-replicate, get_or-replicate, length-set, set_past, get_or-set_same, get_or-set_other}
@@ -8,14 +8,14 @@ use Rattle.integer_algebra.specs.Bounds.{absolute}
 use Rattle.integer_algebra.specs.Sums.{at}
 use Rattle.integer_algebra.proofs.BoundLaws.{absolute_nonneg}
 use Rattle.integer_algebra.proofs.OrderLaws.{add_nonneg_z, mul_nonneg_z}
-use Rattle.integer_algebra.proofs.SumLaws.{total_same, total_nonneg}
+use Rattle.integer_algebra.proofs.SumLaws.{total_same}
 use Rattle.integer_algebra.proofs.SizeLaws.{total_amount}
 use Rattle.frac_scaled.specs.Enclosures.{Enclosure, whole_product, magnitude}
 use Rattle.mat_int.specs.Matrix.{Matrix, row_of, entry_of, with_entry, zero_matrix, HasEntries}
 use Rattle.mat_int.proofs.MatrixLaws.{entry_here, entry_beside, entry_elsewhere, even_kept}
-use Rattle.mat_int.specs.Enclosures.{gram_sum, weighted_gram, gram_magnitude, AreEnclosures, HasEnclosures}
+use Rattle.mat_int.specs.Enclosures.{gram_magnitude, AreEnclosures, HasEnclosures}
 use Rattle.enclosure.specs.Rows.{HasBegun, AreBegun}
-use Rattle.enclosure.proofs.RoomLaws.{reach_is, reach_mul_is, ceil_small, inexact_small}
+use Rattle.enclosure.proofs.RoomLaws.{reach_is, reach_mul_is}
 use Rattle.enclosure.proofs.SumLaws.{combination_size}
 
 -- ---- products
@@ -61,13 +61,6 @@ gram_reach_is n w x j l h k =
     term (pos w) a b h k l =
         ap (λ (z : ℤ). pos w *ℤ z) (reach_mul_is a.mid a.rad b.mid b.rad k l) ∙ ap (λ (n : ℕ). pos (w * n)) (sym (product_reach a b k l))
     term (negsuc w) a b h k l = absurd h.le
-
--- no radius of an entry is negative
-pub gram_nonneg : (n : ℕ) (w : ℕ → ℤ) (x : ℕ → ℕ → Enclosure) (j l : ℕ) →
-    ((i : ℕ) → i < n → (pos 0 ≤ℤ (x i j).rad) × (pos 0 ≤ℤ (x i l).rad)) → pos 0 ≤ℤ (weighted_gram n w x j l).rad
-gram_nonneg n w x j l h =
-    add_nonneg_z (ceil_small (gram_sum n w x j l).rad (2 ^ 40) (total_nonneg n _ (λ i s. mul_nonneg_z _ _ (absolute_nonneg (w i)) (product_nonneg (x i j) (x i l) (h i s).0 (h i s).1))) (lit< tt)).0
-    (inexact_small (gram_sum n w x j l).mid (2 ^ 40)).0
 
 -- ---- matrices
 -- no row yet

@@ -149,9 +149,6 @@ floored d sound c v = closed (pos (cost_scale d)) (curvature d v) (pos (input_fl
         (rw eq (by_ring (w ∷ r ∷ g ∷ a ∷ o ∷ x ∷ f ∷ []) (search quotes depth 60 fits 20000) refl)))
 
 -- ---- the test of the squares
--- no radius
-pub farthest_none : (x : ℤ) → farthest x 0 ≡ unsigned_abs x
-farthest_none x = omega arith
 
 sum_pos : (x y : ℕ) {a b : ℤ} → a ≡ pos x → b ≡ pos y → a +ℤ b ≡ pos (x + y)
 sum_pos x y e f = omega (arith, ints, e, f)

@@ -16,7 +16,7 @@ use Rattle.integer_algebra.proofs.VectorLaws.{dot_same, quadratic_scale}
 use Rattle.hessian_check.specs.Dominance.{IsSymmetric, form}
 use Rattle.hessian_check.specs.Curvature.{Curved, HeldMatrices, IsHeld, held_exactly, lowered, raised_diagonal, difference, weighted_products, exact_matrix, exponent_matrix, radius_of, BoundsRows}
 use Rattle.hessian_check.proofs.FormLaws.{form_sub, dominance_law}
-use Rattle.integer_algebra.proofs.AmountLaws.{amount_mono, amount_none, amount_scale}
+use Rattle.integer_algebra.proofs.AmountLaws.{amount_mono, amount_scale}
 use Rattle.hessian_check.proofs.CurvatureLaws.{matrix_law, gram_turned, exact_symmetric}
 
 -- ---- a matrix that lies within radii of another
@@ -183,11 +183,3 @@ exact_law c h = record {
   half = λ i j k l. none_apart (c.half i j);
   products = λ i j k l. none_apart (weighted_products c.count c.weight c.row i j);
 }
-
--- without radii nothing is lowered
-pub exact_is : (c : Curved) (s i j : ℕ) → exponent_matrix c (held_exactly c) s i j ≡ exact_matrix c s i j
-exact_is c s i j = rw (amount_none c.entries (radius_of c (held_exactly c) s i) (λ k l. omega arith)) (none (nat_eq j i) (exact_matrix c s i j))
-  where
-    none : (b : Bool) (x : ℤ) → x -ℤ (if b then pos 0 else pos 0) ≡ x
-    none true x = omega (arith, ints)
-    none false x = omega (arith, ints)

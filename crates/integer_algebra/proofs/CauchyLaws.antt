@@ -1,26 +1,16 @@
 -- Squares of sums and of scalar products against sums of squares.
-use Rattle.std.proofs.Common.{◌≡◌, ℕ, zero, suc, ℤ, pos, negsuc, ◌+ℤ◌, ◌-ℤ◌, ◌*ℤ◌, ◌≤ℤ◌, refl, arith, List, [], ◌∷◌}
+use Rattle.std.proofs.Common.{◌≡◌, ℕ, zero, suc, ℤ, pos, negsuc, ◌+ℤ◌, ◌-ℤ◌, ◌*ℤ◌, ◌≤ℤ◌, refl, arith, [], ◌∷◌}
 use Rattle.std.proofs.lemmas.Int.{ints}
 use Rattle.integer_algebra.specs.Sums.{dot, square}
 use Rattle.integer_algebra.proofs.OrderLaws.{le_by, add-le-add_z, square_nonneg_z}
 use Rattle.integer_algebra.proofs.SumLaws.{total_add, total_scale, total_nonneg}
-use Rattle.integer_algebra.proofs.Expression.{v, ◌⊖◌, ◌⊗◌}
 use Rattle.integer_algebra.proofs.Quoting.{by_ring, quotes}
-use Rattle.integer_algebra.proofs.OmegaHints.{square_hint, le_by_omega}
 
 -- Lagrange's identity in three coordinates
 pub lagrange : (a b c d e f : ℤ) →
     (square a +ℤ square b +ℤ square c) *ℤ (square d +ℤ square e +ℤ square f) ≡
     square (a *ℤ d +ℤ b *ℤ e +ℤ c *ℤ f) +ℤ (square (a *ℤ e -ℤ b *ℤ d) +ℤ square (a *ℤ f -ℤ c *ℤ d) +ℤ square (b *ℤ f -ℤ c *ℤ e))
 lagrange a b c d e f = by_ring (a ∷ b ∷ c ∷ d ∷ e ∷ f ∷ []) (search quotes depth 60 fits 20000) refl
-
--- the square of a scalar product in three coordinates is at most the product of the squares: by three squares as hints
-pub cauchy_three : (a b c d e f : ℤ) →
-    square (a *ℤ d +ℤ b *ℤ e +ℤ c *ℤ f) ≤ℤ ((square a +ℤ square b +ℤ square c) *ℤ (square d +ℤ square e +ℤ square f))
-cauchy_three a b c d e f =
-    let ρ : List ℤ = a ∷ b ∷ c ∷ d ∷ e ∷ f ∷ [] in
-    le_by_omega ρ (search quotes depth 60 fits 20000)
-    (omega (arith, square_hint ρ (v 0 ⊗ v 4 ⊖ v 1 ⊗ v 3), square_hint ρ (v 0 ⊗ v 5 ⊖ v 2 ⊗ v 3), square_hint ρ (v 1 ⊗ v 5 ⊖ v 2 ⊗ v 4)))
 
 -- the square of a scalar product in n coordinates is at most the product of the squares (Cauchy and Schwarz)
 pub cauchy : (n : ℕ) (f g : ℕ → ℤ) → square (dot n f g) ≤ℤ (dot n f f *ℤ dot n g g)

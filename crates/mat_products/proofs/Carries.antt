@@ -1,16 +1,11 @@
 -- Sums in two words of 64 bits, and sums of products that begin with a number.
-use Rattle.std.proofs.Common.{◌≡◌, ℕ, suc, ◌+◌, ◌*◌, ◌%◌, ◌^◌, ◌<◌, ℤ, pos, ◌+ℤ◌, ◌-ℤ◌, ◌*ℤ◌, ◌≤ℤ◌, ◌<ℤ◌, List, length, take, get_or, unsigned_abs, FitsSigned, arith}
+use Rattle.std.proofs.Common.{◌≡◌, ℕ, suc, ◌+◌, ◌*◌, ◌%◌, ◌^◌, ◌<◌, ℤ, pos, ◌+ℤ◌, ◌*ℤ◌, List, length, take, get_or, unsigned_abs, FitsSigned, arith}
 use Rattle.std.specs.Int.{w64, w128}
 use Rattle.std.proofs.lemmas.Int.{ints, fits_signed_from_abs, to_z-of_z}
 use Rattle.mat_int.specs.Row.{list_dot, abs_dot}
 use Rattle.mat_int.proofs.Dots.{abs-add_le, abs-dot_le, abs_dot-take_le, dot-take_suc, dot-take_more, product_fits}
 use mir.Val.{bool_byte}
 use lib.Dec.{ltb}
-
--- ---- a number in two words
--- what a number has beyond a multiple of 2^64
-pub beyond_is : (x q : ℤ) → (q *ℤ pos (2 ^ 64)) ≤ℤ x → x <ℤ ((q +ℤ pos 1) *ℤ pos (2 ^ 64)) → (pos (unsigned_abs (x -ℤ q *ℤ pos (2 ^ 64))) ≡ x -ℤ q *ℤ pos (2 ^ 64)) × (unsigned_abs (x -ℤ q *ℤ pos (2 ^ 64)) < 2 ^ 64)
-beyond_is x q h l = (omega (arith, ints), omega (arith, ints))
 
 -- ---- sums
 -- 1 where the low words a and l carry

@@ -5,7 +5,7 @@ use Rattle.std.proofs.lemmas.Int.{ints}
 use Rattle.frac_scaled.specs.Enclosures.{Enclosure, magnitude}
 use Rattle.mat_int.specs.Enclosures.{combination_magnitude}
 use Rattle.enclosure.specs.declared.types.Enc.{Enc}
-use Rattle.enclosure.specs.Values.{pair, pair_at}
+use Rattle.enclosure.specs.Values.{pair_at}
 use Rattle.enclosure.proofs.RoomLaws.{reach_is}
 use Rattle.enclosure.proofs.SumLaws.{combination_reach_is, combination_size, radius_nonneg}
 use Rattle.qp_model.specs.form.Quantities.{greatest}
@@ -25,10 +25,6 @@ down z h = omega (arith, ints, h)
 pub up : (z : ℤ) → pos 0 ≤ℤ z → z ≤ℤ pos (2 ^ 126) → unsigned_abs z ≤ 2 ^ 126
 up z h k = omega (arith, ints, h, k)
 
--- magnitudes aren't negative
-pub magnitude_nonneg : (e : Enclosure) → pos 0 ≤ℤ e.rad → pos 0 ≤ℤ magnitude e
-magnitude_nonneg e h = rw (reach_is e.mid e.rad h) (omega (arith, ints))
-
 pub sum_nonneg : (a b : Enclosure) → pos 0 ≤ℤ a.rad → pos 0 ≤ℤ b.rad → pos 0 ≤ℤ (magnitude a +ℤ magnitude b)
 sum_nonneg a b h k = rw (reach_is a.mid a.rad h, reach_is b.mid b.rad k) (omega (arith, ints))
 
@@ -44,10 +40,6 @@ terms_nonneg xs c = rw (combination_reach_is (length xs) c (pair_at xs) (radius_
     natural : (m : ℕ) → pos 0 ≤ℤ pos m
     natural m = omega (arith, ints)
 
--- the radius of a pair that is known
-pub radius_of : (x : Enc) (e : Enclosure) → pair x ≡ e → pos 0 ≤ℤ e.rad
-radius_of x e h = subst (λ (e : Enclosure). pos 0 ≤ℤ e.rad) h x.nonnegative
-
 -- ---- faults
 -- of a part of a size
 pub fault_within : (m n : ℕ) (e : SizeFault) → m ≤ n → IsExcessFault m e → IsExcessFault n e
@@ -62,9 +54,6 @@ fault_passed (Err y) x m n h l f = fault_within m n y l (subst (IsExcessFault m)
 pub memory_passed : {T : Type 0} (r : Result T SizeFault) (n : ℕ) → IsErrAnd r (λ y. y ≡ Memory) → IfErr r (IsExcessFault n)
 memory_passed (Ok v) n h = tt
 memory_passed (Err y) n h = inl h
-
-pub fault_same : (n : ℕ) (e f : SizeFault) → e ≡ f → IsExcessFault n e → IsExcessFault n f
-fault_same n e f h k = subst (IsExcessFault n) h k
 
 -- ---- greatest numbers
 pub near_more : (i : ℕ) (f : ℕ → ℕ) → greatest i f ≤ 2 ^ 126 → f i ≤ 2 ^ 126 → greatest (i + 1) f ≤ 2 ^ 126

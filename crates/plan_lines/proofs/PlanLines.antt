@@ -33,7 +33,7 @@ pub regroup : (a b d e : List ℕ) → a ++ ((b ++ d) ++ e) ≡ (a ++ b) ++ (d +
 regroup a b d e = simp append_assoc
 
 -- a line has its line feed at least
-ended : (xs : List ℕ) → 0 < length (xs ++ 10 ∷ [])
+pub ended : (xs : List ℕ) → 0 < length (xs ++ 10 ∷ [])
 ended xs = omega (arith, length-append xs (10 ∷ []))
 
 pub line_some : (c : Numbers) (xi : List ℤ) → 0 < length (plan_line c xi)

@@ -1,10 +1,12 @@
 -- What the output gets of the lines of a controller from states.
-use Rattle.std.specs.Prelude.{◌≡◌, ℕ, ◌≤◌, List, ◌++◌, length, Option, IfSome, IsSomeAnd}
+use Rattle.std.specs.Prelude.{◌≡◌, ◌≢◌, ◌⊎◌, ℕ, ◌<◌, ◌≤◌, List, ◌++◌, length, Option, IfSome, IsSomeAnd}
 use Rattle.io_edge.specs.Faults.{GrowsByPart}
 use Rattle.mat_int.specs.Matrix.{Matrix}
 use Rattle.qp_model.specs.machine.Controller.{Numbers}
+use Rattle.plan_lines.specs.Inside.{AreHeld, IsFirstOut}
 use Rattle.plan_lines.specs.Lines.{plan_lines}
 use Rattle.command_line.specs.Answers.{IsCaused}
+use Rattle.command_line.specs.Script.{Act, printing_act}
 use Rattle.command_line.specs.declared.status.Status.{Status}
 use Rattle.command_line.specs.declared.status.Status.TheVariants.{Done, Memory, WriteFault}
 
@@ -14,12 +16,43 @@ pub record AreFirstLines (c : Numbers) (states : Matrix) (old new : List ℕ) : 
   pub some : count ≤ length states.rows
   pub printed : new ≡ old ++ plan_lines c states count
 
--- by the answer: all lines, a part of them that isn't all, or those of some first states
-pub record ArePrinted (c : Numbers) (states : Matrix) (s : Status) (old new : List ℕ) : Type 0 where
-  pub done : s ≡ Done → new ≡ old ++ plan_lines c states (length states.rows)
-  pub fault : s ≡ WriteFault 0 → GrowsByPart old new (plan_lines c states (length states.rows))
-  pub memory : s ≡ Memory → AreFirstLines c states old new
+-- what the output gets of the lines of states: all of them, a part that isn't all, or those of some first states
+pub record Lines : Type 1 where
+  pub all : (old new : List ℕ) → Type 0
+  pub part : (old new : List ℕ) → Type 0
+  pub some : (old new : List ℕ) → Type 0
 
+-- by the answer
+pub record AreLinesPrinted (lines : Lines) (s : Status) (old new : List ℕ) : Type 0 where
+  pub done : s ≡ Done → lines.all old new
+  pub fault : s ≡ WriteFault 0 → lines.part old new
+  pub memory : s ≡ Memory → lines.some old new
+
+-- the lines of a controller's averaged plans
+abbrev pub lines_of_plans : Numbers → Matrix → Lines
+lines_of_plans c states = record {
+  all = λ old new. new ≡ old ++ plan_lines c states (length states.rows);
+  part = λ old new. GrowsByPart old new (plan_lines c states (length states.rows));
+  some = AreFirstLines c states;
+}
+
+abbrev pub ArePrinted : Numbers → Matrix → Status → (old new : List ℕ) → Type 0
+ArePrinted c states s old new = AreLinesPrinted (lines_of_plans c states) s old new
+
+-- ---- lines where all states are in order, and nothing where one isn't
+pub record LinesShow (Inside : Type 0) (lines : Lines) (s : Status) (old new : List ℕ) : Type 0 where
+  pub done : s ≡ Done → Inside × lines.all old new
+  pub fault : s ≡ WriteFault 0 → Inside × lines.part old new
+  pub memory : s ≡ Memory → (new ≡ old) ⊎ (Inside × lines.some old new)
+  pub other : s ≢ Done → s ≢ WriteFault 0 → s ≢ Memory → new ≡ old
+
+-- the first state that isn't is told, or the lines are printed; a line may be where there is a state
+abbrev pub lines_act : (Held : ℕ → Type 0) (Out : (e coordinate : ℕ) → Type 0) (states : Matrix) (lines : Lines) → Act
+lines_act Held Out states lines =
+    printing_act (λ s. IsFirstOut Held Out (length states.rows) s ⊎ ((s ≡ Done) × AreHeld Held (length states.rows))) (AreHeld Held (length states.rows) × (0 < length states.rows))
+    (LinesShow (AreHeld Held (length states.rows)) lines)
+
+-- ---- what is printed where the files hold a controller and states
 -- all is done, but for want of memory and faults, and the output, by what it had and has, gets these lines: all of them, a part that isn't all where a print failed, or
 -- those of some first states
 pub record IsSolved (c : Numbers) (states : Matrix) (s : Status) (before now : Option (List ℕ)) : Type 0 where

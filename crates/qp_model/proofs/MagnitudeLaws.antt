@@ -126,15 +126,6 @@ zeros_at n i = elim (cases_lt i n) [
   | inr le ↦ get_or_past (replicate n (pos 0)) i (pos 0) (omega (arith, length-replicate n (pos 0), le))
 ]
 
-pub zeros_within : (n : ℕ) (magnitudes : List ℕ) → length magnitudes ≡ n → AreWithin (replicate n (pos 0)) magnitudes
-zeros_within n magnitudes e = record {
-  long = omega (arith, e, length-replicate n (pos 0));
-  each = λ k. elim (cases_lt k n) [
-    | inl lt ↦ rw (get_or-replicate n k (pos 0) (pos 0) lt) (omega arith)
-    | inr le ↦ rw (get_or_past (replicate n (pos 0)) k (pos 0) (omega (arith, length-replicate n (pos 0)))) (omega arith)
-  ];
-}
-
 -- a number between two others
 between : (low x high : ℤ) → low ≤ℤ x → x ≤ℤ high → unsigned_abs x ≤ max (unsigned_abs low) (unsigned_abs high)
 between low x high h l = omega (arith, ints, h, l)

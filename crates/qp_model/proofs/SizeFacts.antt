@@ -62,10 +62,6 @@ final_widths m n p k = greatest_same k _ _ (λ r l. amount_more n (λ i. unsigne
     joined : (a b z : ℕ) → z ≡ 0 → a + b ≡ a + z + b
     joined a b z e = omega arith
 
--- ---- products above the limit
-pub above_product : (a b t : ℕ) → 1 ≤ a → t < b → t < a * b
-above_product a b t h k = omega (arith, mul-le-mul_left b h)
-
 -- ---- the first numbers of a list
 pub size_taken : (w : ℕ) (xs : List ℤ) → w ≤ length xs → size (length (take w xs)) (at (take w xs)) ≡ size w (at xs)
 size_taken w xs h = rw (length-take-le w xs h) (size_same w _ _ (λ i l. get_or-take w xs i (pos 0) l))

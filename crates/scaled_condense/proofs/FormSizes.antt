@@ -89,9 +89,6 @@ module _ (p : DesignParts) (h : IsDesign p) where
   abbrev d : Design
   d = design_of p
 
-  one : 1 ≤ d.plant_denominator
-  one = denominator_positive p.plant_den h.plant_den.low
-
   -- the weights times the square of a response
   abbrev weighed : ℕ
   weighed = weight_sum d * fine_response_size d ^ 2

@@ -5,7 +5,7 @@ use Rattle.std.proofs.lemmas.Bool.{cases_lt, lt-ltb, le-ltb}
 use Rattle.std.proofs.Math.IntN.{*ℤ-zero}
 use Rattle.std.proofs.Math.Nat.{mul-mod_left, zero-div}
 use Rattle.integer_algebra.specs.Bounds.{absolute}
-use Rattle.integer_algebra.specs.Division.{floor_of, ceil_of, round_of}
+use Rattle.integer_algebra.specs.Division.{ceil_of, round_of}
 use Rattle.integer_algebra.specs.Sums.{total, dot}
 use Rattle.integer_algebra.proofs.DivisionLaws.{floor_unique}
 use Rattle.integer_algebra.proofs.RingLaws.{add_equations}
@@ -23,21 +23,6 @@ abbrev pub bare : ℤ → Enclosure
 bare z = record { mid = z; rad = pos 0 }
 
 -- ---- even divisions
--- the quotient of a multiple is the other factor, rounded any way
-pub floor_even : (d : ℕ) (z : ℤ) → 1 ≤ d → floor_of (z *ℤ pos d) d ≡ z
-floor_even d z h = sym (floor_unique (z *ℤ pos d) d z h (record { least = below (z *ℤ pos d); greatest = above z (pos d) (some d h) }))
-  where
-    below : (a : ℤ) → a ≤ℤ a
-    below a = omega (arith, ints)
-
-    some : (d : ℕ) → 1 ≤ d → pos 1 ≤ℤ pos d
-    some d h = omega (arith, ints)
-
-    above : (z e : ℤ) → pos 1 ≤ℤ e → (z *ℤ e) <ℤ ((z +ℤ pos 1) *ℤ e)
-    above z e h = rw (once z e) (omega (arith, ints))
-      where
-        once : (z e : ℤ) → (z +ℤ pos 1) *ℤ e ≡ z *ℤ e +ℤ e
-        once z e = by_ring (z ∷ e ∷ []) (search quotes depth 60 fits 20000) refl
 
 pub round_even : (d : ℕ) (z : ℤ) → 1 ≤ d → round_of (z *ℤ pos d) d ≡ z
 round_even d z h =

@@ -12,7 +12,7 @@ use Rattle.integer_algebra.proofs.DivisionLaws.{le-mul-ceil_div, ceil_of_is, rou
 use Rattle.integer_algebra.proofs.OrderLaws.{mul-le-mul_left_z, cancel-le_z, le_by}
 use Rattle.integer_algebra.proofs.SizeLaws.{size_same}
 use Rattle.integer_algebra.proofs.Quoting.{by_ring, quotes}
-use Rattle.frac_scaled.specs.Enclosures.{Enclosure, magnitude, inexact, divided, exactly, sum_of}
+use Rattle.frac_scaled.specs.Enclosures.{Enclosure, magnitude, inexact, divided, sum_of}
 use Rattle.mat_int.specs.Enclosures.{combination, combination_magnitude, combined}
 use Rattle.enclosure.proofs.RoomLaws.{same_pair, ceil_small, inexact_small}
 use Rattle.qp_model.specs.problem.Design.{Design, entries}
@@ -45,13 +45,6 @@ reaches_more h l = record { radius = h.radius; within = more h.within l }
   where
     more : {z : ℤ} {b c : ℕ} → z ≤ℤ pos b → b ≤ c → z ≤ℤ pos c
     more h l = omega (arith, ints, h, l)
-
--- a whole number
-pub exactly_reaches : (z : ℤ) (n : ℕ) → unsigned_abs z ≤ n → Reaches (exactly z) (2 ^ 40 * n)
-exactly_reaches z n h = record { radius = omega (arith, ints); within = rw (unsigned_abs-mul (pos (2 ^ 40)) z) (under (unsigned_abs z) h) }
-  where
-    under : (m : ℕ) → m ≤ n → (pos (2 ^ 40 * m) +ℤ pos 0) ≤ℤ pos (2 ^ 40 * n)
-    under m h = omega (arith, ints)
 
 -- a whole number over a unit
 pub whole_reaches : (m : ℕ) (z : ℤ) (n : ℕ) → m * unsigned_abs z ≤ n → Reaches (whole m z) n

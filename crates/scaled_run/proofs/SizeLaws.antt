@@ -50,9 +50,6 @@ fine_sizes_law d = record {
 ceil_even : (n b : ℕ) → 1 ≤ b → ceil_div (n * b) b ≡ n
 ceil_even n b h = div-mul-add n b (b - 1) (omega arith)
 
-ceil_one : (n : ℕ) → ceil_div n 1 + 0 ≡ n
-ceil_one n = rw div-one (omega arith)
-
 -- the powers of the plant's denominator that are left at a stage
 left_before : (a n k : ℕ) → suc k ≤ n → a ^ (n - k) ≡ a ^ (n - suc k) * a
 left_before a n k l = ap (λ m. a ^ m) (next n k l) ∙ pow-suc a (n - suc k)

@@ -14,7 +14,7 @@ use Rattle.policy_file.proofs.MatrixFacts.{same_matrix}
 use Rattle.policy_file.proofs.UniqueFacts.{IsFunctional, same_number, same_numbers, held_or_wrong, same_first_fault, both_ways}
 use Rattle.settle_check.specs.Still.{Box, box_of, IsPartOf}
 use Rattle.settle_check.specs.Certificates.{IsCertificateFor}
-use Rattle.settle_check.specs.CertificateText.{BoxNumbers, CertificateNumbers, box_numbers, certificate_numbers, HoldsBox, IsTurnCount, box_at, HasState, IsStartRecord, IsBoxOfRow, AreBoxesInRange, IsFirstOutOfRange, IsCertificateText, IsCertificateFault}
+use Rattle.settle_check.specs.CertificateText.{BoxNumbers, CertificateNumbers, box_numbers, certificate_numbers, HoldsBox, IsTurnCount, box_at, HasState, IsStartRecord, IsStillRecord, IsBoxOfRow, AreBoxesInRange, IsFirstOutOfRange, IsCertificateText, IsCertificateFault}
 use Rattle.settle_check.specs.declared.certificate.StateBox.{StateBox}
 use Rattle.settle_check.specs.declared.certificate.CertificateParts.{CertificateParts}
 
@@ -101,15 +101,17 @@ module _ (bytes : List ℕ) (n : ℕ) (outer : Box) where
   Headed heads m = IsHeadedText state_rule bytes (2 * n) 3 heads m
 
   -- what was read
-  pub certificate_read : (p : CertificateParts) (heads : List ℤ) (m : Matrix) → Headed heads m → AreBoxesInRange n outer heads m → pos p.turns ≡ at heads 0 → pos p.back ≡ at heads 2 → IsBoxOfRow n (row_of m 0) p.start →
+  pub certificate_read : (p : CertificateParts) (heads : List ℤ) (m : Matrix) → Headed heads m → AreBoxesInRange n outer heads m → pos p.turns ≡ at heads 0 →
+      pos p.after ≡ at heads 1 → pos p.back ≡ at heads 2 → IsBoxOfRow n (row_of m 0) p.start →
       IsBoxOfRow n (row_of m 1) p.still → IsBoxOfRow n (row_of m 2) p.rest → Right (certificate_numbers p)
-  certificate_read p heads m h range turns back start still rest =
+  certificate_read p heads m h range turns after back start still rest =
       record {
         records = h.records;
         start = box_held bytes n 0 p.turns p.start (at heads 0) (row_of m 0) (h.each 0 (omega arith)) turns start;
-        still = box_held bytes n 1 0 p.still (at heads 1) (row_of m 1) (h.each 1 (omega arith)) (sym range.still.0) still;
+        still = box_held bytes n 1 p.after p.still (at heads 1) (row_of m 1) (h.each 1 (omega arith)) after still;
         rest = box_held bytes n 2 p.back p.rest (at heads 2) (row_of m 2) (h.each 2 (omega arith)) back rest;
         turns = omega (arith, ints, turns, range.start.0.high);
+        after = omega (arith, ints, after, range.still.0.high);
         starts = state_by_row n m 0 p.start.low.items p.start.high.items start.low start.high range.start.1;
         inside = part_by_row n outer m 1 p.still.low.items p.still.high.items still.low still.high range.still.1;
         some = omega (arith, ints, back, range.back.low);
@@ -128,7 +130,7 @@ module _ (bytes : List ℕ) (n : ℕ) (outer : Box) where
   -- of a certificate
   headed_of : (f : CertificateNumbers) → Right f → (e : ℕ) → e < 3 → (zs : List ℤ) × HoldsNumbers state_rule (2 * n + 1) (record_at (records_of bytes) e) zs
   headed_of f h zero lt = (pos f.turns ∷ f.start.low ++ f.start.high, h.start.numbers)
-  headed_of f h (suc zero) lt = (pos 0 ∷ f.still.low ++ f.still.high, h.still.numbers)
+  headed_of f h (suc zero) lt = (pos f.after ∷ f.still.low ++ f.still.high, h.still.numbers)
   headed_of f h (suc (suc zero)) lt = (pos f.back ∷ f.rest.low ++ f.rest.high, h.rest.numbers)
   headed_of f h (suc (suc (suc e))) lt = absurd (omega (arith, lt))
 
@@ -140,11 +142,13 @@ module _ (bytes : List ℕ) (n : ℕ) (outer : Box) where
         state_of_row n m 0 f.start.low f.start.high (sym (low_same bytes n 0 f.turns f.start h.start (at heads 0) (row_of m 0) held)) (sym (high_same bytes n 0 f.turns f.start h.start (at heads 0) (row_of m 0) held)) h.starts,
       )
 
-  second_in : (f : CertificateNumbers) (h : Right f) (heads : List ℤ) (m : Matrix) → Headed heads m → (at heads 1 ≡ pos 0) × IsPartOf n outer (box_at n m 1)
+  second_in : (f : CertificateNumbers) (h : Right f) (heads : List ℤ) (m : Matrix) → Headed heads m → IsStillRecord n outer heads m
   second_in f h heads m k =
-      let held = k.each 1 (omega arith) in (
-        sym (turns_same bytes n 1 0 f.still h.still (at heads 1) (row_of m 1) held),
-        part_of_row n outer m 1 f.still.low f.still.high (sym (low_same bytes n 1 0 f.still h.still (at heads 1) (row_of m 1) held)) (sym (high_same bytes n 1 0 f.still h.still (at heads 1) (row_of m 1) held)) h.inside,
+      let held = k.each 1 (omega arith) in
+      let same = turns_same bytes n 1 f.after f.still h.still (at heads 1) (row_of m 1) held in (
+        record { low = omega (arith, ints, same); high = omega (arith, ints, same, h.after) },
+        part_of_row n outer m 1 f.still.low f.still.high (sym (low_same bytes n 1 f.after f.still h.still (at heads 1) (row_of m 1) held))
+            (sym (high_same bytes n 1 f.after f.still h.still (at heads 1) (row_of m 1) held)) h.inside,
       )
 
   third_in : (f : CertificateNumbers) (h : Right f) (heads : List ℤ) (m : Matrix) → Headed heads m → IsTurnCount (pos 1) (at heads 2)
@@ -162,14 +166,15 @@ module _ (bytes : List ℕ) (n : ℕ) (outer : Box) where
   not_both f fault h (inl (inr w)) = w.here h.records
   not_both f fault h (inr w) = never_out f h w.heads w.boxes w.place w.holds w.first
 
-  same_certificate : (a b : CertificateNumbers) → a.turns ≡ b.turns → a.back ≡ b.back → a.start ≡ b.start → a.still ≡ b.still → a.rest ≡ b.rest → a ≡ b
-  same_certificate a b t k s z r = (λ i. record { turns = t i; back = k i; start = s i; still = z i; rest = r i })
+  same_certificate : (a b : CertificateNumbers) → a.turns ≡ b.turns → a.after ≡ b.after → a.back ≡ b.back → a.start ≡ b.start → a.still ≡ b.still → a.rest ≡ b.rest → a ≡ b
+  same_certificate a b t u k s z r = (λ i. record { turns = t i; after = u i; back = k i; start = s i; still = z i; rest = r i })
 
   one_certificate : (a b : CertificateNumbers) → Right a → Right b → a ≡ b
   one_certificate a b h k =
       let first = boxes_same bytes n 0 a.turns b.turns a.start b.start h.start k.start in
+      let second = boxes_same bytes n 1 a.after b.after a.still b.still h.still k.still in
       let last = boxes_same bytes n 2 a.back b.back a.rest b.rest h.rest k.rest in
-      same_certificate a b first.0 last.0 first.1 (boxes_same bytes n 1 0 0 a.still b.still h.still k.still).1 last.1
+      same_certificate a b first.0 second.0 last.0 first.1 second.1 last.1
 
   -- of a fault
   headed_not : (heads : List ℤ) (m : Matrix) (fault : TextFault) → Headed heads m → IsHeadedFault state_rule bytes (2 * n) 3 fault → ⊥

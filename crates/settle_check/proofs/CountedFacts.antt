@@ -5,7 +5,7 @@ use Rattle.std.proofs.lemmas.Int.{ints, clamps, unsigned_abs-mul, fits_signed_fr
 use Rattle.std.proofs.lemmas.Nat.{mul-le, pow-add, pow_below, pow_pos}
 use Rattle.qp_model.specs.problem.Range.{IsDenominator}
 use Rattle.settle_check.specs.Still.{Box}
-use Rattle.settle_check.specs.StillSize.{reach}
+use Rattle.settle_check.specs.StillSize.{furthest}
 
 pub product_le : (a b : ℤ) (s t : ℕ) → unsigned_abs a ≤ s → unsigned_abs b ≤ t → unsigned_abs (a *ℤ b) ≤ s * t
 product_le a b s t h k = omega (arith, unsigned_abs-mul a b, mul-le (unsigned_abs a) (unsigned_abs b) s t h k)
@@ -30,8 +30,8 @@ less_le a t s n h e =
     joined a p s m n h k e = omega (arith, ints, clamps, h, k, e)
 
 -- a size is at most itself times how far a box reaches
-pub le_times_reach : (n : ℕ) (z : Box) (j : ℕ) → n ≤ n * reach z j
-le_times_reach n z j = omega (arith, mul-le n 1 n (reach z j) (le_refl n) (omega arith))
+pub le_times_reach : (n : ℕ) (z : Box) (j : ℕ) → n ≤ n * furthest z j
+le_times_reach n z j = omega (arith, mul-le n 1 n (furthest z j) (le_refl n) (omega arith))
 
 pub le_times_some : (n a : ℕ) → n ≤ n * max a 1
 le_times_some n a = omega (arith, mul-le n 1 n (max a 1) (le_refl n) (omega arith))

@@ -1,23 +1,22 @@
 -- Rows turn by turn: what is computed of rows that are equal in all numbers of the state is the same, and sizes are within what comes of them.
-use Rattle.std.proofs.Common.{◌≡◌, inl, inr, ℕ, zero, suc, ◌+◌, ◌*◌, ◌^◌, ◌<◌, ◌≤◌, max, Bool, true, false, [], ◌∷◌, ◌++◌, below_more, length, ℤ, pos, ◌+ℤ◌, ◌-ℤ◌, ◌*ℤ◌, List, unsigned_abs, arith, ap, ◌∙◌, refl}
+use Rattle.std.proofs.Common.{◌≡◌, inl, inr, ℕ, suc, ◌+◌, ◌*◌, ◌^◌, ◌<◌, ◌≤◌, max, Bool, true, false, [], ◌∷◌, ◌++◌, below_more, length, ℤ, pos, ◌+ℤ◌, ◌-ℤ◌, ◌*ℤ◌, List, unsigned_abs, if◌then◌else◌, nat_eq, arith, ap, ◌∙◌, refl}
 use Rattle.std.specs.Int.{int_max}
 use Rattle.std.proofs.lemmas.Bool.{cases_lt}
 use Rattle.std.proofs.lemmas.List.{length_push, get_or_push, get_or_append_left}
 use Rattle.integer_algebra.specs.Division.{round_of}
 use Rattle.integer_algebra.specs.Sums.{coimage, at}
-use Rattle.integer_algebra.specs.Sizes.{amount, size}
 use Rattle.integer_algebra.proofs.SumLaws.{total_same}
-use Rattle.integer_algebra.proofs.SizeLaws.{amount_same, amount_term, size_same}
+use Rattle.integer_algebra.proofs.SizeLaws.{amount_same, amount_term, amount_next, size_same}
 use Rattle.mat_int.specs.Matrix.{Matrix, HasEntries}
 use Rattle.qp_model.specs.problem.Design.{Design}
 use Rattle.qp_model.specs.problem.Runs.{Holds}
 use Rattle.qp_model.specs.machine.Controller.{Numbers}
 use Rattle.settle_check.specs.Still.{Box, greatest_over, greatest_less}
-use Rattle.settle_check.specs.StillSize.{reach}
-use Rattle.settle_check.specs.ClosedRows.{loop_matrix, loop_over, through_loop, row_after, left_of, turn_rest, turn_adds}
-use Rattle.settle_check.specs.TurnSize.{loop_size, through_size, input_size, inputs_size, left_size, row_size, turn_size, turns_size, course_size, HasCourseRoom}
+use Rattle.settle_check.specs.StillSize.{furthest}
+use Rattle.settle_check.specs.ClosedRows.{loop_matrix, loop_over, through_loop, row_after, left_of, turn_rest, parted, rounded_size, turn_adds}
+use Rattle.settle_check.specs.TurnSize.{loop_size, through_size, input_size, inputs_size, left_over_size, row_size, turn_adds_size, turns_size, course_size, HasCourseRoom}
 use Rattle.settle_check.specs.Tube.{turns_add, most_after}
-use Rattle.settle_check.specs.Course.{plant, machine, states_box, shifts_box, next_row, adds, adds_size, IsRowWide, end_at, end_of, end_size, end_row, tube_of}
+use Rattle.settle_check.specs.Course.{plant, machine, states_box, shifts_box, next_row, adds, adds_size, IsRowWide, end_at, end_of, end_size, end_row, tube_of, cost_first, costs_of}
 use Rattle.settle_check.specs.declared.closed.ClosedLoop.{ClosedLoop}
 use Rattle.settle_check.proofs.CountedFacts.{le_times_reach}
 
@@ -48,14 +47,17 @@ module _ (d : Design) (c : Numbers) where
         less_same d.inputs (coimage d.states d.plant_b a) (coimage d.states d.plant_b b) (at c.offsets) (λ l o. inputs_same a b h l),
       ) refl
 
+  rounded_same : (a b : ℕ → ℤ) → AreSame d.states a b → rounded_size d a ≡ rounded_size d b
+  rounded_same a b h = size_same d.states _ _ (λ i l. ap (λ (z : ℤ). if nat_eq (parted d i) 0 then pos 0 else z) (h i l))
+
   adds_same : (z shifts : Box) (a b x y : ℕ → ℤ) → AreSame d.states a b → AreSame d.states x y → turn_adds d c z shifts a x ≡ turn_adds d c z shifts b y
-  adds_same z shifts a b x y h g = rw (rest_same z a b x y h g, size_same d.states a b h, over_same shifts a b h) refl
+  adds_same z shifts a b x y h g = rw (rest_same z a b x y h g, rounded_same a b h, over_same shifts a b h) refl
 
   -- and of their sizes
   through_size_same : (a b : ℕ → ℤ) → AreSame d.states a b → (k : ℕ) → through_size d c a k ≡ through_size d c b k
   through_size_same a b h k = amount_same d.states _ _ (λ i l. ap (λ (z : ℤ). loop_size d c i k * max (unsigned_abs z) 1) (h i l))
 
-  left_size_same : (z : Box) (a b x y : ℕ → ℤ) → AreSame d.states a b → AreSame d.states x y → (k : ℕ) → k < d.states → left_size d c z a x k ≡ left_size d c z b y k
+  left_size_same : (z : Box) (a b x y : ℕ → ℤ) → AreSame d.states a b → AreSame d.states x y → (k : ℕ) → k < d.states → left_over_size d c z a x k ≡ left_over_size d c z b y k
   left_size_same z a b x y h g k l = rw (through_size_same a b h k, g k l) refl
 
   input_size_same : (a b : ℕ → ℤ) → AreSame d.states a b → (l : ℕ) → input_size d a l ≡ input_size d b l
@@ -65,26 +67,18 @@ module _ (d : Design) (c : Numbers) where
   inputs_size_same a b h = amount_same d.inputs _ _ (λ l o. ap (λ (n : ℕ). n * (unsigned_abs (at c.offsets l) + 1)) (input_size_same a b h l))
 
   row_size_same : (z : Box) (a b : ℕ → ℤ) → AreSame d.states a b → row_size d z a ≡ row_size d z b
-  row_size_same z a b h = amount_same d.states _ _ (λ k l. ap (λ (v : ℤ). unsigned_abs v * reach z k) (h k l))
+  row_size_same z a b h = amount_same d.states _ _ (λ k l. ap (λ (v : ℤ). unsigned_abs v * furthest z k) (h k l))
 
-  turn_size_same : (z shifts : Box) (a b x y : ℕ → ℤ) → AreSame d.states a b → AreSame d.states x y → turn_size d c z shifts a x ≡ turn_size d c z shifts b y
+  turn_size_same : (z shifts : Box) (a b x y : ℕ → ℤ) → AreSame d.states a b → AreSame d.states x y → turn_adds_size d c z shifts a x ≡ turn_adds_size d c z shifts b y
   turn_size_same z shifts a b x y h g =
-      rw (amount_same d.states _ _ (left_size_same z a b x y h g), inputs_size_same a b h, size_same d.states a b h, row_size_same shifts a b h) refl
+      rw (amount_same d.states _ _ (left_size_same z a b x y h g), inputs_size_same a b h, rounded_same a b h, row_size_same shifts a b h) refl
 
   -- ---- within what comes of them
   -- a row on its way through the loop is within what the turn adds
-  through_within : (z shifts : Box) (row next : ℕ → ℤ) (k : ℕ) → k < d.states → through_size d c row k ≤ turn_size d c z shifts row next
+  through_within : (z shifts : Box) (row next : ℕ → ℤ) (k : ℕ) → k < d.states → through_size d c row k ≤ turn_adds_size d c z shifts row next
   through_within z shifts row next k l =
-      let left = left_size d c z row next in
+      let left = left_over_size d c z row next in
       omega (arith, le_times_reach (through_size d c row k + loop_over d c * max (unsigned_abs (next k)) 1) z k, amount_term k d.states left l)
-
--- a row's absolute sum is within it over any box
-pub row_within : (d : Design) (z : Box) (row : ℕ → ℤ) → size d.states row ≤ row_size d z row
-row_within d z row = amount_le d.states _ _ (λ k l. le_times_reach (unsigned_abs (row k)) z k)
-  where
-    amount_le : (n : ℕ) (f g : ℕ → ℕ) → ((i : ℕ) → i < n → f i ≤ g i) → amount n f ≤ amount n g
-    amount_le zero f g h = omega arith
-    amount_le (suc n) f g h = omega (arith, amount_le n f g (λ i l. h i (omega arith)), h n (omega arith))
 
 -- ---- turn by turn
 -- a row and what the turns have added are those of a first row after so many turns
@@ -127,26 +121,42 @@ module _ (l : ClosedLoop) (first : ℕ → ℤ) where
       end_size l from (at row) added ≡ course_size (plant l) (machine l) (states_box l) (shifts_box l) from first (suc k)
   next_size_is from k row value added f = let one : k + 1 ≡ suc k = omega arith in end_size_is from (suc k) row value added (rw one at f)
 
+  -- the size of a turn
+  pub turn_is : (k : ℕ) (row : List ℤ) (value : ℤ) (added : ℕ) → IsFollowed l first k row value added →
+      adds_size l (at row) (next_row l (at row)) ≡ turn_adds_size (plant l) (machine l) (states_box l) (shifts_box l) (after k) (after (suc k))
+  turn_is k row value added f =
+      turn_size_same (plant l) (machine l) (states_box l) (shifts_box l) (at row) (after k) (next_row l (at row)) (after (suc k)) f.holds.is (λ j o. next_is k row f.holds j)
+
   -- where a turn passes 2^126, so does the course
   pub passes : (from : Box) (k turns : ℕ) (row : List ℤ) (value : ℤ) (added : ℕ) → IsFollowed l first k row value added → k < turns →
       2 ^ 126 < added + adds_size l (at row) (next_row l (at row)) → HasCourseRoom (plant l) (machine l) (states_box l) (shifts_box l) from first turns → ⊥
   passes from k turns row value added f o h room =
-      let is : adds_size l (at row) (next_row l (at row)) ≡ turn_size (plant l) (machine l) (states_box l) (shifts_box l) (after k) (after (suc k)) =
-      turn_size_same (plant l) (machine l) (states_box l) (shifts_box l) (at row) (after k) (next_row l (at row)) (after (suc k)) f.holds.is (λ j o. next_is k row f.holds j) in
-      omega (arith, room k o, h, is, f.sizes)
+      omega (arith, room k o, h, turn_is k row value added f, f.sizes)
+
+-- where a turn passes 2^126, so does what all have added
+pub all_passes : (l : ClosedLoop) (from : Box) (first : ℕ → ℤ) (k turns : ℕ) (row : List ℤ) (value : ℤ) (added : ℕ) → IsFollowed l first k row value added → k < turns →
+    2 ^ 126 < added + adds_size l (at row) (next_row l (at row)) → course_size (plant l) (machine l) (states_box l) (shifts_box l) from first turns ≤ 2 ^ 126 → ⊥
+all_passes l from first k turns row value added f o h room =
+    let rows : ℕ → ℕ → ℤ = row_after (plant l) (machine l) first in
+    let term : ℕ → ℕ = λ k. turn_adds_size (plant l) (machine l) (states_box l) (shifts_box l) (rows k) (rows (suc k)) in
+    omega (arith, amount_next k turns term o, h, turn_is l first k row value added f, f.sizes, room)
+
+-- what it has at most
+most_is : (l : ClosedLoop) (from : Box) (first : ℕ → ℤ) (k : ℕ) (row : List ℤ) (value : ℤ) (added : ℕ) → IsFollowed l first k row value added →
+    greatest_over l.parts.now.states from (at row) +ℤ value ≡ most_after (plant l) (machine l) (states_box l) (shifts_box l) from first k
+most_is l from first k row value added f = rw (f.adds, over_same (plant l) (machine l) from (at row) (row_after (plant l) (machine l) first k) f.holds.is) refl
 
 -- the end that it shows
 pub end_is : (l : ClosedLoop) (from : Box) (upper : Bool) (i k : ℕ) (row : List ℤ) (value : ℤ) (added : ℕ) → IsFollowed l (end_row upper i) (k + 1) row value added →
     end_of l from upper (at row) value ≡ end_at upper (tube_of l from (k + 1)) i
-end_is l from upper i k row value added f = by_end upper f
-  where
-    most : (first : ℕ → ℤ) → IsFollowed l first (k + 1) row value added →
-        greatest_over l.parts.now.states from (at row) +ℤ value ≡ most_after (plant l) (machine l) (states_box l) (shifts_box l) from first (k + 1)
-    most first f = rw (f.adds, over_same (plant l) (machine l) from (at row) (row_after (plant l) (machine l) first (k + 1)) f.holds.is) refl
+end_is l from true i k row value added f = let one : k + 1 ≡ suc k = omega arith in rw (most_is l from (end_row true i) (k + 1) row value added f, one) refl
+end_is l from false i k row value added f = let one : k + 1 ≡ suc k = omega arith in rw (most_is l from (end_row false i) (k + 1) row value added f, one) refl
 
-    by_end : (upper : Bool) → IsFollowed l (end_row upper i) (k + 1) row value added → end_of l from upper (at row) value ≡ end_at upper (tube_of l from (k + 1)) i
-    by_end true f = let one : k + 1 ≡ suc k = omega arith in rw (most (end_row true i) f, one) refl
-    by_end false f = let one : k + 1 ≡ suc k = omega arith in rw (most (end_row false i) f, one) refl
+-- that of a row of the cost
+pub cost_end_is : (l : ClosedLoop) (upper : Bool) (k turns : ℕ) (row : List ℤ) (value : ℤ) (added : ℕ) → IsFollowed l (cost_first (plant l) upper k) turns row value added →
+    end_of l (states_box l) upper (at row) value ≡ end_at upper (costs_of l turns) k
+cost_end_is l true k turns row value added f = rw (most_is l (states_box l) (cost_first (plant l) true k) turns row value added f) refl
+cost_end_is l false k turns row value added f = rw (most_is l (states_box l) (cost_first (plant l) false k) turns row value added f) refl
 
 -- ---- lists that grow
 pub pushed : (out new : List ℤ) (x : ℤ) (i : ℕ) (f : ℕ → ℤ) → new ≡ out ++ x ∷ [] → x ≡ f i → Holds out i f → Holds new (i + 1) f

@@ -11,7 +11,7 @@ use Rattle.settle_check.specs.Settling.{Certificate, Leads}
 use Rattle.settle_check.specs.Answers.{IsStillFault}
 use Rattle.settle_check.specs.Beyond.{goal_at, GoesBeyond, IsEndWithin, IsFirstBeyond, IsFirstTurnBeyond}
 use Rattle.settle_check.specs.Settles.{RowsHaveRoom, IsFirstMove, PassesSettling, IsSettleFault}
-use Rattle.settle_check.specs.declared.certificate.StateBox.{StateBox}
+use Rattle.settle_check.specs.declared.certificate.Settled.{Settled}
 use Rattle.settle_check.specs.declared.fault.SettleFault.{SettleFault}
 use Rattle.settle_check.specs.declared.fault.SettleFault.TheVariants.{Memory, TooWide, Moves, Unsettled, NoReturn}
 use Rattle.settle_check.proofs.CheckFacts.{held, same_fault}
@@ -120,7 +120,7 @@ module _ (d : Design) (c : Numbers) (shifts : Box) (s : Certificate) where
   no_fault (NoReturn t i a) p f = no_end s.rest s.back t i a p.again f.3
 
   -- the other way round
-  pub first : (r : Result StateBox SettleFault) (told : SettleFault) → IfOk r (λ b. PassesSettling d c shifts s) → IfErr r (λ e. (e ≡ Memory) ⊎ IsSettleFault d c shifts s e) → IsSettleFault d c shifts s told →
+  pub first : (r : Result Settled SettleFault) (told : SettleFault) → IfOk r (λ b. PassesSettling d c shifts s) → IfErr r (λ e. (e ≡ Memory) ⊎ IsSettleFault d c shifts s e) → IsSettleFault d c shifts s told →
       MatchResult r (λ b. ⊥) (λ e. (e ≡ told) ⊎ (e ≡ Memory))
   first (Ok b) told p f t = no_fault told p t
   first (Err e) told p f t = elim f [
@@ -128,7 +128,7 @@ module _ (d : Design) (c : Numbers) (shifts : Box) (s : Certificate) where
     | inr g ↦ inl (one_fault e told g t)
   ]
 
-  pub right : (r : Result StateBox SettleFault) → IfErr r (λ e. (e ≡ Memory) ⊎ IsSettleFault d c shifts s e) → PassesSettling d c shifts s → IfErr r (λ e. e ≡ Memory)
+  pub right : (r : Result Settled SettleFault) → IfErr r (λ e. (e ≡ Memory) ⊎ IsSettleFault d c shifts s e) → PassesSettling d c shifts s → IfErr r (λ e. e ≡ Memory)
   right (Ok b) f p = tt
   right (Err e) f p = elim f [
     | inl m ↦ m

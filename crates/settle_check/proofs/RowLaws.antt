@@ -1,6 +1,7 @@
 -- What a turn of the closed loop adds to a row.
-use Rattle.std.proofs.Common.{◌≡◌, ℕ, ◌+◌, ◌-◌, ◌*◌, ◌^◌, ◌<◌, ◌≤◌, [], ◌∷◌, ℤ, pos, ◌+ℤ◌, ◌-ℤ◌, ◌*ℤ◌, neg_ℤ, ◌≤ℤ◌, ◌<ℤ◌, List, length, unsigned_abs, arith, ap, ◌∙◌, refl}
+use Rattle.std.proofs.Common.{◌≡◌, ◌⊎◌, inl, inr, ℕ, ◌+◌, ◌-◌, ◌*◌, ◌%◌, ◌^◌, ◌<◌, ◌≤◌, [], ◌∷◌, ℤ, pos, ◌+ℤ◌, ◌-ℤ◌, ◌*ℤ◌, neg_ℤ, ◌≤ℤ◌, ◌<ℤ◌, List, length, unsigned_abs, arith, ap, ◌∙◌, refl}
 use Rattle.std.proofs.lemmas.Int.{ints, by_lt_z}
+use Rattle.std.proofs.lemmas.Bool.{cases_eq}
 use Rattle.std.proofs.lemmas.Nat.{pow-add, pow_pos}
 use Rattle.std.proofs.Math.Nat.{one-le-mul}
 use Rattle.std.proofs.Math.IntN.{*ℤ_comm}
@@ -11,8 +12,8 @@ use Rattle.integer_algebra.specs.Sizes.{size}
 use Rattle.integer_algebra.proofs.RingLaws.{add_equations}
 use Rattle.integer_algebra.proofs.DivisionLaws.{round_of_bounds}
 use Rattle.integer_algebra.proofs.OrderLaws.{le_by, le_of_lt_z, add-le-add_z, mul-le-mul_left_z, mul_nonneg_z, mul_pos_z, cancel-le_z}
-use Rattle.integer_algebra.proofs.SumLaws.{total_same, total_add, total_mono, total_scale}
-use Rattle.integer_algebra.proofs.SizeLaws.{total_amount}
+use Rattle.integer_algebra.proofs.SumLaws.{total_same, total_zero, total_add, total_mono, total_scale, total_scale_right}
+use Rattle.integer_algebra.proofs.SizeLaws.{amount_term, at_size, total_amount}
 use Rattle.integer_algebra.proofs.VectorLaws.{dot_same, dot_add_right, dot_sub, dot_scale, dot_scale_right, dot_image, dot_total_left, image_same, image_scale}
 use Rattle.integer_algebra.proofs.Quoting.{by_ring, quotes}
 use Rattle.mat_int.specs.Matrix.{entry_of}
@@ -20,9 +21,9 @@ use Rattle.qp_model.specs.problem.Design.{Design}
 use Rattle.qp_model.specs.machine.Controller.{Numbers}
 use Rattle.qp_model.specs.machine.Machine.{averaged_plan}
 use Rattle.qp_model.specs.machine.Successor.{grid_scale, next_sum, next_over, successor}
-use Rattle.settle_check.specs.Still.{Box, LiesInBox, unit, IsStill, still_entry}
-use Rattle.settle_check.specs.ClosedRows.{loop_over, through_loop, turn_rest, IsLoopFor, RowLaw}
-use Rattle.settle_check.proofs.FloorLaws.{le-floor}
+use Rattle.settle_check.specs.Still.{Box, LiesInBox, fraction_unit, IsStill, still_entry}
+use Rattle.settle_check.specs.ClosedRows.{loop_over, through_loop, turn_rest, parted, rounded_row, rounded_size, IsLoopFor, RowLaw}
+use Rattle.settle_check.proofs.FloorLaws.{le-floor, multiple, round_of_whole}
 use Rattle.settle_check.proofs.StillLaws.{dot_le-greatest, first_inputs, plan_most, still_law}
 
 -- ---- rounding
@@ -40,31 +41,62 @@ times_round k y s o h l = by_lt_z k (pos 0)
     above : (k y s o m : ℤ) → pos 0 ≤ℤ k → m ≡ k → (pos 2 *ℤ (y *ℤ o)) ≤ℤ (pos 2 *ℤ s +ℤ o) → (pos 2 *ℤ (o *ℤ (k *ℤ y))) ≤ℤ (pos 2 *ℤ (k *ℤ s) +ℤ o *ℤ m)
     above k y s o m p e h = rw e (le_by (mul-le-mul_left_z k p h) (by_ring (k ∷ y ∷ s ∷ o ∷ []) (search quotes depth 60 fits 20000) refl))
 
+-- of a number that is whole nothing
+exact_round : (k s m : ℤ) (o : ℕ) → 0 < o → (m ≡ k) ⊎ ((m ≡ pos 0) × (q : ℤ) × (s ≡ q *ℤ pos o)) →
+    (pos 2 *ℤ (pos o *ℤ (k *ℤ round_of s o))) ≤ℤ (pos 2 *ℤ (k *ℤ s) +ℤ pos o *ℤ pos (unsigned_abs m))
+exact_round k s m o p (inl e) = let b = round_of_bounds s o p in rw e (times_round k (round_of s o) s (pos o) b.0 b.1)
+exact_round k s m o p (inr (e, q, is)) = rw (e, round_of_whole s o q p is, is) (same k q (pos o))
+  where
+    same : (k q o : ℤ) → (pos 2 *ℤ (o *ℤ (k *ℤ q))) ≤ℤ (pos 2 *ℤ (k *ℤ (q *ℤ o)) +ℤ o *ℤ pos 0)
+    same k q o = le_by {l = pos 0} {r = pos 0} (omega arith) (by_ring (k ∷ q ∷ o ∷ []) (search quotes depth 60 fits 20000) refl)
+
 -- of n numbers
-rounded_most : (n : ℕ) (k s : ℕ → ℤ) (o : ℕ) → 0 < o →
-    (pos 2 *ℤ (pos o *ℤ dot n k (λ i. round_of (s i) o))) ≤ℤ (pos 2 *ℤ dot n k s +ℤ pos o *ℤ pos (size n k))
-rounded_most n k s o h =
+rounded_most : (n : ℕ) (k s m : ℕ → ℤ) (o : ℕ) → 0 < o → ((i : ℕ) → i < n → (m i ≡ k i) ⊎ ((m i ≡ pos 0) × (q : ℤ) × (s i ≡ q *ℤ pos o))) →
+    (pos 2 *ℤ (pos o *ℤ dot n k (λ i. round_of (s i) o))) ≤ℤ (pos 2 *ℤ dot n k s +ℤ pos o *ℤ pos (size n m))
+rounded_most n k s m o h each =
     joined
-    (total_mono n (λ i. pos 2 *ℤ (pos o *ℤ (k i *ℤ round_of (s i) o))) (λ i. pos 2 *ℤ (k i *ℤ s i) +ℤ pos o *ℤ pos (unsigned_abs (k i)))
-    (λ i l. let b = round_of_bounds (s i) o h in times_round (k i) (round_of (s i) o) (s i) (pos o) b.0 b.1))
+    (total_mono n (λ i. pos 2 *ℤ (pos o *ℤ (k i *ℤ round_of (s i) o))) (λ i. pos 2 *ℤ (k i *ℤ s i) +ℤ pos o *ℤ pos (unsigned_abs (m i)))
+    (λ i l. exact_round (k i) (s i) (m i) o h (each i l)))
     (total_scale n (pos 2) (λ i. pos o *ℤ (k i *ℤ round_of (s i) o)) ∙ ap (λ (z : ℤ). pos 2 *ℤ z) (total_scale n (pos o) (λ i. k i *ℤ round_of (s i) o)))
-    (total_add n (λ i. pos 2 *ℤ (k i *ℤ s i)) (λ i. pos o *ℤ pos (unsigned_abs (k i))))
+    (total_add n (λ i. pos 2 *ℤ (k i *ℤ s i)) (λ i. pos o *ℤ pos (unsigned_abs (m i))))
     (total_scale n (pos 2) (λ i. k i *ℤ s i))
-    (total_scale n (pos o) (λ i. pos (unsigned_abs (k i))) ∙ ap (λ (z : ℤ). pos o *ℤ z) (total_amount n (λ i. unsigned_abs (k i))))
+    (total_scale n (pos o) (λ i. pos (unsigned_abs (m i))) ∙ ap (λ (z : ℤ). pos o *ℤ z) (total_amount n (λ i. unsigned_abs (m i))))
   where
     joined : {l r a b c x y : ℤ} → l ≤ℤ r → l ≡ a → r ≡ b +ℤ c → b ≡ x → c ≡ y → a ≤ℤ (x +ℤ y)
     joined {l} {r} {a} {b} {c} {x} {y} h e f g k = omega (arith, ints, h, e, f, g, k)
+
+-- the next number i of the state is whole where nothing keeps it from that
+next_whole : (d : Design) (c : Numbers) (xi : List ℤ) (i : ℕ) → 0 < d.plant_denominator → parted d i ≡ 0 → (q : ℤ) × (next_sum d c xi i ≡ q *ℤ pos (next_over d c))
+next_whole d c xi i p e =
+    let a = d.plant_denominator in
+    let part : ℕ → ℤ = λ k. floor_of (d.plant_a i k) a *ℤ at xi k in (
+      total d.states part,
+      joined _ _ _ _ _
+          (total_same d.states _ _ (λ k l. divided (d.plant_a i k) (floor_of (d.plant_a i k) a) (pos a) (at xi k)
+          (multiple (d.plant_a i k) a p (omega (arith, amount_term k d.states (λ k. unsigned_abs (d.plant_a i k) % a) l, e))))
+          ∙ total_scale_right d.states (pos a) part)
+          (total_same d.inputs _ (λ l. pos 0) (λ l o. none (d.plant_b i l) _ (omega (arith, ints, at_size l d.inputs (d.plant_b i) o, e))) ∙ total_zero d.inputs),
+    )
+  where
+    divided : (z q a x : ℤ) → z ≡ q *ℤ a → z *ℤ x ≡ (q *ℤ x) *ℤ a
+    divided z q a x e = rw e (by_ring (q ∷ a ∷ x ∷ []) (search quotes depth 60 fits 20000) refl)
+
+    none : (b u : ℤ) → b ≡ pos 0 → b *ℤ u ≡ pos 0
+    none b u e = rw e (by_ring (u ∷ []) (search quotes depth 60 fits 20000) refl)
+
+    joined : (s b q a g : ℤ) → s ≡ q *ℤ a → b ≡ pos 0 → s *ℤ g +ℤ b ≡ q *ℤ (a *ℤ g)
+    joined s b q a g e f = rw (e, f) (by_ring (q ∷ a ∷ g ∷ []) (search quotes depth 60 fits 20000) refl)
 
 -- ---- a row through the loop
 subtract_equations : {a b x y : ℤ} → a ≡ x → b ≡ y → a -ℤ b ≡ x -ℤ y
 subtract_equations {a} {b} {x} {y} e f = omega (arith, ints, e, f)
 
 through_is : (d : Design) (c : Numbers) (row : ℕ → ℤ) (j : ℕ) →
-    through_loop d c row j ≡ pos (unit c) *ℤ coimage d.states d.plant_a row j -ℤ coimage d.inputs (entry_of c.state_gains) (coimage d.states d.plant_b row) j
+    through_loop d c row j ≡ pos (fraction_unit c) *ℤ coimage d.states d.plant_a row j -ℤ coimage d.inputs (entry_of c.state_gains) (coimage d.states d.plant_b row) j
 through_is d c row j =
     let P = entry_of c.state_gains in
-    dot_sub d.states (λ i. pos (unit c) *ℤ d.plant_a i j) (λ i. total d.inputs (λ l. d.plant_b i l *ℤ P l j)) row
-    ∙ subtract_equations (dot_scale d.states (pos (unit c)) (λ i. d.plant_a i j) row)
+    dot_sub d.states (λ i. pos (fraction_unit c) *ℤ d.plant_a i j) (λ i. total d.inputs (λ l. d.plant_b i l *ℤ P l j)) row
+    ∙ subtract_equations (dot_scale d.states (pos (fraction_unit c)) (λ i. d.plant_a i j) row)
     (dot_total_left d.states d.inputs (λ l i. d.plant_b i l *ℤ P l j) row
     ∙ total_same d.inputs _ _ (λ l o. total_same d.states _ _ (λ i m. turn (d.plant_b i l) (P l j) (row i)) ∙ total_scale d.states (P l j) (λ i. d.plant_b i l *ℤ row i)))
   where
@@ -74,14 +106,14 @@ through_is d c row j =
 -- what is left of it at a state
 rest_is : (d : Design) (c : Numbers) (row next xi : ℕ → ℤ) →
     dot d.states (λ j. through_loop d c row j -ℤ pos (loop_over d c) *ℤ next j) xi ≡
-    pos (unit c) *ℤ dot d.states (coimage d.states d.plant_a row) xi
+    pos (fraction_unit c) *ℤ dot d.states (coimage d.states d.plant_a row) xi
     -ℤ dot d.states (coimage d.inputs (entry_of c.state_gains) (coimage d.states d.plant_b row)) xi -ℤ pos (loop_over d c) *ℤ dot d.states next xi
 rest_is d c row next xi =
     let w = coimage d.inputs (entry_of c.state_gains) (coimage d.states d.plant_b row) in
     dot_sub d.states (through_loop d c row) (λ j. pos (loop_over d c) *ℤ next j) xi
     ∙ subtract_equations (total_same d.states _ _ (λ j l. ap (λ (z : ℤ). z *ℤ xi j) (through_is d c row j))
-    ∙ dot_sub d.states (λ j. pos (unit c) *ℤ coimage d.states d.plant_a row j) w xi
-    ∙ ap (λ (z : ℤ). z -ℤ dot d.states w xi) (dot_scale d.states (pos (unit c)) (coimage d.states d.plant_a row) xi))
+    ∙ dot_sub d.states (λ j. pos (fraction_unit c) *ℤ coimage d.states d.plant_a row j) w xi
+    ∙ ap (λ (z : ℤ). z -ℤ dot d.states w xi) (dot_scale d.states (pos (fraction_unit c)) (coimage d.states d.plant_a row) xi))
     (dot_scale d.states (pos (loop_over d c)) next xi)
 
 -- ---- a turn
@@ -117,7 +149,7 @@ one_turn a K s D F y x alpha beta v w g rho m sum e k l h f i j r =
         (add-le-add_z (mul-le-mul_left_z (pos 2 *ℤ K) (omega (arith, ints, k)) i) (mul-le-mul_left_z (pos 2 *ℤ (K *ℤ s)) (omega (arith, ints, p)) j)))
         (by_ring (a ∷ K ∷ s ∷ D ∷ y ∷ x ∷ alpha ∷ beta ∷ v ∷ w ∷ g ∷ m ∷ []) (search quotes depth 60 fits 20000) refl))
 
-unit_is : (d : Design) (c : Numbers) → IsLoopFor d c → unit c ≡ 2 ^ (c.fraction_bits - c.grid_bits) * 2 ^ d.grid
+unit_is : (d : Design) (c : Numbers) → IsLoopFor d c → fraction_unit c ≡ 2 ^ (c.fraction_bits - c.grid_bits) * 2 ^ d.grid
 unit_is d c loop =
     let split : c.fraction_bits ≡ c.fraction_bits - c.grid_bits + d.grid = omega (arith, loop.sized.fraction_bits, loop.sizes.grid) in
     ap (λ n. 2 ^ n) split ∙ pow-add 2 (c.fraction_bits - c.grid_bits) d.grid
@@ -125,7 +157,7 @@ unit_is d c loop =
 -- before the shift
 turn_most : (d : Design) (c : Numbers) (z : Box) → IsLoopFor d c → IsStill c z → (row next : ℕ → ℤ) (xi : List ℤ) → length xi ≡ d.states → LiesInBox d.states z (at xi) →
     (dot d.states row (λ i. round_of (next_sum d c xi i) (next_over d c)) -ℤ dot d.states next (at xi)) ≤ℤ
-    floor_of (pos 2 *ℤ turn_rest d c z row next +ℤ pos (loop_over d c) *ℤ pos (size d.states row)) (2 * loop_over d c)
+    floor_of (pos 2 *ℤ turn_rest d c z row next +ℤ pos (loop_over d c) *ℤ pos (rounded_size d row)) (2 * loop_over d c)
 turn_most d c z loop still row next xi long inside =
     let s = 2 ^ (c.fraction_bits - c.grid_bits) in
     let some : 1 ≤ s = omega (arith, pow_pos (c.fraction_bits - c.grid_bits)) in
@@ -136,14 +168,20 @@ turn_most d c z loop still row next xi long inside =
     let in_c : LiesInBox c.states z (at xi) = λ i l. inside i (omega (arith, l, loop.sizes.states)) in
     let length_c : length xi ≡ c.states = long ∙ loop.sizes.states in
     let run = still_law c z loop.sized still xi length_c in_c in
-    le-floor _ _ (2 * loop_over d c) wide (one_turn d.plant_denominator c.steps s (2 ^ d.grid) (unit c) _ (dot d.states next (at xi)) _ _ _ _ _ _ (pos (size d.states row)) _
+    le-floor _ _ (2 * loop_over d c) wide (one_turn d.plant_denominator c.steps s (2 ^ d.grid) (fraction_unit c) _ (dot d.states next (at xi)) _ _ _ _ _ _ (pos (rounded_size d row)) _
     (unit_is d c loop) loop.sized.steps.0 some
-    (rounded_most d.states row (next_sum d c xi) (next_over d c) over)
+    (rounded_most d.states row (next_sum d c xi) (rounded_row d row) (next_over d c) over (λ i l. charged i))
     (sums_are d c row (still_entry c xi) xi (λ l o. run.average l (omega (arith, o, small))))
     (over_states _ _ (pos s) _ _ (ap (λ n. dot n (coimage d.inputs (entry_of c.state_gains) input) (at xi)) loop.sizes.states) (plan_most c xi d.inputs input loop.sized length_c small))
     (dot_le-greatest d.states z (λ j. through_loop d c row j -ℤ pos (loop_over d c) *ℤ next j) (at xi) inside)
     (rest_is d c row next (at xi)))
   where
+    charged : (i : ℕ) → (rounded_row d row i ≡ row i) ⊎ ((rounded_row d row i ≡ pos 0) × (q : ℤ) × (next_sum d c xi i ≡ q *ℤ pos (next_over d c)))
+    charged i = elim (cases_eq (parted d i) 0) [
+      | inl e ↦ (let none : rounded_row d row i ≡ pos 0 = grind arith in let whole = next_whole d c xi i (omega (arith, loop.plant)) e in inr (none, whole.0, whole.1))
+      | inr n ↦ (let own : rounded_row d row i ≡ row i = grind arith in inl own)
+    ]
+
     over_states : (b v s w x : ℤ) → w ≡ x → b ≤ℤ (v -ℤ s *ℤ x) → b ≤ℤ (v -ℤ s *ℤ w)
     over_states b v s w x e h = rw e h
 

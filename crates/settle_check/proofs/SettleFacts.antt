@@ -1,5 +1,5 @@
 -- What the tests of a certificate answer, of the boxes in which loops lie.
-use Rattle.std.proofs.Common.{◌≡◌, inl, inr, ◌⊎◌, ℕ, zero, suc, ◌-◌, ◌<◌, ◌≤◌, ℤ, Bool, true, false, length, Result, Ok, Err, refl, subst, arith, ap, sym, ◌∙◌, if◌then◌else◌, nat_lt}
+use Rattle.std.proofs.Common.{◌≡◌, inl, inr, ◌⊎◌, ℕ, zero, suc, ◌-◌, ◌<◌, ◌≤◌, ℤ, Bool, true, false, length, Result, Ok, Err, refl, subst, arith, sym, ◌∙◌, if◌then◌else◌, nat_lt}
 use Rattle.std.proofs.lemmas.Bool.{cases_lt, lt-ltb, le-ltb}
 use Rattle.mat_int.specs.Matrix.{entry_of}
 use Rattle.qp_model.specs.problem.Design.{Design}
@@ -9,15 +9,16 @@ use Rattle.settle_check.specs.Still.{Box, box_of, IsPartOf}
 use Rattle.settle_check.specs.ClosedRows.{IsLoopFor}
 use Rattle.settle_check.proofs.SettlingLaws.{settling_law}
 use Rattle.settle_check.specs.Tube.{tube}
-use Rattle.settle_check.specs.Settling.{Certificate, Leads, Settles, LoopsSettle, hull, settled_box}
+use Rattle.settle_check.specs.Settling.{Certificate, Leads, Settles, LoopsSettle, hull, settled_box, told_rows, cost_box}
 use Rattle.settle_check.specs.Answers.{IsStillFault}
 use Rattle.settle_check.specs.Beyond.{goal_at, IsFirstTurnBeyond}
 use Rattle.settle_check.specs.Tubes.{tube_at, HasTurns, HoldsBoxes}
-use Rattle.settle_check.specs.Settles.{RowsHaveRoom, EndsHaveRoom, HasAllRoom, TubeHasRoom, IsTubeFault, AllInside, PassesBy, IsSettleFaultBy, PassesSettling, IsSettleFault}
-use Rattle.settle_check.specs.Course.{plant, machine, states_box, shifts_box, tube_of}
+use Rattle.settle_check.specs.Settles.{RowsHaveRoom, EndsHaveRoom, HasAllRoom, CostsHaveRoom, TubeHasRoom, IsTubeFault, LoopCostsHaveRoom, AllInside, PassesBy, IsSettleFaultBy, PassesSettling, IsSettleFault}
+use Rattle.settle_check.specs.Course.{plant, machine, states_box, shifts_box, tube_of, costs_of}
 use Rattle.settle_check.specs.Certificates.{certificate_of, IsBoxOf}
 use Rattle.settle_check.specs.declared.closed.ClosedLoop.{ClosedLoop}
 use Rattle.settle_check.specs.declared.certificate.StateBox.{StateBox}
+use Rattle.settle_check.specs.declared.certificate.Settled.{Settled}
 use Rattle.settle_check.specs.declared.certificate.CertificateParts.{CertificateParts}
 use Rattle.settle_check.specs.declared.tube.Tube.{Tube}
 use Rattle.settle_check.specs.declared.fault.SettleFault.{SettleFault}
@@ -105,9 +106,6 @@ pub states_are : (l : ClosedLoop) (p : CertificateParts) → l.low.now ≡ p.sti
 states_are l p e f = rw (e, f) refl
 
 module _ (l : ClosedLoop) (s : Certificate) (e : states_box l ≡ s.still) where
-  -- where loops lie, by the certificate
-  tube_is : (from : Box) (k : ℕ) → tube_of l from k ≡ tube (plant l) (machine l) s.still (shifts_box l) from k
-  tube_is from k = ap (λ (z : Box). tube (plant l) (machine l) z (shifts_box l) from k) e
 
   room_is : (from : Box) (turns : ℕ) → TubeHasRoom l from turns → EndsHaveRoom (plant l) (machine l) s.still (shifts_box l) from turns
   room_is from turns = subst (λ (z : Box). EndsHaveRoom (plant l) (machine l) z (shifts_box l) from turns) e
@@ -128,15 +126,34 @@ module _ (l : ClosedLoop) (s : Certificate) (e : states_box l ≡ s.still) where
     | inr w ↦ inr (rw w.0 (λ all. w.1 (room_back s.rest s.back all.again)))
   ]
 
+  -- rows of the cost that aren't followed
+  costs_back : CostsHaveRoom (plant l) (machine l) s.still (shifts_box l) s.after → LoopCostsHaveRoom l s.after
+  costs_back = subst (λ (z : Box). CostsHaveRoom (plant l) (machine l) z (shifts_box l) s.after) (sym e)
+
+  pub costs_room : (fault : SettleFault) → (fault ≡ Memory) ⊎ ((fault ≡ TooWide) × (LoopCostsHaveRoom l s.after → ⊥)) →
+      (fault ≡ Memory) ⊎ IsSettleFault (plant l) (machine l) (shifts_box l) s fault
+  costs_room fault f = elim f [
+    | inl m ↦ inl m
+    | inr w ↦ inr (rw w.0 (λ all. w.1 (costs_back all.costs)))
+  ]
+
+  -- where they lie
+  pub costs_are : (b : StateBox) → IsBoxOf (told_rows (plant l) s.after) (costs_of l s.after) b →
+      IsBoxOf (told_rows (plant l) s.after) (cost_box (plant l) (machine l) s.still (shifts_box l) s.after) b
+  costs_are b = subst (λ (z : Box). IsBoxOf (told_rows (plant l) s.after) (cost_box (plant l) (machine l) z (shifts_box l) s.after) b) e
+
   -- boxes that the code holds, by the certificate
   pub of_tube : (from : Box) (turns : ℕ) (t : Tube) → HoldsBoxes (plant l).states turns (tube_of l from) t →
       HoldsBoxes (plant l).states turns (tube (plant l) (machine l) s.still (shifts_box l) from) t
   of_tube from turns t = subst (λ (z : Box). HoldsBoxes (plant l).states turns (tube (plant l) (machine l) z (shifts_box l) from) t) e
 
   module _ (there again : Tube) (h : HoldsBoxes (plant l).states s.turns (tube_of l s.start) there) (k : HoldsBoxes (plant l).states s.back (tube_of l s.rest) again)
-      (first : TubeHasRoom l s.start s.turns) (second : TubeHasRoom l s.rest s.back) where
+      (first : TubeHasRoom l s.start s.turns) (second : TubeHasRoom l s.rest s.back) (costs : LoopCostsHaveRoom l s.after) where
+    costs_is : CostsHaveRoom (plant l) (machine l) s.still (shifts_box l) s.after
+    costs_is = subst (λ (z : Box). CostsHaveRoom (plant l) (machine l) z (shifts_box l) s.after) e costs
+
     all_room : RowsHaveRoom (machine l) s.still → HasAllRoom (plant l) (machine l) (shifts_box l) s
-    all_room rows = record { there = room_is s.start s.turns first; again = room_is s.rest s.back second; rows = rows }
+    all_room rows = record { there = room_is s.start s.turns first; again = room_is s.rest s.back second; costs = costs_is; rows = rows }
 
     start_leads : AllInside s (machine l).states s.turns (tube_at there) → Leads (plant l) (machine l) (shifts_box l) s s.start s.turns
     start_leads all = leads (plant l) (machine l) (shifts_box l) s s.start s.turns
@@ -188,7 +205,7 @@ module _ (l : ClosedLoop) (s : Certificate) (e : states_box l ≡ s.still) where
 pub settles : (d : Design) (c : Numbers) (shifts : Box) (s : Certificate) → IsPartOf d.states (box_of c.low c.high) s.still → 1 ≤ s.back → PassesSettling d c shifts s → Settles d c shifts s
 settles d c shifts s inside some p = record { inside = inside; still = p.still; some = some; there = p.there; again = p.again }
 
-pub promised : (r : Result StateBox SettleFault) (d : Design) (c : Numbers) (shifts : Box) (s : Certificate) → IsLoopFor d c → IsPartOf d.states (box_of c.low c.high) s.still → 1 ≤ s.back →
+pub promised : (r : Result Settled SettleFault) (d : Design) (c : Numbers) (shifts : Box) (s : Certificate) → IsLoopFor d c → IsPartOf d.states (box_of c.low c.high) s.still → 1 ≤ s.back →
     IfOk r (λ b. PassesSettling d c shifts s) → IfOk r (λ b. LoopsSettle d c shifts s)
 promised (Ok b) d c shifts s loop inside some p = settling_law d c shifts s loop (settles d c shifts s inside some p)
 promised (Err e) d c shifts s loop inside some p = tt

@@ -1,20 +1,21 @@
 -- Loops settle, by induction over their turns and over their returns.
-use Rattle.std.proofs.Common.{◌≡◌, ◌⊎◌, inl, inr, ℕ, zero, suc, ◌+◌, ◌-◌, ◌<◌, ◌≤◌, ℤ, ◌≤ℤ◌, List, length, le_refl, arith, ap, subst, ◌∙◌}
+use Rattle.std.proofs.Common.{◌≡◌, ◌⊎◌, inl, inr, ℕ, zero, suc, ◌+◌, ◌-◌, ◌<◌, ◌≤◌, ℤ, neg_ℤ, ◌≤ℤ◌, List, length, le_refl, arith, ap, subst, sym, ◌∙◌}
 use Rattle.std.specs.Int.{int_max, int_min}
 use Rattle.std.proofs.lemmas.Int.{ints, clamps}
 use Rattle.std.proofs.lemmas.Bool.{cases_lt}
-use Rattle.integer_algebra.specs.Sums.{at}
+use Rattle.integer_algebra.specs.Sums.{dot, at}
+use Rattle.integer_algebra.proofs.VectorLaws.{dot_neg}
 use Rattle.qp_model.specs.problem.Design.{Design}
 use Rattle.qp_model.specs.problem.Box.{IsGridState}
 use Rattle.qp_model.specs.machine.Controller.{Numbers}
 use Rattle.qp_model.specs.machine.Machine.{IsAdmissible}
 use Rattle.qp_model.specs.bounds.Built.{HasSizesOf}
 use Rattle.stay_check.specs.LoopStay.{shifted_successor, state_under, AreShiftsUpTo}
-use Rattle.settle_check.specs.Still.{Box, box_of, LiesInBox, IsPartOf}
+use Rattle.settle_check.specs.Still.{Box, box_of, LiesInBox, IsPartOf, IsStill}
 use Rattle.settle_check.specs.ClosedRows.{IsLoopFor}
-use Rattle.settle_check.specs.Tube.{IsIn, tube}
-use Rattle.settle_check.specs.Settling.{Certificate, Leads, Settles, hull, settled_box, IsSettledAt, SettlingLaw, CertifiedSettlingLaw}
-use Rattle.settle_check.proofs.TubeLaws.{state_long, tube_law}
+use Rattle.settle_check.specs.Tube.{IsIn, tube, row_most}
+use Rattle.settle_check.specs.Settling.{Certificate, Leads, Settles, hull, settled_box, told_rows, cost_numbers, cost_box, SettlingLaw, RowSettlingLaw, CertifiedSettlingLaw}
+use Rattle.settle_check.proofs.TubeLaws.{state_long, row_bound, tube_law}
 
 -- ---- boxes
 wider : (n : ℕ) (z part : Box) (x : ℕ → ℤ) → IsPartOf n z part → LiesInBox n part x → LiesInBox n z x
@@ -97,27 +98,67 @@ module _ (d : Design) (c : Numbers) (shifts : Box) (s : Certificate) (loop : IsL
             (at_rest fuel s.back s.rest settles.again there long_there arrived rest (t - s.back) (omega (arith, o, h, settles.some)) (λ k l. shifts_there k (omega (arith, l, e)))))
       ])
 
-pub settling_law : SettlingLaw
-settling_law d c shifts s loop settles start long lies w turns within = elim (cases_lt turns s.turns) [
-  | inl o ↦ promised (is_still d c shifts s loop settles s.start s.turns settles.there start long lies w turns o within) (λ l. absurd (omega (arith, l, o)))
-  | inr o ↦ (let e : turns - s.turns + s.turns ≡ turns = omega (arith, o) in
-      let rest = subst (λ t. AtRest d c shifts s loop settles (state_under d c start w t)) e
-      (at_rest d c shifts s loop settles (suc (turns - s.turns)) s.turns s.start settles.there start long lies w (turns - s.turns) (omega arith) (λ k l. within k (omega (arith, l, e)))) in
-      promised rest.0 (λ l. rest.1))
-]
+-- ---- any row of the state, from so many turns before
+-- of a loop that lies at each turn where no multiplier moves
+row_from : (d : Design) (c : Numbers) (shifts z : Box) → IsLoopFor d c → IsStill c z → (start : List ℤ) → length start ≡ d.states → (w : ℕ → ℕ → ℤ) (turns : ℕ) →
+    AreShiftsUpTo d shifts.low shifts.high w turns → ((k : ℕ) → k ≤ turns → LiesInBox d.states z (at (state_under d c start w k))) → (row : ℕ → ℤ) (back : ℕ) → back ≤ turns →
+    dot d.states row (at (state_under d c start w turns)) ≤ℤ row_most d c z shifts z row back
+row_from d c shifts z loop still start long w turns within inside row back h =
+    let t = turns - back in
+    let e : back + t ≡ turns = omega (arith, h) in
+    let there = state_under d c start w t in
+    let rest : ℕ → ℕ → ℤ = λ k. w (k + t) in
+    subst (λ (x : List ℤ). dot d.states row (at x) ≤ℤ row_most d c z shifts z row back) (goes_on d c start w t back ∙ ap (state_under d c start w) e)
+    (row_bound d c z shifts z loop still there rest back (state_long d c start w t long) (inside t (omega (arith, h))) (λ k l. within (k + t) (omega (arith, l, e)))
+    (λ k l. subst (λ (x : List ℤ). LiesInBox d.states z (at x)) (sym (goes_on d c start w t k)) (inside (k + t) (omega (arith, l, e)))) row)
+
+pub row_settling_law : RowSettlingLaw
+row_settling_law d c shifts s loop still settles start long lies w turns within row back h =
+    row_from d c shifts s.still loop still start long w turns within (λ k l. (settles start long lies w k (λ j o. within j (omega (arith, o, l)))).inside) row back h
+
+-- the rows of the cost
+costs_from : (d : Design) (c : Numbers) (shifts : Box) (s : Certificate) → IsLoopFor d c → IsStill c s.still → (start : List ℤ) → length start ≡ d.states → (w : ℕ → ℕ → ℤ) (turns : ℕ) →
+    AreShiftsUpTo d shifts.low shifts.high w turns → ((k : ℕ) → k ≤ turns → LiesInBox d.states s.still (at (state_under d c start w k))) → s.after ≤ turns →
+    LiesInBox (told_rows d s.after) (cost_box d c s.still shifts s.after) (λ k. dot d.states (cost_numbers d k) (at (state_under d c start w turns)))
+costs_from d c shifts s loop still start long w turns within inside h k l =
+    let row = cost_numbers d k in
+    let x = at (state_under d c start w turns) in (
+      turned _ _ _ (dot_neg d.states row x) (row_from d c shifts s.still loop still start long w turns within inside (λ j. neg_ℤ (row j)) s.after h),
+      row_from d c shifts s.still loop still start long w turns within inside row s.after h,
+    )
   where
-    promised : LiesInBox d.states s.still (at (state_under d c start w turns)) →
-        (s.turns ≤ turns → LiesInBox d.states (settled_box d c shifts s) (at (state_under d c start w turns))) → IsSettledAt d c shifts s turns (state_under d c start w turns)
-    promised inside settled =
-        let in_box = wider d.states (box_of c.low c.high) s.still (at (state_under d c start w turns)) settles.inside inside in
-        record {
-          admissible = record {
-            long = state_long d c start w turns long ∙ loop.sizes.states;
-            each = λ i l. (let b = in_box i (omega (arith, l, loop.sizes.states)) in record { low = b.0; high = b.1 });
-          };
-          inside = inside;
-          settled = settled;
-        }
+    turned : (a b m : ℤ) → a ≡ neg_ℤ b → a ≤ℤ m → neg_ℤ m ≤ℤ b
+    turned a b m e h = omega (arith, ints, e, h)
+
+-- ---- all turns
+module _ (d : Design) (c : Numbers) (shifts : Box) (s : Certificate) (loop : IsLoopFor d c) (settles : Settles d c shifts s) where
+  rests : (start : List ℤ) → length start ≡ d.states → LiesInBox d.states s.start (at start) → (w : ℕ → ℕ → ℤ) (turns : ℕ) → AreShiftsUpTo d shifts.low shifts.high w turns →
+      s.turns ≤ turns → AtRest d c shifts s loop settles (state_under d c start w turns)
+  rests start long lies w turns within h =
+      let e : turns - s.turns + s.turns ≡ turns = omega (arith, h) in
+      subst (λ t. AtRest d c shifts s loop settles (state_under d c start w t)) e
+      (at_rest d c shifts s loop settles (suc (turns - s.turns)) s.turns s.start settles.there start long lies w (turns - s.turns) (omega arith) (λ k l. within k (omega (arith, l, e))))
+
+  all_still : (start : List ℤ) → length start ≡ d.states → LiesInBox d.states s.start (at start) → (w : ℕ → ℕ → ℤ) (turns : ℕ) → AreShiftsUpTo d shifts.low shifts.high w turns →
+      LiesInBox d.states s.still (at (state_under d c start w turns))
+  all_still start long lies w turns within = elim (cases_lt turns s.turns) [
+    | inl o ↦ is_still d c shifts s loop settles s.start s.turns settles.there start long lies w turns o within
+    | inr o ↦ (rests start long lies w turns within o).0
+  ]
+
+pub settling_law : SettlingLaw
+settling_law d c shifts s loop settles start long lies w turns within =
+    let inside = all_still d c shifts s loop settles start long lies w in
+    let in_box = wider d.states (box_of c.low c.high) s.still (at (state_under d c start w turns)) settles.inside (inside turns within) in
+    record {
+      admissible = record {
+        long = state_long d c start w turns long ∙ loop.sizes.states;
+        each = λ i l. (let b = in_box i (omega (arith, l, loop.sizes.states)) in record { low = b.0; high = b.1 });
+      };
+      inside = inside turns within;
+      settled = λ h. (rests d c shifts s loop settles start long lies w turns within h).1;
+      costs = costs_from d c shifts s loop settles.still start long w turns within (λ k l. inside k (λ j o. within j (omega (arith, o, l))));
+    }
 
 -- ---- a controller that is certified
 grid_state : (d : Design) (c : Numbers) → HasSizesOf d c → (xi : List ℤ) → IsAdmissible c xi → IsGridState d (at xi)

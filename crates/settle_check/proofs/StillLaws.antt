@@ -22,7 +22,7 @@ use Rattle.qp_model.specs.machine.Controller.{Numbers, plan_length, HasShape, Is
 use Rattle.qp_model.specs.machine.Machine.{loaded, lowering_of, raised, top_of, plan_entry, plan_of, row_sum, next_multiplier, after}
 use Rattle.qp_model.proofs.MagnitudeLaws.{zeros_at, top_nonneg}
 use Rattle.stay_check.proofs.StayLaws.{product_le-max}
-use Rattle.settle_check.specs.Still.{Box, LiesInBox, greatest_over, greatest_less, unit, still_coefficient, still_sum, IsStill, still_entry, StillLaw}
+use Rattle.settle_check.specs.Still.{Box, LiesInBox, greatest_over, greatest_less, fraction_unit, still_coefficient, still_sum, IsStill, still_entry, StillLaw}
 use Rattle.settle_check.proofs.FloorLaws.{floor-le, floor_scaled}
 
 -- ---- over a box
@@ -48,7 +48,7 @@ raised_zeros c l h i =
 entry_is : (c : Numbers) (xi l : List ℤ) → ((i : ℕ) → at l i ≡ pos 0) → (j : ℕ) → j < length c.offsets → at (plan_of c (loaded c xi) (raised c l)) j ≡ still_entry c xi j
 entry_is c xi l h j inside =
     get_or-map-range_with_len (plan_entry c (loaded c xi) (raised c l)) 0 (length c.offsets) j j (pos 0) inside (omega arith)
-    ∙ unscaled _ _ (unit c) (2 ^ c.step_exponent) _ (dot_zeros (row_of c.dual_gains j) (raised c l) (raised_zeros c l h))
+    ∙ unscaled _ _ (fraction_unit c) (2 ^ c.step_exponent) _ (dot_zeros (row_of c.dual_gains j) (raised c l) (raised_zeros c l h))
     (pow-add 2 c.fraction_bits c.step_exponent) (pow_pos c.fraction_bits) (pow_pos c.step_exponent)
   where
     unscaled : (x r : ℤ) (d p e : ℕ) → r ≡ pos 0 → e ≡ d * p → 0 < d → 0 < p → neg_ℤ (floor_of (x *ℤ pos p +ℤ r) e) ≡ neg_ℤ (floor_of x d)
@@ -106,16 +106,16 @@ entry_rest g s p t x F h e =
     spread g u s p t F m x e h = le_by (rw e at h) (by_ring (g ∷ u ∷ s ∷ p ∷ t ∷ F ∷ m ∷ []) (search quotes depth 60 fits 20000) refl)
 
 pub plan_most : (c : Numbers) (xi : List ℤ) (m : ℕ) (g : ℕ → ℤ) → IsSized c → length xi ≡ c.states → m ≤ plan_length c →
-    (pos (unit c) *ℤ dot m g (still_entry c xi)) ≤ℤ
-    (pos (unit c) *ℤ greatest_less m g (at c.offsets)
+    (pos (fraction_unit c) *ℤ dot m g (still_entry c xi)) ≤ℤ
+    (pos (fraction_unit c) *ℤ greatest_less m g (at c.offsets)
     -ℤ pos (2 ^ (c.fraction_bits - c.grid_bits)) *ℤ dot c.states (coimage m (entry_of c.state_gains) g) (at xi))
 plan_most c xi m g sized long small =
-    let F = pos (unit c) in
+    let F = pos (fraction_unit c) in
     let s = pos (2 ^ (c.fraction_bits - c.grid_bits)) in
     let p : ℕ → ℤ = image c.states (entry_of c.state_gains) (at xi) in
     apart _ _ _ _ _
     (total_mono m (λ l. F *ℤ (g l *ℤ still_entry c xi l) +ℤ s *ℤ (g l *ℤ p l)) (λ l. F *ℤ (int_max (g l) (pos 0) -ℤ g l *ℤ at c.offsets l))
-    (λ l o. entry_rest (g l) s (p l) (at c.offsets l) _ (unit c) (pow_pos c.fraction_bits)
+    (λ l o. entry_rest (g l) s (p l) (at c.offsets l) _ (fraction_unit c) (pow_pos c.fraction_bits)
     (state_dot c xi c.state_gains (plan_length c) l long sized.shaped.state_gains (omega (arith, o, small)))))
     (total_add m (λ l. F *ℤ (g l *ℤ still_entry c xi l)) (λ l. s *ℤ (g l *ℤ p l))
     ∙ add_equations (total_scale m F (λ l. g l *ℤ still_entry c xi l)) (total_scale m s (λ l. g l *ℤ p l) ∙ ap (λ (z : ℤ). s *ℤ z) (dot_image m c.states (entry_of c.state_gains) g (at xi))))
@@ -128,9 +128,9 @@ plan_most c xi m g sized long small =
 -- F times a row's residual is at most the tested sum
 row_most : (c : Numbers) (z : Box) (xi : List ℤ) (plan : List ℤ) (i : ℕ) → IsSized c → length xi ≡ c.states → LiesInBox c.states z (at xi) → i < c.rows →
     length plan ≡ plan_length c → ((j : ℕ) → j < plan_length c → at plan j ≡ still_entry c xi j) →
-    (pos (unit c) *ℤ row_sum c (loaded c xi) plan i) ≤ℤ still_sum c z i
+    (pos (fraction_unit c) *ℤ row_sum c (loaded c xi) plan i) ≤ℤ still_sum c z i
 row_most c z xi plan i sized long inside l planned entries =
-    let F = pos (unit c) in
+    let F = pos (fraction_unit c) in
     let s = pos (2 ^ (c.fraction_bits - c.grid_bits)) in
     summed F s (at c.bounds i) _ _ _ _ _ _ _ _
     (dot_is (plan_length c) (row_of c.plan_rows i) plan (row_long c.plan_rows c.rows (plan_length c) i sized.shaped.plan_rows l) planned
@@ -138,7 +138,8 @@ row_most c z xi plan i sized long inside l planned entries =
     (state_dot c xi c.state_rows c.rows i long sized.shaped.state_rows l)
     (plan_most c xi (plan_length c) (entry_of c.plan_rows i) sized long (le_refl (plan_length c)))
     (mul-le-mul_left_z s (omega (arith, ints)) (dot_le-greatest c.states z (still_coefficient c i) (at xi) inside))
-    (dot_sub c.states (λ j. F *ℤ entry_of c.state_rows i j) _ (at xi) ∙ ap (λ (y : ℤ). y -ℤ dot c.states (coimage (plan_length c) (entry_of c.state_gains) (entry_of c.plan_rows i)) (at xi)) (dot_scale c.states F (entry_of c.state_rows i) (at xi)))
+    (dot_sub c.states (λ j. F *ℤ entry_of c.state_rows i j) _ (at xi)
+    ∙ ap (λ (y : ℤ). y -ℤ dot c.states (coimage (plan_length c) (entry_of c.state_gains) (entry_of c.plan_rows i)) (at xi)) (dot_scale c.states F (entry_of c.state_rows i) (at xi)))
   where
     summed : (F s b g u e x v y k top : ℤ) → g ≡ u → e ≡ s *ℤ x → (F *ℤ u) ≤ℤ (F *ℤ v -ℤ s *ℤ y) → (s *ℤ k) ≤ℤ (s *ℤ top) → k ≡ F *ℤ x -ℤ y →
         (F *ℤ (g +ℤ e -ℤ b *ℤ F)) ≤ℤ (s *ℤ top +ℤ F *ℤ (v -ℤ F *ℤ b))
@@ -180,7 +181,7 @@ module _ (c : Numbers) (z : Box) (sized : IsSized c) (still : IsStill c z) (xi :
       elim (cases_lt i (length c.bounds)) [
         | inl lt ↦ (let row : i < c.rows = omega (arith, lt, sized.shaped.bounds) in
             get_or-map-range_with_len next 0 (length c.bounds) i i (pos 0) lt (omega arith)
-            ∙ stays_zero (top_of c i) (at old i) (row_sum c (loaded c xi) plan i) (unit c) (still_sum c z i) (top_nonneg c i sized.clamp_low) (no_multiplier k i) (pow_pos c.fraction_bits)
+            ∙ stays_zero (top_of c i) (at old i) (row_sum c (loaded c xi) plan i) (fraction_unit c) (still_sum c z i) (top_nonneg c i sized.clamp_low) (no_multiplier k i) (pow_pos c.fraction_bits)
             (row_most c z xi plan i sized long inside row (plan_long old) (plan_at old (no_multiplier k))) (still i row))
         | inr le ↦ get_or_past (after c (loaded c xi) (suc k)).multipliers i (pos 0) (omega (arith, length-map-range_with_len next 0 (length c.bounds), le))
       ]

@@ -4,7 +4,7 @@ use Rattle.std.specs.Int.{int_max, int_min}
 use Rattle.settle_check.specs.Still.{Box, IsPartOf}
 use Rattle.settle_check.specs.Settling.{hull}
 use Rattle.settle_check.specs.Certificates.{state_box, certificate_of, goal_of, HasLength, IsCertificateFor}
-use Rattle.settle_check.specs.Beyond.{goal_at, IsFirstBeyond}
+use Rattle.settle_check.specs.Beyond.{goal_at}
 use Rattle.settle_check.specs.declared.certificate.StateBox.{StateBox}
 use Rattle.settle_check.specs.declared.certificate.CertificateParts.{CertificateParts}
 
@@ -44,8 +44,3 @@ pub goal_inside : (n : ℕ) (p : CertificateParts) (turns t : ℕ) (goal : State
     IsPartOf (length goal.low.items) (state_box goal) box → IsPartOf n (goal_at (certificate_of p) turns t) box
 goal_inside n p turns t goal box h e inside =
     rw (← (goal_is p turns t), ← (goal_long n p turns t h).low) (subst (λ (g : StateBox). IsPartOf (length g.low.items) (state_box g) box) e inside)
-
-pub goal_beyond : (n : ℕ) (p : CertificateParts) (turns t : ℕ) (goal : StateBox) (box : Box) (coordinate : ℕ) (bound : ℤ) → IsCertificateFor n p → goal ≡ goal_of p turns t →
-    IsFirstBeyond (length goal.low.items) (state_box goal) box coordinate bound → IsFirstBeyond n (goal_at (certificate_of p) turns t) box coordinate bound
-goal_beyond n p turns t goal box coordinate bound h e b =
-    rw (← (goal_is p turns t), ← (goal_long n p turns t h).low) (subst (λ (g : StateBox). IsFirstBeyond (length g.low.items) (state_box g) box coordinate bound) e b)

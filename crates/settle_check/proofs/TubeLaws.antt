@@ -6,6 +6,7 @@ use Rattle.std.proofs.lemmas.List.FromFn.{length-map-range_with_len}
 use Rattle.integer_algebra.specs.Sums.{total, dot, at}
 use Rattle.integer_algebra.proofs.RingLaws.{neg-mul_z}
 use Rattle.integer_algebra.proofs.SumLaws.{total_same}
+use Rattle.integer_algebra.proofs.VectorLaws.{dot_scale}
 use Rattle.integer_algebra.proofs.BlockLaws.{total_single, choose_times}
 use Rattle.qp_model.specs.problem.Design.{Design}
 use Rattle.qp_model.specs.machine.Controller.{Numbers}
@@ -13,7 +14,7 @@ use Rattle.qp_model.specs.machine.Successor.{successor}
 use Rattle.stay_check.specs.LoopStay.{state_under, AreShiftsUpTo}
 use Rattle.settle_check.specs.Still.{Box, LiesInBox, IsStill}
 use Rattle.settle_check.specs.ClosedRows.{IsLoopFor, row_after, turn_adds}
-use Rattle.settle_check.specs.Tube.{IsIn, coordinate_row, most_after, TubeRowsLaw, TubeLaw}
+use Rattle.settle_check.specs.Tube.{IsIn, coordinate_row, most_after, row_most, TubeRowsLaw, TubeLaw}
 use Rattle.settle_check.proofs.FloorLaws.{le-floor}
 use Rattle.settle_check.proofs.StillLaws.{dot_le-greatest}
 use Rattle.settle_check.proofs.RowLaws.{row_law}
@@ -43,6 +44,22 @@ rows_law d c z shifts loop still rows start w (suc k) long within inside =
   where
     joined : (y x s a b t : ℤ) → y ≤ℤ (x +ℤ a) → x ≤ℤ (s +ℤ b) → t ≡ a +ℤ b → y ≤ℤ (s +ℤ t)
     joined y x s a b t h k e = omega (arith, ints, h, k, e)
+
+-- ---- any row of the state
+pub row_bound : (d : Design) (c : Numbers) (z shifts from : Box) → IsLoopFor d c → IsStill c z → (start : List ℤ) (w : ℕ → ℕ → ℤ) (turns : ℕ) → length start ≡ d.states →
+    LiesInBox d.states from (at start) → AreShiftsUpTo d shifts.low shifts.high w turns → IsIn d c z start w turns → (row : ℕ → ℤ) →
+    dot d.states row (at (state_under d c start w turns)) ≤ℤ row_most d c z shifts from row turns
+unfolding row_after
+row_bound d c z shifts from loop still start w turns long lies within inside row =
+    let first : ℕ → ℤ = λ j. pos (2 ^ 24) *ℤ row j in
+    let x = at (state_under d c start w turns) in
+    le-floor (dot d.states row x) _ (2 ^ 24) (omega arith)
+    (joined _ _ _ _ _ (dot_scale d.states (pos (2 ^ 24)) row x ∙ *ℤ_comm (pos (2 ^ 24)) (dot d.states row x))
+    (rows_law d c z shifts loop still (row_after d c first) start w turns long within inside)
+    (dot_le-greatest d.states from (row_after d c first turns) (at start) lies))
+  where
+    joined : (a b s g t : ℤ) → b ≡ a → b ≤ℤ (s +ℤ t) → s ≤ℤ g → a ≤ℤ (g +ℤ t)
+    joined a b s g t e h k = omega (arith, ints, e, h, k)
 
 -- ---- the tube
 coordinate_dot : (n i : ℕ) (f : ℤ) (x : ℕ → ℤ) → i < n → dot n (coordinate_row i f) x ≡ f *ℤ x i

@@ -1,7 +1,7 @@
 -- What the test of the rows answers.
 use Rattle.std.specs.Prelude.{◌≡◌, ℕ, ◌+◌, ◌^◌, ◌<◌, ◌≤◌, ℤ, pos, ◌*ℤ◌, ◌≤ℤ◌, ◌<ℤ◌}
 use Rattle.qp_model.specs.machine.Controller.{Numbers}
-use Rattle.settle_check.specs.Still.{Box, unit, still_sum}
+use Rattle.settle_check.specs.Still.{Box, fraction_unit, still_sum}
 use Rattle.settle_check.specs.StillSize.{still_size}
 use Rattle.settle_check.specs.declared.fault.SettleFault.{SettleFault}
 use Rattle.settle_check.specs.declared.fault.SettleFault.TheVariants.{Memory, TooWide, Moves, Unsettled, NoReturn}
@@ -9,14 +9,14 @@ use Rattle.settle_check.specs.declared.fault.SettleFault.TheVariants.{Memory, To
 -- the multiplier of row i doesn't move, and it is computed within 2^126
 pub record RowIsStill (c : Numbers) (z : Box) (i : ℕ) : Type 0 where
   pub size : still_size c z i ≤ 2 ^ 126
-  pub still : still_sum c z i <ℤ (pos (unit c) *ℤ pos (unit c))
+  pub still : still_sum c z i <ℤ (pos (fraction_unit c) *ℤ pos (fraction_unit c))
 
 -- it may move
 pub record RowMoves (c : Numbers) (z : Box) (i row : ℕ) (left right : ℤ) : Type 0 where
   pub place : row ≡ i + 1
   pub size : still_size c z i ≤ 2 ^ 126
   pub number : left ≡ still_sum c z i
-  pub limit : right ≡ pos (unit c) *ℤ pos (unit c)
+  pub limit : right ≡ pos (fraction_unit c) *ℤ pos (fraction_unit c)
   pub moves : right ≤ℤ left
 
 -- the fault of row i

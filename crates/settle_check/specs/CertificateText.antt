@@ -1,4 +1,4 @@
--- A certificate's text: a record for each of its boxes, of a number of turns, the least number of each coordinate and then the greatest.
+-- A certificate's text: a record for each of its boxes, of the turns from it, the least number of each coordinate and then the greatest.
 use Rattle.std.specs.Prelude.{◌≡◌, ◌⊎◌, ℕ, ◌+◌, ◌*◌, ◌≤◌, ◌<◌, ℤ, pos, ◌≤ℤ◌, List, ◌∷◌, ◌++◌, length, take, drop}
 use Rattle.integer_algebra.specs.Sums.{at}
 use Rattle.mat_int.specs.Matrix.{Matrix, entry_of}
@@ -20,6 +20,7 @@ pub record BoxNumbers : Type 0 where
 
 pub record CertificateNumbers : Type 0 where
   pub turns : ℕ
+  pub after : ℕ
   pub back : ℕ
   pub start : BoxNumbers
   pub still : BoxNumbers
@@ -31,6 +32,7 @@ box_numbers b = record { low = b.low.items; high = b.high.items }
 abbrev pub certificate_numbers : CertificateParts → CertificateNumbers
 certificate_numbers p = record {
   turns = p.turns;
+  after = p.after;
   back = p.back;
   start = box_numbers p.start;
   still = box_numbers p.still;
@@ -42,7 +44,7 @@ abbrev pub box_in : BoxNumbers → Box
 box_in b = box_of b.low b.high
 
 abbrev pub certificate_in : CertificateNumbers → Certificate
-certificate_in f = record { start = box_in f.start; still = box_in f.still; rest = box_in f.rest; turns = f.turns; back = f.back }
+certificate_in f = record { start = box_in f.start; still = box_in f.still; rest = box_in f.rest; turns = f.turns; after = f.after; back = f.back }
 
 -- ---- their text
 -- the most turns from a box to the box of rest
@@ -59,15 +61,16 @@ pub record HoldsBox (bytes : List ℕ) (n e turns : ℕ) (b : BoxNumbers) : Type
 abbrev pub HasState : ℕ → Box → Type 0
 HasState n b = (i : ℕ) → i < n → b.low i ≤ℤ b.high i
 
--- The bytes are the text of this certificate: the turns from the start box and that box, which holds a state; 0 and the box where no multiplier moves, which is part of an outer
--- one; the turns from the box of rest, some, and that box.
+-- The bytes are the text of this certificate: the turns from the start box and that box, which holds a state; the turns from the box where no multiplier moves
+-- to the rows of the cost, or 0, and that box, which is part of an outer one; the turns from the box of rest, some, and that box.
 pub record IsCertificateText (bytes : List ℕ) (n : ℕ) (outer : Box) (f : CertificateNumbers) : Type 0 where
   pub records : length (records_of bytes) ≡ 3
   pub start : HoldsBox bytes n 0 f.turns f.start
-  pub still : HoldsBox bytes n 1 0 f.still
+  pub still : HoldsBox bytes n 1 f.after f.still
   pub rest : HoldsBox bytes n 2 f.back f.rest
   pub turns : f.turns ≤ most_settling_turns
   pub starts : HasState n (box_in f.start)
+  pub after : f.after ≤ most_settling_turns
   pub inside : IsPartOf n outer (box_in f.still)
   pub some : 1 ≤ f.back
   pub back : f.back ≤ most_settling_turns
@@ -91,18 +94,22 @@ box_at n boxes e = record { low = λ i. entry_of boxes e i; high = λ i. entry_o
 abbrev pub IsStartRecord : (n : ℕ) → (heads : List ℤ) → (boxes : Matrix) → Type 0
 IsStartRecord n heads boxes = IsTurnCount (pos 0) (at heads 0) × HasState n (box_at n boxes 0)
 
+-- the second of turns in their range and a part of an outer box
+abbrev pub IsStillRecord : (n : ℕ) → (outer : Box) → (heads : List ℤ) → (boxes : Matrix) → Type 0
+IsStillRecord n outer heads boxes = IsTurnCount (pos 0) (at heads 1) × IsPartOf n outer (box_at n boxes 1)
+
 -- record by record the numbers are in their ranges
 pub record AreBoxesInRange (n : ℕ) (outer : Box) (heads : List ℤ) (boxes : Matrix) : Type 0 where
   pub start : IsStartRecord n heads boxes
-  pub still : (at heads 1 ≡ pos 0) × IsPartOf n outer (box_at n boxes 1)
+  pub still : IsStillRecord n outer heads boxes
   pub back : IsTurnCount (pos 1) (at heads 2)
 
 -- the first record, from 1, with one that isn't
 abbrev pub IsFirstOutOfRange : (n : ℕ) → (outer : Box) → (heads : List ℤ) → (boxes : Matrix) → (place : ℕ) → Type 0
 IsFirstOutOfRange n outer heads boxes place =
     ((place ≡ 1) × ¬ IsStartRecord n heads boxes) ⊎
-    (((place ≡ 2) × IsStartRecord n heads boxes × ¬ ((at heads 1 ≡ pos 0) × IsPartOf n outer (box_at n boxes 1))) ⊎
-    ((place ≡ 3) × IsStartRecord n heads boxes × ((at heads 1 ≡ pos 0) × IsPartOf n outer (box_at n boxes 1)) × ¬ IsTurnCount (pos 1) (at heads 2)))
+    (((place ≡ 2) × IsStartRecord n heads boxes × ¬ IsStillRecord n outer heads boxes) ⊎
+    ((place ≡ 3) × IsStartRecord n heads boxes × IsStillRecord n outer heads boxes × ¬ IsTurnCount (pos 1) (at heads 2)))
 
 -- there are three records of so many numbers, of which that one has one out of its range
 pub record IsBoxRangeFault (bytes : List ℕ) (n : ℕ) (outer : Box) (fault : TextFault) : Type 0 where

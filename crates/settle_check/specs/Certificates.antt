@@ -10,7 +10,7 @@ abbrev pub state_box : StateBox → Box
 state_box b = box_of b.low.items b.high.items
 
 abbrev pub certificate_of : CertificateParts → Certificate
-certificate_of p = record { start = state_box p.start; still = state_box p.still; rest = state_box p.rest; turns = p.turns; back = p.back }
+certificate_of p = record { start = state_box p.start; still = state_box p.still; rest = state_box p.rest; turns = p.turns; after = p.after; back = p.back }
 
 -- of n coordinates
 pub record HasLength (n : ℕ) (b : StateBox) : Type 0 where

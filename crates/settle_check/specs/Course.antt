@@ -1,13 +1,14 @@
 -- The closed loop as the code holds it: where a row leads, turn by turn, and what is computed on the way.
-use Rattle.std.specs.Prelude.{◌≡◌, ◌⊎◌, ℕ, ◌+◌, ◌^◌, ◌<◌, Bool, ℤ, pos, ◌+ℤ◌, neg_ℤ, if◌then◌else◌}
+use Rattle.std.specs.Prelude.{◌≡◌, ◌⊎◌, ℕ, ◌+◌, ◌^◌, ◌<◌, ◌≤◌, Bool, ℤ, pos, ◌+ℤ◌, ◌*ℤ◌, neg_ℤ, if◌then◌else◌}
 use Rattle.integer_algebra.specs.Division.{floor_of, round_of}
 use Rattle.qp_model.specs.problem.Design.{Design}
 use Rattle.qp_model.specs.problem.Parts.{design_of}
 use Rattle.qp_model.specs.machine.Controller.{Numbers, numbers}
 use Rattle.settle_check.specs.Still.{Box, box_of, greatest_over}
 use Rattle.settle_check.specs.ClosedRows.{through_loop, loop_over, turn_adds}
-use Rattle.settle_check.specs.TurnSize.{through_size, turn_size, row_size, HasCourseRoom}
+use Rattle.settle_check.specs.TurnSize.{through_size, turn_adds_size, row_size, course_size, HasCourseRoom}
 use Rattle.settle_check.specs.Tube.{coordinate_row, tube}
+use Rattle.settle_check.specs.Settling.{told_rows, cost_numbers, cost_box}
 use Rattle.settle_check.specs.declared.closed.ClosedLoop.{ClosedLoop}
 use Rattle.settle_check.specs.declared.fault.SettleFault.{SettleFault}
 use Rattle.settle_check.specs.declared.fault.SettleFault.TheVariants.{Memory, TooWide}
@@ -35,7 +36,7 @@ abbrev pub adds : ClosedLoop → (row next : ℕ → ℤ) → ℤ
 adds l row next = turn_adds (plant l) (machine l) (states_box l) (shifts_box l) row next
 
 abbrev pub adds_size : ClosedLoop → (row next : ℕ → ℤ) → ℕ
-adds_size l row next = turn_size (plant l) (machine l) (states_box l) (shifts_box l) row next
+adds_size l row next = turn_adds_size (plant l) (machine l) (states_box l) (shifts_box l) row next
 
 -- a row passes 2^126 on its way through the loop
 pub record IsRowWide (l : ClosedLoop) (row : ℕ → ℤ) : Type 0 where
@@ -82,3 +83,23 @@ SideHasRoom l from turns upper = (i : ℕ) → i < l.parts.now.states → EndHas
 
 abbrev pub IsSideFault : ClosedLoop → (from : Box) → ℕ → (upper : Bool) → SettleFault → Type 0
 IsSideFault l from turns upper e = (e ≡ Memory) ⊎ ((e ≡ TooWide) × (SideHasRoom l from turns upper → ⊥))
+
+-- ---- rows of the cost
+-- row k as it begins, over 2^24, for the lower end with its signs changed
+abbrev pub cost_first : Design → (upper : Bool) → ℕ → ℕ → ℤ
+cost_first d upper k j = pos (2 ^ 24) *ℤ signed upper (cost_numbers d k j)
+
+-- where the rows lie
+abbrev pub costs_of : ClosedLoop → (turns : ℕ) → Box
+costs_of l turns = cost_box (plant l) (machine l) (states_box l) (shifts_box l) turns
+
+-- an end of row k is computed within 2^126
+abbrev pub CostHasRoom : Design → Numbers → (z shifts : Box) → (turns : ℕ) → (upper : Bool) → ℕ → Type 0
+CostHasRoom d c z shifts turns upper k = course_size d c z shifts z (cost_first d upper k) turns ≤ 2 ^ 126
+
+abbrev pub CostEndHasRoom : ClosedLoop → (turns : ℕ) → (upper : Bool) → ℕ → Type 0
+CostEndHasRoom l turns upper k = CostHasRoom (plant l) (machine l) (states_box l) (shifts_box l) turns upper k
+
+-- that of all that are told
+abbrev pub CostSideHasRoom : ClosedLoop → (turns : ℕ) → (upper : Bool) → Type 0
+CostSideHasRoom l turns upper = (k : ℕ) → k < told_rows (plant l) turns → CostEndHasRoom l turns upper k

@@ -6,8 +6,8 @@ use Rattle.settle_check.specs.Still.{Box, IsPartOf, IsStill}
 use Rattle.settle_check.specs.StillSize.{still_size}
 use Rattle.settle_check.specs.TurnSize.{HasCourseRoom}
 use Rattle.settle_check.specs.Tube.{tube}
-use Rattle.settle_check.specs.Settling.{Certificate, Leads}
-use Rattle.settle_check.specs.Course.{plant, machine, states_box, shifts_box, end_row}
+use Rattle.settle_check.specs.Settling.{Certificate, Leads, told_rows}
+use Rattle.settle_check.specs.Course.{plant, machine, states_box, shifts_box, end_row, CostHasRoom}
 use Rattle.settle_check.specs.Answers.{RowIsStill, RowMoves}
 use Rattle.settle_check.specs.Beyond.{goal_at, IsFirstTurnBeyond}
 use Rattle.settle_check.specs.declared.closed.ClosedLoop.{ClosedLoop}
@@ -24,10 +24,15 @@ abbrev pub EndsHaveRoom : Design → Numbers → (z shifts from : Box) → ℕ �
 EndsHaveRoom d c z shifts from turns =
     (i : ℕ) → i < d.states → HasCourseRoom d c z shifts from (end_row false i) turns × HasCourseRoom d c z shifts from (end_row true i) turns
 
+-- both ends of each row of the cost that is told
+abbrev pub CostsHaveRoom : Design → Numbers → (z shifts : Box) → (turns : ℕ) → Type 0
+CostsHaveRoom d c z shifts turns = (k : ℕ) → k < told_rows d turns → CostHasRoom d c z shifts turns false k × CostHasRoom d c z shifts turns true k
+
 -- all of a certificate
 pub record HasAllRoom (d : Design) (c : Numbers) (shifts : Box) (s : Certificate) : Type 0 where
   pub there : EndsHaveRoom d c s.still shifts s.start s.turns
   pub again : EndsHaveRoom d c s.still shifts s.rest s.back
+  pub costs : CostsHaveRoom d c s.still shifts s.after
   pub rows : RowsHaveRoom c s.still
 
 -- of a tube
@@ -36,6 +41,10 @@ TubeHasRoom l from turns = EndsHaveRoom (plant l) (machine l) (states_box l) (sh
 
 abbrev pub IsTubeFault : ClosedLoop → (from : Box) → ℕ → SettleFault → Type 0
 IsTubeFault l from turns e = (e ≡ Memory) ⊎ ((e ≡ TooWide) × (TubeHasRoom l from turns → ⊥))
+
+-- of rows of the cost
+abbrev pub LoopCostsHaveRoom : ClosedLoop → (turns : ℕ) → Type 0
+LoopCostsHaveRoom l turns = CostsHaveRoom (plant l) (machine l) (states_box l) (shifts_box l) turns
 
 -- ---- the tests, in their order
 pub record PassesSettling (d : Design) (c : Numbers) (shifts : Box) (s : Certificate) : Type 0 where

@@ -35,28 +35,28 @@ greatest_less n v t = total n (λ l. int_max (v l) (pos 0) -ℤ v l *ℤ t l)
 
 -- ---- the test of a row
 -- what a number over 1 is over 2^fraction_bits
-abbrev pub unit : Numbers → ℕ
-unit c = 2 ^ c.fraction_bits
+abbrev pub fraction_unit : Numbers → ℕ
+fraction_unit c = 2 ^ c.fraction_bits
 
 -- what row i has of number j of the state under the plan that the multipliers 0 give, over 2^(2 fraction_bits)
 abbrev pub still_coefficient : Numbers → ℕ → ℕ → ℤ
 still_coefficient c i j =
-    pos (unit c) *ℤ entry_of c.state_rows i j -ℤ coimage (plan_length c) (entry_of c.state_gains) (entry_of c.plan_rows i) j
+    pos (fraction_unit c) *ℤ entry_of c.state_rows i j -ℤ coimage (plan_length c) (entry_of c.state_gains) (entry_of c.plan_rows i) j
 
 -- the most that the row's residual can be over the box under that plan, over 2^(3 fraction_bits): a plan entry is rounded up by less than 2^-fraction_bits
 abbrev pub still_sum : Numbers → Box → ℕ → ℤ
 still_sum c z i =
     pos (2 ^ (c.fraction_bits - c.grid_bits)) *ℤ greatest_over c.states z (still_coefficient c i)
-    +ℤ pos (unit c) *ℤ (greatest_less (plan_length c) (entry_of c.plan_rows i) (at c.offsets) -ℤ pos (unit c) *ℤ at c.bounds i)
+    +ℤ pos (fraction_unit c) *ℤ (greatest_less (plan_length c) (entry_of c.plan_rows i) (at c.offsets) -ℤ pos (fraction_unit c) *ℤ at c.bounds i)
 
 -- the multiplier of no row moves from 0
 abbrev pub IsStill : Numbers → Box → Type 0
-IsStill c z = (i : ℕ) → i < c.rows → still_sum c z i <ℤ (pos (unit c) *ℤ pos (unit c))
+IsStill c z = (i : ℕ) → i < c.rows → still_sum c z i <ℤ (pos (fraction_unit c) *ℤ pos (fraction_unit c))
 
 -- ---- what the machine does there
 -- plan entry j at the multipliers 0, over 2^fraction_bits
 abbrev pub still_entry : Numbers → List ℤ → ℕ → ℤ
-still_entry c xi j = neg_ℤ (floor_of (list_dot (row_of c.state_gains j) (loaded c xi) +ℤ at c.offsets j *ℤ pos (unit c)) (unit c))
+still_entry c xi j = neg_ℤ (floor_of (list_dot (row_of c.state_gains j) (loaded c xi) +ℤ at c.offsets j *ℤ pos (fraction_unit c)) (fraction_unit c))
 
 -- after any number of steps all multipliers are 0, each plan is that one, and so is the averaged plan
 pub record RunIsStill (c : Numbers) (xi : List ℤ) : Type 0 where

@@ -1,5 +1,5 @@
 -- Where a loop lies turn by turn, as rows of the closed loop show it.
-use Rattle.std.specs.Prelude.{◌≡◌, ℕ, zero, suc, ◌^◌, ◌<◌, ℤ, pos, ◌+ℤ◌, neg_ℤ, ◌≤ℤ◌, List, length, if◌then◌else◌, nat_eq}
+use Rattle.std.specs.Prelude.{◌≡◌, ℕ, zero, suc, ◌^◌, ◌<◌, ℤ, pos, ◌+ℤ◌, ◌*ℤ◌, neg_ℤ, ◌≤ℤ◌, List, length, if◌then◌else◌, nat_eq}
 use Rattle.integer_algebra.specs.Division.{floor_of}
 use Rattle.integer_algebra.specs.Sums.{total, dot, at}
 use Rattle.qp_model.specs.problem.Design.{Design}
@@ -33,6 +33,10 @@ tube d c z shifts from (suc k) = record {
   low = λ i. neg_ℤ (floor_of (most_after d c z shifts from (coordinate_row i (neg_ℤ (pos (2 ^ 24)))) (suc k)) (2 ^ 24));
   high = λ i. floor_of (most_after d c z shifts from (coordinate_row i (pos (2 ^ 24))) (suc k)) (2 ^ 24);
 }
+
+-- the most of a whole row of the state after so many turns from a box
+abbrev pub row_most : Design → Numbers → (z shifts from : Box) → (row : ℕ → ℤ) → ℕ → ℤ
+row_most d c z shifts from row turns = floor_of (most_after d c z shifts from (λ j. pos (2 ^ 24) *ℤ row j) turns) (2 ^ 24)
 
 -- ---- where the loop's states lie in the box before a turn
 -- for any whole rows

@@ -3,7 +3,7 @@ use Rattle.std.specs.Prelude.{◌≡◌, ℕ, ℤ, pos, negsuc, ◌*ℤ◌, [], 
 use Rattle.integer_algebra.specs.Sums.{none}
 use Rattle.qp_model.specs.problem.Design.{Design}
 use Rattle.qp_model.specs.machine.Controller.{Numbers}
-use Rattle.settle_check.specs.Still.{Box, box_of, unit, still_sum}
+use Rattle.settle_check.specs.Still.{Box, box_of, fraction_unit, still_sum}
 use Rattle.settle_check.specs.Tube.{tube}
 
 abbrev pub worked_plant : Design
@@ -67,7 +67,7 @@ worked_tube = tube worked_plant worked_controller (worked_box (negsuc 30) (pos 3
 
 -- in -31 .. 32 no multiplier moves, and one step further on either side the test refuses; and a loop from there lies within 2 from turn 4 on
 pub record WorkedSettling : Type 0 where
-  pub limit : pos (unit worked_controller) *ℤ pos (unit worked_controller) ≡ pos 4194304
+  pub limit : pos (fraction_unit worked_controller) *ℤ pos (fraction_unit worked_controller) ≡ pos 4194304
   pub first_row : still_sum worked_controller (worked_box (negsuc 30) (pos 32)) 0 ≡ negsuc 264241151
   pub second_row : still_sum worked_controller (worked_box (negsuc 30) (pos 32)) 1 ≡ pos 0
   pub below : still_sum worked_controller (worked_box (negsuc 31) (pos 32)) 0 ≡ pos 4194304

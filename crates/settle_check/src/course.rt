@@ -9,12 +9,13 @@ use crate::counted::Counted;
 use crate::fault::SettleFault;
 use crate::rows::{loop_over, row_over, through_loop, turn_rest};
 use crate::still::power;
-use frac_scaled::round_div;
-use mat_int::{Mat, absolute_sum};
+use crate::whole::is_whole;
+use frac_scaled::{limited_sum, round_div};
+use mat_int::Mat;
 use std::alloc::{AllocError, Global};
 
-// A number, or for the lower end its negation.
-fn signed(upper: bool, z: i128) -> i128
+/// A number, or for the lower end its negation.
+pub(crate) fn signed(upper: bool, z: i128) -> i128
     requires { unsigned_abs z ≤ 2 ^ 126 }
     ensures { result ≡ signed upper z }
 {
@@ -45,24 +46,45 @@ impl<'a> ClosedLoop<'a> {
     ghost use Rattle.integer_algebra.specs.Sums.{at};
     ghost use Rattle.qp_model.specs.problem.Runs.{Holds};
     ghost use Rattle.settle_check.specs.Still.{box_of};
-    ghost use Rattle.settle_check.specs.ClosedRows.{loop_over};
-    ghost use Rattle.integer_algebra.specs.Sizes.{size};
+    ghost use Rattle.settle_check.specs.ClosedRows.{loop_over, rounded_row, rounded_size};
     ghost use Rattle.settle_check.specs.TurnSize.{through_size};
     ghost use Rattle.settle_check.specs.Course.{plant, machine, next_row, adds, adds_size, IsRowWide, end_at, end_of, end_size, tube_of, EndHasRoom, IsEndFault, SideHasRoom, IsSideFault};
     ghost use Rattle.mat_int.specs.Matrix.{HasEntries};
     ghost use Rattle.settle_check.specs.declared.fault.SettleFault.TheVariants.{Memory, TooWide};
 
+    // Of a row what stands at number `i` of the state, where it is rounded.
+    fn rounded_at(&self, row: &[i128], i: usize) -> i128
+        requires row { length row.now ≡ self.now.parts.now.states }
+        requires state { i < self.now.parts.now.states }
+        ensures { result ≡ rounded_row (plant self.now) (at row.now) i }
+    {
+        if is_whole(self.parts, i) { 0 } else { row[i] }
+    }
+
+    // The absolute sum of these.
+    fn rounded_sum(&self, row: &[i128]) -> Option<u128>
+        requires { length row.now ≡ self.now.parts.now.states }
+        ensures value { IfSome result (λ n. n ≡ rounded_size (plant self.now) (at row.now)) }
+        ensures room { IsSome result ↔ (rounded_size (plant self.now) (at row.now) ≤ 2 ^ 126) }
+    {
+        let mut sum = 0;
+        for i in 0..self.parts.states {
+            sum = limited_sum(sum, self.rounded_at(row, i).unsigned_abs())?;
+        }
+        Some(sum)
+    }
+
     // Half a unit for each number of a row that is rounded, over twice what rows are over.
     fn rounding(&self, row: &[i128]) -> Option<Counted>
-        requires row { length row.now ≡ self.now.parts.now.states }
-        requires narrow { size (length row.now) (at row.now) ≤ 2 ^ 126 }
-        ensures value { IfSome result (λ a. a.value ≡ pos (loop_over (plant self.now) (machine self.now)) *ℤ pos (size (length row.now) (at row.now))) }
-        ensures size { IfSome result (λ a. a.size ≡ loop_over (plant self.now) (machine self.now) * size (length row.now) (at row.now)) }
-        ensures room { IsSome result ↔ (loop_over (plant self.now) (machine self.now) * size (length row.now) (at row.now) ≤ 2 ^ 126) }
+        requires { length row.now ≡ self.now.parts.now.states }
+        ensures value { IfSome result (λ a.
+            a.value ≡ pos (loop_over (plant self.now) (machine self.now)) *ℤ pos (rounded_size (plant self.now) (at row.now))) }
+        ensures size { IfSome result (λ a. a.size ≡ loop_over (plant self.now) (machine self.now) * rounded_size (plant self.now) (at row.now)) }
+        ensures room { IsSome result ↔ (loop_over (plant self.now) (machine self.now) * rounded_size (plant self.now) (at row.now) ≤ 2 ^ 126) }
     {
         let over = Counted::of(loop_over(self.parts, self.c));
-        let sum = Counted::of(absolute_sum(row) as i128);
-        over.times(sum)
+        let sum = self.rounded_sum(row)?;
+        over.times(Counted::of(sum as i128))
     }
 
     // What a turn adds to a row at most, where `next` is taken for the row through the loop.
@@ -108,8 +130,8 @@ impl<'a> ClosedLoop<'a> {
         Ok(next)
     }
 
-    // The end that a row shows over the box from `low` to `high`, after turns that have added `added`: rounded inward from over `2^24`.
-    fn end(
+    /// The end that a row shows over the box from `low` to `high`, after turns that have added `added`: rounded inward from over `2^24`.
+    pub(crate) fn end(
         &self,
         low: &[i128],
         high: &[i128],
@@ -127,8 +149,8 @@ impl<'a> ClosedLoop<'a> {
         Some(signed(upper, most.over_power(24)))
     }
 
-    // The row after one turn more, and what the turns have added with it.
-    fn turned(
+    /// The row after one turn more, and what the turns have added with it.
+    pub(crate) fn turned(
         &self,
         alloc: Global,
         row: &[i128],

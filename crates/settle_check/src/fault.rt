@@ -22,7 +22,8 @@ pub enum SettleFault {
         left: i128,
         right: i128,
     },
-    /// After this turn a loop from the start box may have gone as far as to this bound: beyond the box where no multiplier moves, or, at the last turn, the box of rest.
+    /// After this turn a loop from the start box may have gone as far as to this bound: beyond the box where no multiplier moves, or, at the last turn, the box
+    /// of rest.
     #[error("unsettled")]
     Unsettled {
         turn: u32,

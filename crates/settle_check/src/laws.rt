@@ -2,7 +2,7 @@
 ghost use Rattle.settle_check.specs.Still.{StillLaw};
 ghost use Rattle.settle_check.specs.ClosedRows.{RowLaw};
 ghost use Rattle.settle_check.specs.Tube.{TubeRowsLaw, TubeLaw};
-ghost use Rattle.settle_check.specs.Settling.{SettlingLaw, CertifiedSettlingLaw};
+ghost use Rattle.settle_check.specs.Settling.{SettlingLaw, RowSettlingLaw, CertifiedSettlingLaw};
 ghost use Rattle.settle_check.specs.Worked.{WorkedSettling};
 
 /// From each state of a box that passes the test of every row, in a run of any controller in form, all multipliers are 0 after each step, and
@@ -27,6 +27,12 @@ pub fn tube_law()
 /// moves at each turn, for every number of turns, and from turn n on in the settled box.
 pub fn settling_law()
     ensures { SettlingLaw }
+{}
+
+/// There any whole row of the state is, at each turn from a number of turns on, at most what these turns show from the box where no multiplier moves:
+/// also of states that don't settle themselves, as a temperature less its target.
+pub fn row_settling_law()
+    ensures { RowSettlingLaw }
 {}
 
 /// Where loops settle and the controller is certified in the design's box with its bounds, the state of each turn lies in that box, and the run from it

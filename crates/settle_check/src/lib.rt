@@ -4,6 +4,7 @@
 mod certificate;
 mod check;
 mod closed;
+mod costs;
 mod counted;
 mod course;
 mod fault;
@@ -13,10 +14,14 @@ mod settle;
 mod still;
 mod text;
 mod tube;
+mod whole;
 
-pub use certificate::{CertificateParts, StateBox};
+pub use certificate::{CertificateParts, Settled, StateBox};
 pub use check::test_still;
 pub use fault::SettleFault;
-pub use laws::{certified_settling_law, row_law, settling_law, still_law, tube_law, worked_law};
+pub use laws::{
+    certified_settling_law, row_law, row_settling_law, settling_law, still_law, tube_law,
+    worked_law,
+};
 pub use settle::check_settling;
 pub use text::read_certificate;

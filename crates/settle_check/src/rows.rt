@@ -7,7 +7,7 @@ ghost use Rattle.qp_model.specs.problem.Parts.{IsDesign, design_of};
 ghost use Rattle.qp_model.specs.machine.Controller.{numbers, IsSized};
 ghost use Rattle.qp_model.specs.machine.Successor.{IsFor};
 ghost use Rattle.settle_check.specs.ClosedRows.{loop_matrix, loop_over, through_loop, left_of, turn_rest};
-ghost use Rattle.settle_check.specs.TurnSize.{feedback_size, loop_size, through_size, input_size, inputs_size, left_size, lefts_size, turn_rest_size, row_size};
+ghost use Rattle.settle_check.specs.TurnSize.{feedback_size, loop_size, through_size, input_size, inputs_size, left_over_size, lefts_size, turn_rest_size, row_size};
 ghost use Rattle.settle_check.specs.Still.{box_of, greatest_over, greatest_less};
 
 use crate::counted::Counted;
@@ -141,8 +141,9 @@ fn left_over(
     requires state { k < parts.now.states }
     ensures value { let left = left_of (design_of parts.now) (numbers c.now) (at row.now) (at next.now) k in
         IfSome result (λ a. a.value ≡ int_max (left *ℤ at low.now k) (left *ℤ at high.now k)) }
-    ensures size { IfSome result (λ a. a.size ≡ left_size (design_of parts.now) (numbers c.now) (box_of low.now high.now) (at row.now) (at next.now) k) }
-    ensures room { IsSome result ↔ (left_size (design_of parts.now) (numbers c.now) (box_of low.now high.now) (at row.now) (at next.now) k ≤ 2 ^ 126) }
+    ensures size { IfSome result (λ a.
+        a.size ≡ left_over_size (design_of parts.now) (numbers c.now) (box_of low.now high.now) (at row.now) (at next.now) k) }
+    ensures room { IsSome result ↔ (left_over_size (design_of parts.now) (numbers c.now) (box_of low.now high.now) (at row.now) (at next.now) k ≤ 2 ^ 126) }
 {
     let over = Counted::of(loop_over(parts, c)).scaled(number_at(next, k))?;
     let left = through_loop(parts, c, row, k)?.less(over)?;

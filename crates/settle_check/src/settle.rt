@@ -5,15 +5,15 @@ ghost use Rattle.qp_model.specs.problem.Runs.{Holds};
 ghost use Rattle.qp_model.specs.machine.Controller.{numbers, IsSized};
 ghost use Rattle.qp_model.specs.machine.Successor.{IsFor};
 ghost use Rattle.settle_check.specs.Still.{box_of, IsPartOf};
-ghost use Rattle.settle_check.specs.Settling.{hull, settled_box, LoopsSettle};
-ghost use Rattle.settle_check.specs.Course.{plant, machine, shifts_box, tube_of};
+ghost use Rattle.settle_check.specs.Settling.{hull, settled_box, told_rows, cost_box, LoopsSettle};
+ghost use Rattle.settle_check.specs.Course.{plant, machine, shifts_box, tube_of, costs_of};
 ghost use Rattle.settle_check.specs.Certificates.{state_box, certificate_of, HasLength, IsCertificateFor, IsBoxOf};
 ghost use Rattle.settle_check.specs.Tubes.{tube_at, HasTurns, HoldsBoxes};
-ghost use Rattle.settle_check.specs.Settles.{RowsHaveRoom, TubeHasRoom, IsTubeFault, PassesBy, IsSettleFaultBy, PassesSettling, IsSettleFault};
+ghost use Rattle.settle_check.specs.Settles.{RowsHaveRoom, TubeHasRoom, IsTubeFault, LoopCostsHaveRoom, PassesBy, IsSettleFaultBy, PassesSettling, IsSettleFault};
 ghost use Rattle.settle_check.specs.declared.fault.SettleFault.{SettleFault};
-ghost use Rattle.settle_check.specs.declared.fault.SettleFault.TheVariants.{Memory, Unsettled, NoReturn};
+ghost use Rattle.settle_check.specs.declared.fault.SettleFault.TheVariants.{Memory, TooWide, Unsettled, NoReturn};
 
-use crate::certificate::{CertificateParts, StateBox};
+use crate::certificate::{CertificateParts, Settled, StateBox};
 use crate::check::test_still;
 use crate::closed::ClosedLoop;
 use crate::fault::SettleFault;
@@ -37,6 +37,17 @@ fn tube_from(
     let lows = closed.tube(alloc, &from.low, &from.high, false, turns)?;
     let highs = closed.tube(alloc, &from.low, &from.high, true, turns)?;
     Ok(Tube { lows, highs })
+}
+
+// Where the rows of the cost lie that are told, so many turns after states where no multiplier moves.
+fn costs_from(alloc: Global, closed: &ClosedLoop, turns: u32) -> Result<StateBox, SettleFault>
+    ensures value { IfOk result (IsBoxOf (told_rows (plant closed.now) turns) (costs_of closed.now turns)) }
+    ensures room { IfOk result (λ _. LoopCostsHaveRoom closed.now turns) }
+    ensures fault { IfErr result (λ e. (e ≡ Memory) ⊎ ((e ≡ TooWide) × (LoopCostsHaveRoom closed.now turns → ⊥))) }
+{
+    let low = closed.costs(alloc, false, turns)?;
+    let high = closed.costs(alloc, true, turns)?;
+    Ok(StateBox { low, high })
 }
 
 // Whether the test of each row is computed within `2^126`.
@@ -149,26 +160,34 @@ fn check_loop(
     alloc: Global,
     closed: &ClosedLoop,
     certificate: &CertificateParts,
-) -> Result<StateBox, SettleFault>
+) -> Result<Settled, SettleFault>
     requires certificate { IsCertificateFor closed.now.parts.now.states certificate.now }
     requires low { closed.now.low.now ≡ certificate.now.still.low.items }
     requires high { closed.now.high.now ≡ certificate.now.still.high.items }
-    ensures rest { IfOk result (IsBoxOf closed.now.parts.now.states (settled_box (plant closed.now) (machine closed.now) (shifts_box closed.now) (certificate_of certificate.now))) }
+    ensures rest { IfOk result (λ b. IsBoxOf closed.now.parts.now.states
+        (settled_box (plant closed.now) (machine closed.now) (shifts_box closed.now) (certificate_of certificate.now)) b.rest) }
+    ensures costs { IfOk result (λ b. IsBoxOf (told_rows (plant closed.now) certificate.now.after)
+        (cost_box (plant closed.now) (machine closed.now) (state_box certificate.now.still) (shifts_box closed.now) certificate.now.after) b.costs) }
     ensures passes { IfOk result (λ _. PassesSettling (plant closed.now) (machine closed.now) (shifts_box closed.now) (certificate_of certificate.now)) }
-    ensures fault { IfErr result (λ e. (e ≡ Memory) ⊎ IsSettleFault (plant closed.now) (machine closed.now) (shifts_box closed.now) (certificate_of certificate.now) e) }
+    ensures fault { IfErr result (λ e. (e ≡ Memory)
+        ⊎ IsSettleFault (plant closed.now) (machine closed.now) (shifts_box closed.now) (certificate_of certificate.now) e) }
 {
     let there = tube_from(alloc, closed, &certificate.start, certificate.turns)?;
     let again = tube_from(alloc, closed, &certificate.rest, certificate.back)?;
+    let costs = costs_from(alloc, closed, certificate.after)?;
     test_tubes(closed.c, certificate, &there, &again)?;
-    Ok(hull_of(alloc, &again, certificate.back)?)
+    let rest = hull_of(alloc, &again, certificate.back)?;
+    Ok(Settled { rest, costs })
 }
 
 /// Whether a certificate shows that every closed loop from its start box settles, under shifts of its states from `shift_low` to `shift_high` after each
-/// turn; and where: the least box that holds the box of rest and where loops from it lie before they are there again, over `2^grid`.
+/// turn; and where: the least box that holds the box of rest and where loops from it lie before they are there again, and where the rows of the cost lie that
+/// the certificate tells, over `2^grid`.
 ///
 /// # Errors
-/// `Memory`; `TooWide` where a number of the tests is above `2^126`; else for the rows in turn `Moves`; else `Unsettled`, of loops from the start box at the first
-/// turn, and at it the first coordinate and of that the upper end first, that may lie beyond what is asked; else `NoReturn`, the same of loops from the box of rest.
+/// `Memory`; `TooWide` where a number of the tests is above `2^126`; else for the rows in turn `Moves`; else `Unsettled`, of loops from the start box at the
+/// first turn, and at it the first coordinate and of that the upper end first, that may lie beyond what is asked; else `NoReturn`, the same of loops from the
+/// box of rest.
 pub fn check_settling(
     alloc: Global,
     parts: &DesignParts,
@@ -176,7 +195,7 @@ pub fn check_settling(
     certificate: &CertificateParts,
     shift_low: &[i128],
     shift_high: &[i128],
-) -> Result<StateBox, SettleFault>
+) -> Result<Settled, SettleFault>
     requires design { IsDesign parts.now }
     requires sized { IsSized (numbers c.now) }
     requires matched { IsFor (numbers c.now) (design_of parts.now) }
@@ -184,17 +203,23 @@ pub fn check_settling(
     requires inside { IsPartOf parts.now.states (box_of c.now.lo.items c.now.hi.items) (state_box certificate.now.still) }
     requires shift_low { length shift_low.now ≡ parts.now.states }
     requires shift_high { length shift_high.now ≡ parts.now.states }
-    ensures settled { IfOk result (λ _. LoopsSettle (design_of parts.now) (numbers c.now) (box_of shift_low.now shift_high.now) (certificate_of certificate.now)) }
-    ensures rest { IfOk result (IsBoxOf parts.now.states
-        (settled_box (design_of parts.now) (numbers c.now) (box_of shift_low.now shift_high.now) (certificate_of certificate.now))) }
-    ensures found { IfOk result (λ _. PassesSettling (design_of parts.now) (numbers c.now) (box_of shift_low.now shift_high.now) (certificate_of certificate.now)) }
+    ensures settled { IfOk result (λ _.
+        LoopsSettle (design_of parts.now) (numbers c.now) (box_of shift_low.now shift_high.now) (certificate_of certificate.now)) }
+    ensures rest { IfOk result (λ b. IsBoxOf parts.now.states
+        (settled_box (design_of parts.now) (numbers c.now) (box_of shift_low.now shift_high.now) (certificate_of certificate.now)) b.rest) }
+    ensures costs { let shifts = box_of shift_low.now shift_high.now in
+        IfOk result (λ b. IsBoxOf (told_rows (design_of parts.now) certificate.now.after)
+        (cost_box (design_of parts.now) (numbers c.now) (state_box certificate.now.still) shifts certificate.now.after) b.costs) }
+    ensures found { IfOk result (λ _.
+        PassesSettling (design_of parts.now) (numbers c.now) (box_of shift_low.now shift_high.now) (certificate_of certificate.now)) }
     ensures fault { IfErr result (λ e. (e ≡ Memory)
         ⊎ IsSettleFault (design_of parts.now) (numbers c.now) (box_of shift_low.now shift_high.now) (certificate_of certificate.now) e) }
 
     // The other way round, with nothing but out of memory in between.
     ensures right { PassesSettling (design_of parts.now) (numbers c.now) (box_of shift_low.now shift_high.now) (certificate_of certificate.now) →
         IfErr result (λ e. e ≡ Memory) }
-    ensures first { (told : SettleFault) → IsSettleFault (design_of parts.now) (numbers c.now) (box_of shift_low.now shift_high.now) (certificate_of certificate.now) told →
+    ensures first { (told : SettleFault)
+        → IsSettleFault (design_of parts.now) (numbers c.now) (box_of shift_low.now shift_high.now) (certificate_of certificate.now) told →
         MatchResult result (λ _. ⊥) (λ e. (e ≡ told) ⊎ (e ≡ Memory)) }
 {
     let closed = ClosedLoop {

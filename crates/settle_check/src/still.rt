@@ -4,7 +4,7 @@ ghost use Rattle.integer_algebra.specs.Sums.{at, coimage};
 ghost use Rattle.mat_int.specs.Matrix.{entry_of};
 ghost use Rattle.qp_model.specs.machine.Controller.{numbers, plan_length, IsSized};
 ghost use Rattle.settle_check.specs.Still.{box_of, greatest_over, greatest_less, still_coefficient, still_sum};
-ghost use Rattle.settle_check.specs.StillSize.{gains_size, coefficient_size, over_size, less_size, still_size};
+ghost use Rattle.settle_check.specs.StillSize.{gains_size, still_coefficient_size, over_size, less_size, still_size};
 
 use crate::counted::Counted;
 use qp_model::ControllerParts;
@@ -50,8 +50,8 @@ fn coefficient(c: &ControllerParts, i: usize, j: usize) -> Option<Counted>
     requires row { i < c.now.m }
     requires state { j < c.now.n }
     ensures value { IfSome result (λ a. a.value ≡ still_coefficient (numbers c.now) i j) }
-    ensures size { IfSome result (λ a. a.size ≡ coefficient_size (numbers c.now) i j) }
-    ensures room { IsSome result ↔ (coefficient_size (numbers c.now) i j ≤ 2 ^ 126) }
+    ensures size { IfSome result (λ a. a.size ≡ still_coefficient_size (numbers c.now) i j) }
+    ensures room { IsSome result ↔ (still_coefficient_size (numbers c.now) i j ≤ 2 ^ 126) }
 {
     let own = power(c.f).times(Counted::of(c.e_mat.at(i, j)))?;
     own.less(gains(c, i, j)?)

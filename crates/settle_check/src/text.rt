@@ -6,7 +6,7 @@ ghost use Rattle.number_text.specs.declared.text_fault.TextFault.{TextFault};
 ghost use Rattle.number_text.specs.declared.text_fault.TextFault.TheVariants.{Memory};
 ghost use Rattle.settle_check.specs.Still.{box_of, IsPartOf};
 ghost use Rattle.settle_check.specs.Certificates.{IsCertificateFor};
-ghost use Rattle.settle_check.specs.CertificateText.{CertificateNumbers, certificate_numbers, box_at, HasState, IsStartRecord, IsBoxOfRow, IsTurnCount, AreBoxesInRange, IsFirstOutOfRange, IsCertificateText, IsCertificateFault};
+ghost use Rattle.settle_check.specs.CertificateText.{CertificateNumbers, certificate_numbers, box_at, HasState, IsStartRecord, IsStillRecord, IsBoxOfRow, IsTurnCount, AreBoxesInRange, IsFirstOutOfRange, IsCertificateText, IsCertificateFault};
 
 use crate::certificate::{CertificateParts, StateBox};
 use mat_int::Mat;
@@ -18,8 +18,8 @@ use std::alloc::{AllocError, Global};
 const MOST_SETTLING_TURNS: i128 = 4096;
 
 /// The certificate of a text of three records, each of a number of turns, the least number of each coordinate of a box and then the greatest, over `2^grid`:
-/// the turns from the start box, 0 .. 4096, which holds a state; 0 and the box where no multiplier moves, a part of that from `low` to `high`; the turns from the box of rest,
-/// 1 .. 4096. The text has fewer than `2^32` bytes.
+/// the turns from the start box, 0 .. 4096, which holds a state; the turns from the box where no multiplier moves, a part of that from `low` to `high`, to the
+/// rows of the cost, 0 .. 4096; the turns from the box of rest, 1 .. 4096. The text has fewer than `2^32` bytes.
 ///
 /// # Errors
 /// The first fault: for the records in turn `Fields` where one has another number of fields, then `Number` for its first field that holds no number. After
@@ -140,15 +140,15 @@ fn is_turn_count(read: &Headed, e: usize, least: i128) -> bool
     least <= turns && turns <= MOST_SETTLING_TURNS
 }
 
-// Whether the second record is of 0 and a part of the box between two lists.
+// Whether the second record is of turns in their range and a part of the box between two lists.
 fn is_still_record(read: &Headed, low: &[i128], high: &[i128]) -> bool
     requires heads { length read.now.heads.items ≡ 3 }
     requires rows { length read.now.rows.rows ≡ 3 }
     requires cols { read.now.rows.cols ≡ 2 * length low.now }
     requires high { length high.now ≡ length low.now }
-    ensures { IsTrue result ↔ ((at read.now.heads.items 1 ≡ pos 0) × IsPartOf (length low.now) (box_of low.now high.now) (box_at (length low.now) read.now.rows 1)) }
+    ensures { IsTrue result ↔ IsStillRecord (length low.now) (box_of low.now high.now) read.now.heads.items read.now.rows }
 {
-    read.heads[1] == 0 && is_part(low, high, &read.rows)
+    is_turn_count(read, 1, 0) && is_part(low, high, &read.rows)
 }
 
 // Such a number as one of 32 bits.
@@ -202,8 +202,10 @@ fn parts_in(alloc: Global, read: &Headed, n: usize) -> Result<CertificateParts, 
     requires rows { length read.now.rows.rows ≡ 3 }
     requires cols { read.now.rows.cols ≡ 2 * n }
     requires turns { IsTurnCount (pos 0) (at read.now.heads.items 0) }
+    requires after { IsTurnCount (pos 0) (at read.now.heads.items 1) }
     requires back { IsTurnCount (pos 1) (at read.now.heads.items 2) }
     ensures turns { IfOk result (λ p. pos p.turns ≡ at read.now.heads.items 0) }
+    ensures after { IfOk result (λ p. pos p.after ≡ at read.now.heads.items 1) }
     ensures back { IfOk result (λ p. pos p.back ≡ at read.now.heads.items 2) }
     ensures start { IfOk result (λ p. IsBoxOfRow n (row_of read.now.rows 0) p.start) }
     ensures still { IfOk result (λ p. IsBoxOfRow n (row_of read.now.rows 1) p.still) }
@@ -214,6 +216,7 @@ fn parts_in(alloc: Global, read: &Headed, n: usize) -> Result<CertificateParts, 
     let rest = box_in_row(alloc, read.rows.row(2), n)?;
     Ok(CertificateParts {
         turns: turns_of(read.heads[0]),
+        after: turns_of(read.heads[1]),
         back: turns_of(read.heads[2]),
         start,
         still,

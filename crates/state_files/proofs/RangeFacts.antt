@@ -25,9 +25,6 @@ pub record AreRead (text : List ℕ) (n : ℕ) (range : Matrix) (i : ℕ) : Type
   pub cols : range.cols ≡ n
   pub each : (e : ℕ) → e < i → HoldsNumbers (floor_rule (range_floors n (row_of range 0) e)) n (record_at (records_of text) e) (row_of range e)
 
-pub none_read : (text : List ℕ) (n : ℕ) (range : Matrix) → range.cols ≡ n → length range.rows ≡ 0 → AreRead text n range 0
-none_read text n range c l = record { long = l; cols = c; each = λ e h. absurd (omega (arith, h)) }
-
 -- the floors rest on the first row where that is there
 same_first : (range new : Matrix) (n e : ℕ) (zs : List ℤ) → new ≡ record range { rows = range.rows ++ zs ∷ [] } → 0 < length range.rows → row_of range 0 ≡ row_of new 0
 same_first range new n e zs is some = rw is (sym (get_or_append_left range.rows (zs ∷ []) [] 0 some))

@@ -22,8 +22,9 @@ use Rattle.condensed_form.specs.declared.condensed.Condensed.{Condensed}
 use Rattle.condensed_form.proofs.FormSums.{far_hessian, far_linear, far_constant, far_plan, linear_numbers, constant_numbers, diagonal_numbers, hessian_row, plan_numbers, state_numbers}
 use Rattle.condensed_form.proofs.HeldLaws.{least_equal}
 use Rattle.step_error.specs.declared.radii.Radii.{Radii}
-use Rattle.step_error.specs.declared.sums.Whole.{Whole}
-use Rattle.step_error.specs.ErrorSums.{farthest_entry, entry_squares, sums_by, size_by, AreRadii, HaveRoom, HasErrorRoom}
+use Rattle.step_error.specs.declared.sums.ErrorSums.{ErrorSums}
+use Rattle.step_error.specs.ErrorSums.{farthest_entry, entry_squares, sums_of, size_by, AreRadii, HaveRoom, HasErrorRoom}
+use Rattle.step_error.proofs.Ceilings.{ceil_small}
 use Rattle.step_error.proofs.Farthest.{radius_within, radii_within, all_within, column_within}
 use Rattle.step_error.proofs.SumFacts.{few, floor_range, through, doubled}
 
@@ -136,7 +137,7 @@ module _ (fine : Bool) (p : DesignParts) (c : Condensed) (is : IsFormIn fine p c
       r.g_col ≡ greatest c.g_rad.cols (λ j. size (length c.g_rad.rows) (λ i. entry_of c.g_rad i j)) →
       r.g_sum ≡ amount (length c.g_rad.rows) (λ i. size c.g_rad.cols (entry_of c.g_rad i)) →
       r.e_sum ≡ amount (length c.e_rad.rows) (λ i. size c.e_rad.cols (entry_of c.e_rad i)) →
-      r.cost_scale ≡ (design_of p).cost_denominator * (design_of p).row_denominator ^ 2 → r.row_scale ≡ (design_of p).limit_denominator → r.fine ≡ c.fine →
+      r.cost_scale ≡ (design_of p).cost_denominator * (design_of p).row_denominator ^ 2 → r.row_scale ≡ (design_of p).limit_denominator → r.spread ≡ spread_of c.fine →
       AreRadii (design_of p) (held c) r
   radii_are r hess lin off column plan state cost row class =
       let entries = sym is.shapes.hess.rows in
@@ -151,7 +152,7 @@ module _ (fine : Bool) (p : DesignParts) (c : Condensed) (is : IsFormIn fine p c
         state = state ∙ (λ t. amount ((is.shapes.e_rad.rows ∙ rows) t) (λ i. size ((is.shapes.e_rad.cols ∙ states) t) (entry_of c.e_rad i)));
         cost_scale = cost;
         row_scale = row;
-        spread = ap spread_of class;
+        spread = class;
       }
 
 -- what the quantity `error` holds
@@ -196,65 +197,32 @@ reach_small w n s r k a b c d e = closed (mul-le-mul a (added (mul-le-mul b c) (
 pub top_small : (r k : ℕ) → r ≤ 2 ^ 44 → k ≤ 372 → 2 * r * k ≤ 2 ^ 60
 top_small r k h o = let b = mul-le-mul (mul-le-mul_left 2 h) o in omega (arith, b)
 
--- the numbers that the code gathers are those of a form
-pub record AreOf (w : Whole) (d : Design) (h : Form) (r : ℕ) : Type 0 where
-  pub squares : w.squares ≡ d.cost_denominator * gradient_squares d (gradient_error d h r)
-  pub plan_pull : w.plan_pull ≡ plan_pull d h r
-  pub sums : sums_by w ≡ error_sums_of d h r
-
-pub sums_are : (w : Whole) (d : Design) (h : Form) (r : ℕ) → w.squares ≡ d.cost_denominator * gradient_squares d (gradient_error d h r) → w.plan_pull ≡ plan_pull d h r →
-    w.tail ≡ d.cost_denominator * combined_bound d r * trace_sum h → w.y_rows ≡ 2 * r * rows d → w.nu ≡ entries d → w.n_box ≡ d.states * state_bound d →
-    w.rho ≡ input_floor d → w.x_box ≡ state_bound d → w.y_top ≡ 2 * r → w.weight_den ≡ d.cost_denominator → AreRadii d h w.radii → AreOf w d h r
-sums_are w d h r squares plan_pull tail top entries box rho state most weight radii = record {
-  squares = squares;
-  plan_pull = plan_pull;
-  sums = λ i. record {
-    first = ceil_div (squares i) (2 * rho i);
-    lead = ceil_div (plan_pull i) (2 * rho i);
-    tail = tail i;
-    top_rows = top i;
-    plan_entries = entries i;
-    box_states = box i;
-    rho = rho i;
-    state = state i;
-    top = most i;
-    hessian_radius = radii.hessian i;
-    linear_radius = radii.linear i;
-    constant_radius = radii.constant i;
-    column_radius = radii.column i;
-    plan_radius = radii.plan i;
-    state_radius = radii.state i;
-    cost_scale = radii.cost_scale i;
-    row_scale = radii.row_scale i;
-    weight_scale = weight i;
-    spread = radii.spread i;
-  };
-}
-
--- they fit
-pub room_of : (w : Whole) (p : DesignParts) (h : Form) (r : ℕ) → IsDesign p → 1 ≤ r → r ≤ 2 ^ 44 → w.x_box ≤ 2 ^ 31 → w.squares ≤ 2 ^ 126 → w.plan_pull ≤ 2 ^ 126 → w.tail ≤ 2 ^ 126 →
-    HaveRoom w.radii → AreOf w (design_of p) h r → HasErrorRoom w
-room_of w p h r design some narrow near squares plan_pull tail radii is =
+-- the sums that the code makes fit
+pub room_of : (e : ErrorSums) (squares plan_pull : ℕ) (p : DesignParts) (h : Form) (r : ℕ) → IsDesign p → 1 ≤ r → r ≤ 2 ^ 44 → e.x_box ≤ 2 ^ 31 →
+    e.first ≡ ceil_div squares (2 * e.rho) → squares ≤ 2 ^ 126 → e.lead ≡ ceil_div plan_pull (2 * e.rho) → plan_pull ≤ 2 ^ 126 → e.tail ≤ 2 ^ 126 →
+    HaveRoom e.radii → sums_of e ≡ error_sums_of (design_of p) h r → HasErrorRoom e
+room_of e squares plan_pull p h r design some narrow near first squares_small lead pull_small tail radii is =
     let small = few p design in
     let floor = floor_range p design in
-    let e = is.sums in
-    let state = ap (λ (s : errors.ErrorSums). s.state) e in
+    let state = ap (λ (s : errors.ErrorSums). s.state) is in
+    let rho = ap (λ (s : errors.ErrorSums). s.rho) is in
+    let two : 0 < 2 * e.rho = rw rho (omega (arith, floor.0)) in
     record {
-      squares = squares;
-      plan_pull = plan_pull;
+      first = rw first (through (ceil_small squares (2 * e.rho) two) squares_small);
+      lead = rw lead (through (ceil_small plan_pull (2 * e.rho) two) pull_small);
       tail = tail;
-      rows_some = rw (ap (λ (s : errors.ErrorSums). s.top_rows) e) (one-le-mul (doubled r some) (some_row p design));
-      rows = rw (ap (λ (s : errors.ErrorSums). s.top_rows) e) (top_small r _ narrow small.rows);
-      entries_some = rw (ap (λ (s : errors.ErrorSums). s.plan_entries) e) (some_entry p design);
-      entries = rw (ap (λ (s : errors.ErrorSums). s.plan_entries) e) (through small.entries (omega arith));
-      states = rw (ap (λ (s : errors.ErrorSums). s.box_states) e, ← state) (through (mul-le-mul small.states near) (omega arith));
-      rho_some = rw (ap (λ (s : errors.ErrorSums). s.rho) e) floor.0;
-      rho = rw (ap (λ (s : errors.ErrorSums). s.rho) e) floor.1;
+      rows_some = rw (ap (λ (s : errors.ErrorSums). s.top_rows) is) (one-le-mul (doubled r some) (some_row p design));
+      rows = rw (ap (λ (s : errors.ErrorSums). s.top_rows) is) (top_small r _ narrow small.rows);
+      entries_some = rw (ap (λ (s : errors.ErrorSums). s.plan_entries) is) (some_entry p design);
+      entries = rw (ap (λ (s : errors.ErrorSums). s.plan_entries) is) (through small.entries (omega arith));
+      states = rw (ap (λ (s : errors.ErrorSums). s.box_states) is, ← state) (through (mul-le-mul small.states near) (omega arith));
+      rho_some = rw rho floor.0;
+      rho = rw rho floor.1;
       state = through near (omega arith);
-      top_some = rw (ap (λ (s : errors.ErrorSums). s.top) e) (doubled r some);
-      top = rw (ap (λ (s : errors.ErrorSums). s.top) e) (twice narrow);
-      weight_some = rw (ap (λ (s : errors.ErrorSums). s.weight_scale) e) (positive p.cost_den design.cost_den.low);
-      weight = rw (ap (λ (s : errors.ErrorSums). s.weight_scale) e) (through small.weight (omega arith));
+      top_some = rw (ap (λ (s : errors.ErrorSums). s.top) is) (doubled r some);
+      top = rw (ap (λ (s : errors.ErrorSums). s.top) is) (twice narrow);
+      weight_some = rw (ap (λ (s : errors.ErrorSums). s.weight_scale) is) (positive p.cost_den design.cost_den.low);
+      weight = rw (ap (λ (s : errors.ErrorSums). s.weight_scale) is) (through small.weight (omega arith));
       radii = radii;
     }
   where
@@ -262,8 +230,9 @@ room_of w p h r design some narrow near squares plan_pull tail radii is =
     twice {r} h = omega (arith, h)
 
 -- the quantity by them
-pub size_of : (w : Whole) (d : Design) (h : Form) (r : ℕ) → AreOf w d h r → size_by w.squares w.plan_pull (sums_by w) ≡ error_size d h r
-size_of w d h r is = (λ i. size_by (is.squares i) (is.plan_pull i) (is.sums i)) ∙ turned _ _ _ _ _ _ _
+pub size_of : (e : ErrorSums) (squares pull : ℕ) (d : Design) (h : Form) (r : ℕ) → squares ≡ d.cost_denominator * gradient_squares d (gradient_error d h r) → pull ≡ plan_pull d h r →
+    sums_of e ≡ error_sums_of d h r → size_by squares pull (sums_of e) ≡ error_size d h r
+size_of e squares pull d h r a b is = (λ i. size_by (a i) (b i) (is i)) ∙ turned _ _ _ _ _ _ _
   where
     turned : (x a b c e f g : ℕ) → x + (a + b + c + e + f + g) ≡ x + a + b + c + e + f + g
     turned x a b c e f g = omega arith

@@ -29,7 +29,7 @@ use Rattle.step_error.specs.declared.sums.ErrorSums.{ErrorSums}
 use Rattle.step_error.specs.ErrorSums.{AreSums, sums_of}
 use Rattle.step_error.proofs.Ceilings.{ceil_rises}
 use Rattle.step_error.proofs.FallingLaws.{squares_rise}
-use Rattle.step_error.proofs.SumFacts.{few, few_spread, read_back, IsBounded, bounded, through}
+use Rattle.step_error.proofs.SumFacts.{few, few_spread, IsBounded, bounded, through}
 use Rattle.step_error.proofs.DesignSums.{hessian_pair, hessian_row_small, within}
 use Rattle.step_error.specs.Gains.{gain_at, missed_gradient, missed_squares, missed_cost, combined_of, has_room, HasSystems, AreSolved}
 use Rattle.step_error.specs.Made.{IsMadeFor, HasGains}
@@ -98,7 +98,7 @@ module _ (c : Condensed) (e : ErrorSums) (p_mat : Matrix) (t : List ℤ) (w_mat 
   are_sums = record { parts = p; held = h; r = r; design = design; form = form; bound = o.sums.bound; sums = o.sums.sums; room = o.sums.room }
 
   sums_are : s ≡ error_sums_of d h r
-  sums_are = ap sums_of o.sums.sums ∙ read_back (error_sums_of d h r) (few_spread d h form).0 (few_spread d h form).1
+  sums_are = o.sums.sums
 
   combined_is : combined_of (held c) s.state s.top ≡ combined_bound d r
   combined_is = λ q. o.sums.form.shapes.lin.cols q * (sums_are q).state + 1 + o.sums.form.shapes.g.rows q * (sums_are q).top

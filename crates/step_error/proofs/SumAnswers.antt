@@ -2,8 +2,8 @@
 use Rattle.std.proofs.Common.{◌≡◌, ℕ, ◌^◌, ◌≤◌, ℤ, pos, ◌≤ℤ◌, unsigned_abs, Option, Some, None, Bool, arith, sym, subst}
 use Rattle.std.proofs.lemmas.Int.{ints}
 use Rattle.std.specs.Prelude.{IfOk, IfErr}
-use Rattle.std.specs.Option.{SomeIff, ok_or}
-use Rattle.std.specs.Result.{OkIff}
+use Rattle.std.specs.Option.{MatchOption, ok_or}
+use Rattle.std.specs.Result.{MatchResult}
 use Rattle.qp_model.specs.declared.design_parts.DesignParts.{DesignParts}
 use Rattle.qp_model.specs.declared.quantity.Wide.{Wide}
 use Rattle.qp_model.specs.declared.quantity.Quantity.TheVariants.{Error}
@@ -16,7 +16,7 @@ use Rattle.qp_model.specs.bounds.Errors.{error_sums_of, error_size}
 use Rattle.condensed_form.specs.Form.{IsFormIn, IsFormOf, held}
 use Rattle.condensed_form.specs.declared.condensed.Condensed.{Condensed}
 use Rattle.step_error.specs.declared.sums.ErrorSums.{ErrorSums}
-use Rattle.step_error.specs.ErrorSums.{AreSums, whole_sums}
+use Rattle.step_error.specs.ErrorSums.{AreSums, sums_of}
 use Rattle.step_error.proofs.SameSums.{sums_same, size_same}
 
 -- a size and sums
@@ -25,11 +25,11 @@ Sums = ℕ × errors.ErrorSums
 
 -- they are given exactly where `error` is within its limit
 abbrev pub SomeSums : Option ErrorSums → Design → Form → ℕ → Type 0
-SomeSums o d h r = SomeIff o (error_size d h r ≤ 2 ^ 126) (whole_sums (error_sums_of d h r))
+SomeSums o d h r = MatchOption o (¬ (error_size d h r ≤ 2 ^ 126)) (λ e. (error_size d h r ≤ 2 ^ 126) × (sums_of e ≡ error_sums_of d h r))
 
-pub valued : (o : Option ErrorSums) (w : Wide) (P : Type 0) (v : ErrorSums) → SomeIff o P v → OkIff (ok_or o w) P v
-valued None w P v h = h
-valued (Some x) w P v h = h
+pub valued : (o : Option ErrorSums) (w : Wide) (P : Type 0) (Q : ErrorSums → Type 0) → MatchOption o (¬ P) Q → MatchResult (ok_or o w) Q (λ e. ¬ P)
+valued None w P Q h = h
+valued (Some x) w P Q h = h
 
 pub given : (o : Option ErrorSums) (w : Wide) (p : DesignParts) (h : Form) (r : ℕ) → IsDesign p → IsFormFor (design_of p) h → 1 ≤ r →
     SomeSums o (design_of p) h r → IfOk (ok_or o w) (λ e. AreSums e)
@@ -61,7 +61,7 @@ pub resumed : (fine : Bool) (c : Condensed) (o : Option ErrorSums) (p q : Design
 resumed fine c o p q n m is e g h =
     let d = design_of q in
     let count = is.encloses.encloses.entry_count in
-    subst (λ (v : Sums). SomeIff o (v.0 ≤ 2 ^ 126) (whole_sums v.1))
+    subst (λ (v : Sums). MatchOption o (¬ (v.0 ≤ 2 ^ 126)) (λ e. (v.0 ≤ 2 ^ 126) × (sums_of e ≡ v.1)))
     (λ i. (size_same d (held c) (form_in fine d) is.same count m i, sums_same d (held c) (form_in fine d) is.same count m i))
     (subst (λ k. SomeSums o d (held c) k) g (subst (λ b. SomeSums o (design_of b) (held c) n) e h))
 

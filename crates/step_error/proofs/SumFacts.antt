@@ -1,15 +1,14 @@
 -- What the sums of a design are within.
-use Rattle.std.proofs.Common.{◌≡◌, inl, inr, ℕ, ◌+◌, ◌*◌, ◌%◌, ◌^◌, ◌<◌, ◌≤◌, Bool, true, false, ltb, ℤ, pos, ◌≤ℤ◌, ◌<ℤ◌, unsigned_abs, arith, ap, sym, ◌∙◌, refl, subst, Option}
+use Rattle.std.proofs.Common.{◌≡◌, inl, inr, ℕ, ◌+◌, ◌*◌, ◌%◌, ◌^◌, ◌≤◌, Bool, true, false, ℤ, pos, ◌≤ℤ◌, ◌<ℤ◌, unsigned_abs, arith, ap, sym, ◌∙◌, subst, Option}
 use Rattle.std.proofs.lemmas.Int.{ints, to_z-of_z}
 use Rattle.std.proofs.Common.{to_z, of_z}
-use Rattle.std.specs.Int.{w128, div_ceil}
+use Rattle.std.specs.Int.{w128}
 use Rattle.std.specs.Option.{SomeIff}
 use Rattle.std.proofs.lemmas.Bool.{cases_lt}
 use mir.Val.{SFits}
 use Rattle.std.proofs.lemmas.Nat.{pow-add}
 use Rattle.std.proofs.Math.Nat.{mul-le-mul, mul-le-mul_left, mul-le-mul_right, one-le-mul}
 use Rattle.integer_algebra.specs.Sums.{at}
-use Rattle.integer_algebra.specs.Division.{ceil_div}
 use Rattle.integer_algebra.proofs.PowerLaws.{four-pow, pow_positive}
 use Rattle.qp_model.specs.declared.design_parts.DesignParts.{DesignParts}
 use Rattle.qp_model.specs.problem.Design.{Design, entries, rows}
@@ -22,9 +21,8 @@ use Rattle.qp_model.proofs.SizeFacts.{some_row, some_entry, positive}
 use Rattle.qp_model.proofs.SoundLaws.{least-met, weight_at}
 use Rattle.qp_model.proofs.VersionLaws.{design_states_le, design_stages_le}
 use Rattle.step_error.specs.declared.sums.ErrorSums.{ErrorSums}
-use Rattle.step_error.specs.declared.sums.Whole.{Whole}
-use Rattle.step_error.specs.ErrorSums.{sums_by, AreSums, whole_sums, sums_of, rounding_cost, radius_cost, radius_size}
-use Rattle.step_error.proofs.Ceilings.{ceil_small, quotient_is}
+use Rattle.step_error.specs.ErrorSums.{AreSums, sums_of, rounding_cost, radius_cost, radius_size}
+use Rattle.step_error.proofs.Ceilings.{ceil_small}
 use Rattle.step_error.proofs.FallingLaws.{power_rises, squares_rise, plan_bound_falls, residual_error_rises, moved_rises, radius_error_rises, row_radii_rises, halves}
 
 -- ---- the least input weight
@@ -127,41 +125,8 @@ design_bounded p h r design form some room =
         x + 2 ^ 40 * m * n + (a + b + c + e + f + g) ≤ 2 ^ 126
     close x t m n a b c e f g h k = omega (arith, h, k)
 
--- back from 128-bit numbers
-pub read_back : (s : errors.ErrorSums) → 1 ≤ s.spread → s.spread ≤ 2 → sums_of (whole_sums s) ≡ s
-read_back s h k = λ i. record {
-  first = s.first;
-  lead = s.lead;
-  tail = s.tail;
-  top_rows = s.top_rows;
-  plan_entries = s.plan_entries;
-  box_states = s.box_states;
-  rho = s.rho;
-  state = s.state;
-  top = s.top;
-  hessian_radius = s.hessian_radius;
-  linear_radius = s.linear_radius;
-  constant_radius = s.constant_radius;
-  column_radius = s.column_radius;
-  plan_radius = s.plan_radius;
-  state_radius = s.state_radius;
-  cost_scale = s.cost_scale;
-  row_scale = s.row_scale;
-  weight_scale = s.weight_scale;
-  spread = spread s.spread h k i;
-}
-  where
-    spread : (k : ℕ) → 1 ≤ k → k ≤ 2 → spread_of (ltb 1 k) ≡ k
-    spread k h l = elim (cases_lt 1 k) [
-      | inl o ↦ (let e : k ≡ 2 = omega (arith, o, l) in rw e refl)
-      | inr o ↦ (let e : k ≡ 1 = omega (arith, o, h) in rw e refl)
-    ]
-
 pub bounded : (e : ErrorSums) → AreSums e → IsBounded (sums_of e)
-bounded e a = from e (error_sums_of (design_of a.parts) a.held a.r) a.sums (design_bounded a.parts a.held a.r a.design a.form a.bound a.room)
-  where
-    from : (e : ErrorSums) (s : errors.ErrorSums) → e ≡ whole_sums s → IsBounded s → IsBounded (sums_of e)
-    from e s same h = rw (same, read_back s h.spread_some h.spread_few) h
+bounded e a = rw a.sums (design_bounded a.parts a.held a.r a.design a.form a.bound a.room)
 
 -- ---- the part by radii
 pub record AreRadiusParts (s : errors.ErrorSums) (plan : ℕ) : Type 0 where
@@ -303,9 +268,6 @@ power_small k n h = power_rises 2 k n (omega arith) h
 pub read_size : (z : ℤ) (n : ℕ) → SFits w128 z → n ≡ unsigned_abs (to_z w128 (of_z w128 z)) → n ≡ unsigned_abs z
 read_size z n f e = e ∙ ap unsigned_abs (to_z-of_z w128 z f)
 
-pub read_whole : (z : ℤ) (n k : ℕ) → SFits w128 z → n ≡ unsigned_abs (to_z w128 (of_z w128 z)) → z ≡ pos k → n ≡ k
-read_whole z n k f e g = read_size z n f e ∙ ap unsigned_abs g
-
 pub four_is : (f : ℕ) → 2 ^ (2 * f) ≡ 4 ^ f
 four_is f = let e : 2 * f ≡ f + f = omega arith in rw e (pow-add 2 f f ∙ sym (four-pow f))
 
@@ -313,15 +275,6 @@ four_is f = let e : 2 * f ≡ f + f = omega arith in rw e (pow-add 2 f f ∙ sym
 -- at a number that is equal
 pub kept : (o : Option ℕ) {a b : ℕ} → a ≡ b → SomeIff o (a ≤ 2 ^ 126) a → SomeIff o (b ≤ 2 ^ 126) b
 kept o e h = subst (λ n. SomeIff o (n ≤ 2 ^ 126) n) e h
-
-pub plan_is : (w : Whole) (k lead push : ℕ) → 1 ≤ w.rho → k ≡ spread_of w.radii.fine → lead ≡ div_ceil w.plan_pull (2 * w.rho) → push ≡ div_ceil w.tail (4 * w.rho) →
-    k * (lead + push) + 1 ≡ plan_bound (sums_by w) 0
-plan_is w k lead push some e g h =
-    let two : 0 < 2 * w.rho = omega (arith, some) in
-    let four : 0 < 4 * w.rho = omega (arith, some) in
-    let a : lead ≡ ceil_div w.plan_pull (2 * w.rho) = quotient_is _ _ _ w.plan_pull (2 * w.rho) two g refl refl in
-    let b : push ≡ ceil_div w.tail (4 * w.rho) = quotient_is _ _ _ w.tail (4 * w.rho) four h refl refl in
-    (λ i. e i * (a i + b i) + 1)
 
 -- what the part by rounding holds
 pub record AreRoundingParts (parts first top plan box : ℕ) : Type 0 where
@@ -355,10 +308,6 @@ rounding_parts k parts first top plan box some rows h =
     innermost : (a b : ℕ) → a + b + 3 ≤ 2 ^ 126 → a ≤ 2 ^ 126
     innermost a b h = omega (arith, h)
 
-pub spread_some : (fine : Bool) → 1 ≤ spread_of fine
-spread_some true = omega arith
-spread_some false = omega arith
-
-pub spread_few : (fine : Bool) → spread_of fine ≤ 2
-spread_few true = omega arith
-spread_few false = omega arith
+pub spread_range : (fine : Bool) → (1 ≤ spread_of fine) × (spread_of fine ≤ 2)
+spread_range true = (omega arith, omega arith)
+spread_range false = (omega arith, omega arith)

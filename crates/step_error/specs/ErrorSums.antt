@@ -1,65 +1,40 @@
 -- The whole numbers that the bounds of the rounding errors are made of, as the code keeps them.
-use Rattle.std.specs.Prelude.{◌≡◌, ℕ, ◌+◌, ◌*◌, ◌^◌, ◌≤◌, ltb, pos, unsigned_abs}
+use Rattle.std.specs.Prelude.{◌≡◌, ℕ, ◌+◌, ◌*◌, ◌^◌, ◌≤◌, unsigned_abs}
 use Rattle.integer_algebra.specs.Division.{ceil_div}
 use Rattle.integer_algebra.specs.Sizes.{amount}
 use Rattle.mat_int.specs.Matrix.{Matrix, entry_of}
 use Rattle.qp_model.specs.problem.Design.{Design}
 use Rattle.qp_model.specs.problem.Parts.{IsDesign, design_of}
-use Rattle.qp_model.specs.form.Form.{Form, IsFormFor, spread_of, farthest, hessian_radii, linear_radii, plan_radii, state_radii, column_radii}
+use Rattle.qp_model.specs.form.Form.{Form, IsFormFor, farthest, hessian_radii, linear_radii, plan_radii, state_radii, column_radii}
 use Rattle.qp_model.specs.form.Quantities.{greatest}
 use Rattle.qp_model.specs.bounds.Errors as errors
 use Rattle.qp_model.specs.bounds.Errors.{error_sums_of, error_size, plan_bound, residual_error, radius_error, row_radii}
 use Rattle.qp_model.specs.declared.design_parts.DesignParts.{DesignParts}
 use Rattle.step_error.specs.declared.sums.ErrorSums.{ErrorSums}
 use Rattle.step_error.specs.declared.radii.Radii.{Radii}
-use Rattle.step_error.specs.declared.sums.Whole.{Whole}
 
--- the sums, as 128-bit numbers
-abbrev pub whole_sums : errors.ErrorSums → ErrorSums
-whole_sums s = record {
-  first = pos s.first;
-  lead = pos s.lead;
-  tail = pos s.tail;
-  y_rows = pos s.top_rows;
-  nu = pos s.plan_entries;
-  n_box = pos s.box_states;
-  rho = pos s.rho;
-  x_box = pos s.state;
-  y_top = pos s.top;
-  h_rad = pos s.hessian_radius;
-  f_rad = pos s.linear_radius;
-  o_rad = pos s.constant_radius;
-  g_col = pos s.column_radius;
-  g_sum = pos s.plan_radius;
-  e_sum = pos s.state_radius;
-  cost_scale = pos s.cost_scale;
-  weight_den = pos s.weight_scale;
-  row_scale = pos s.row_scale;
-  fine = ltb 1 s.spread;
-}
-
--- and back
+-- the numbers of the sums
 abbrev pub sums_of : ErrorSums → errors.ErrorSums
 sums_of e = record {
-  first = unsigned_abs e.first;
-  lead = unsigned_abs e.lead;
-  tail = unsigned_abs e.tail;
-  top_rows = unsigned_abs e.y_rows;
-  plan_entries = unsigned_abs e.nu;
-  box_states = unsigned_abs e.n_box;
-  rho = unsigned_abs e.rho;
-  state = unsigned_abs e.x_box;
-  top = unsigned_abs e.y_top;
-  hessian_radius = unsigned_abs e.h_rad;
-  linear_radius = unsigned_abs e.f_rad;
-  constant_radius = unsigned_abs e.o_rad;
-  column_radius = unsigned_abs e.g_col;
-  plan_radius = unsigned_abs e.g_sum;
-  state_radius = unsigned_abs e.e_sum;
-  cost_scale = unsigned_abs e.cost_scale;
-  row_scale = unsigned_abs e.row_scale;
-  weight_scale = unsigned_abs e.weight_den;
-  spread = spread_of e.fine;
+  first = e.first;
+  lead = e.lead;
+  tail = e.tail;
+  top_rows = e.y_rows;
+  plan_entries = e.nu;
+  box_states = e.n_box;
+  rho = e.rho;
+  state = e.x_box;
+  top = e.y_top;
+  hessian_radius = e.radii.h_rad;
+  linear_radius = e.radii.f_rad;
+  constant_radius = e.radii.o_rad;
+  column_radius = e.radii.g_col;
+  plan_radius = e.radii.g_sum;
+  state_radius = e.radii.e_sum;
+  cost_scale = e.radii.cost_scale;
+  row_scale = e.radii.row_scale;
+  weight_scale = e.weight_den;
+  spread = e.radii.spread;
 }
 
 -- they are those of a form for some design with multipliers up to 2 r, and the quantity `error` is within its limit
@@ -70,7 +45,7 @@ pub record AreSums (e : ErrorSums) : Type 0 where
   pub design : IsDesign parts
   pub form : IsFormFor (design_of parts) held
   pub bound : 1 ≤ r
-  pub sums : e ≡ whole_sums (error_sums_of (design_of parts) held r)
+  pub sums : sums_of e ≡ error_sums_of (design_of parts) held r
   pub room : error_size (design_of parts) held r ≤ 2 ^ 126
 
 -- ---- the two halves of what the errors of a step cost
@@ -106,31 +81,7 @@ pub record AreRadii (d : Design) (h : Form) (r : Radii) : Type 0 where
   pub state : r.e_sum ≡ amount h.rows (state_radii h)
   pub cost_scale : r.cost_scale ≡ d.cost_denominator * d.row_denominator ^ 2
   pub row_scale : r.row_scale ≡ d.limit_denominator
-  pub spread : spread_of r.fine ≡ h.spread
-
--- the sums by what their quotients divide
-abbrev pub sums_by : Whole → errors.ErrorSums
-sums_by w = record {
-  first = ceil_div w.squares (2 * w.rho);
-  lead = ceil_div w.plan_pull (2 * w.rho);
-  tail = w.tail;
-  top_rows = w.y_rows;
-  plan_entries = w.nu;
-  box_states = w.n_box;
-  rho = w.rho;
-  state = w.x_box;
-  top = w.y_top;
-  hessian_radius = w.radii.h_rad;
-  linear_radius = w.radii.f_rad;
-  constant_radius = w.radii.o_rad;
-  column_radius = w.radii.g_col;
-  plan_radius = w.radii.g_sum;
-  state_radius = w.radii.e_sum;
-  cost_scale = w.radii.cost_scale;
-  row_scale = w.radii.row_scale;
-  weight_scale = w.weight_den;
-  spread = spread_of w.radii.fine;
-}
+  pub spread : r.spread ≡ h.spread
 
 -- they are within what 128 bits hold of their sums
 pub record HaveRoom (r : Radii) : Type 0 where
@@ -144,24 +95,26 @@ pub record HaveRoom (r : Radii) : Type 0 where
   pub cost_scale : r.cost_scale ≤ 2 ^ 126
   pub row_some : 1 ≤ r.row_scale
   pub row_scale : r.row_scale ≤ 2 ^ 126
+  pub spread_some : 1 ≤ r.spread
+  pub spread_few : r.spread ≤ 2
 
-pub record HasErrorRoom (w : Whole) : Type 0 where
-  pub squares : w.squares ≤ 2 ^ 126
-  pub plan_pull : w.plan_pull ≤ 2 ^ 126
-  pub tail : w.tail ≤ 2 ^ 126
-  pub rows_some : 1 ≤ w.y_rows
-  pub rows : w.y_rows ≤ 2 ^ 60
-  pub entries_some : 1 ≤ w.nu
-  pub entries : w.nu ≤ 2 ^ 60
-  pub states : w.n_box ≤ 2 ^ 60
-  pub rho_some : 1 ≤ w.rho
-  pub rho : w.rho ≤ 2 ^ 31
-  pub state : w.x_box ≤ 2 ^ 60
-  pub top_some : 1 ≤ w.y_top
-  pub top : w.y_top ≤ 2 ^ 60
-  pub weight_some : 1 ≤ w.weight_den
-  pub weight : w.weight_den ≤ 2 ^ 60
-  pub radii : HaveRoom w.radii
+pub record HasErrorRoom (e : ErrorSums) : Type 0 where
+  pub first : e.first ≤ 2 ^ 126
+  pub lead : e.lead ≤ 2 ^ 126
+  pub tail : e.tail ≤ 2 ^ 126
+  pub rows_some : 1 ≤ e.y_rows
+  pub rows : e.y_rows ≤ 2 ^ 60
+  pub entries_some : 1 ≤ e.nu
+  pub entries : e.nu ≤ 2 ^ 60
+  pub states : e.n_box ≤ 2 ^ 60
+  pub rho_some : 1 ≤ e.rho
+  pub rho : e.rho ≤ 2 ^ 31
+  pub state : e.x_box ≤ 2 ^ 60
+  pub top_some : 1 ≤ e.y_top
+  pub top : e.y_top ≤ 2 ^ 60
+  pub weight_some : 1 ≤ e.weight_den
+  pub weight : e.weight_den ≤ 2 ^ 60
+  pub radii : HaveRoom e.radii
 
 -- the two parts of the quantity `error` by the same numbers, for a bound on the plan's entries
 abbrev pub rounding_size : (squares plan_pull : ℕ) → errors.ErrorSums → (plan : ℕ) → ℕ

@@ -11,7 +11,7 @@ use Rattle.qp_model.specs.bounds.Errors.{error_sums_of, error_size}
 use Rattle.qp_model.specs.declared.design_parts.DesignParts.{DesignParts}
 use Rattle.condensed_form.specs.Form.{IsFormOf}
 use Rattle.condensed_form.specs.declared.condensed.Condensed.{Condensed}
-use Rattle.step_error.specs.ErrorSums.{whole_sums}
+use Rattle.step_error.specs.ErrorSums.{sums_of}
 use Rattle.step_error.specs.declared.sums.ErrorSums.{ErrorSums}
 use Rattle.step_error.specs.Gains.{gain_at}
 
@@ -19,7 +19,7 @@ use Rattle.step_error.specs.Gains.{gain_at}
 pub record AreSumsOf (p : DesignParts) (r : ℕ) (c : Condensed) (e : ErrorSums) : Type 0 where
   pub form : IsFormOf p c
   pub bound : 1 ≤ r
-  pub sums : e ≡ whole_sums (error_sums_of (design_of p) (form_of (design_of p)) r)
+  pub sums : sums_of e ≡ error_sums_of (design_of p) (form_of (design_of p)) r
   pub room : error_size (design_of p) (form_of (design_of p)) r ≤ 2 ^ 126
 
 -- gains at f bits that solve the systems of the design's form: good solutions within their bounds, and the quantity `descent` is within its limit

@@ -4,7 +4,7 @@ ghost use Rattle.integer_algebra.specs.Sums.{at};
 ghost use Rattle.integer_algebra.specs.Sizes.{size, amount};
 ghost use Rattle.mat_int.specs.Enclosures.{AreEnclosures};
 ghost use Rattle.mat_int.specs.Matrix.{entry_of};
-ghost use Rattle.qp_model.specs.form.Form.{farthest};
+ghost use Rattle.qp_model.specs.form.Form.{farthest, spread_of};
 ghost use Rattle.qp_model.specs.problem.Parts.{design_of};
 ghost use Rattle.qp_model.specs.form.Quantities.{greatest};
 ghost use Rattle.condensed_form.specs.Form.{IsFormOf, held};
@@ -14,18 +14,27 @@ use condensed_form::Condensed;
 use mat_int::{Mat, absolute_sum};
 use qp_model::DesignParts;
 
-// The sums of a form's radii, as in `ErrorSums`.
-#[derive(Clone, Copy)]
-pub(crate) struct Radii {
-    pub(crate) h_rad: u128,
-    pub(crate) f_rad: u128,
-    pub(crate) o_rad: u128,
-    pub(crate) g_col: u128,
-    pub(crate) g_sum: u128,
-    pub(crate) e_sum: u128,
-    pub(crate) cost_scale: u128,
-    pub(crate) row_scale: u128,
-    pub(crate) fine: bool,
+/// The sums of a form's radii.
+#[derive(Clone, Copy, PartialEq, Eq)]
+pub struct Radii {
+    /// The greatest sum of the radii of a row of the hessian, over `2^40 * cost_scale`.
+    pub h_rad: u128,
+    /// The greatest sum of the radii of a row of the linear part, over `2^40 * cost_scale`.
+    pub f_rad: u128,
+    /// The greatest radius of the constant, over `2^40 * cost_scale`.
+    pub o_rad: u128,
+    /// The greatest sum of the radii of a column of the limit rows, over `2^40 * row_scale`.
+    pub g_col: u128,
+    /// The radii of the limit rows over all entries of the plan, added up, over `2^40 * row_scale`.
+    pub g_sum: u128,
+    /// The radii of the limit rows over all states, added up, over `2^40 * row_scale`.
+    pub e_sum: u128,
+    /// What the radii of the cost are over, but for `2^40`.
+    pub cost_scale: u128,
+    /// What the radii of the limit rows are over, but for `2^40`.
+    pub row_scale: u128,
+    /// What the square of a sum of the error by rounding and that by radii is at most times the square of the first: 2, or 1 without radii.
+    pub spread: u128,
 }
 
 // Those of a design's form.
@@ -44,8 +53,15 @@ pub(crate) fn radii_of(c: &Condensed, parts: &DesignParts) -> Radii
         e_sum: matrix_sum(&c.e_rad),
         cost_scale: parts.cost_den.unsigned_abs() * (row_den * row_den),
         row_scale: parts.limit_den.unsigned_abs(),
-        fine: c.fine,
+        spread: spread(c.fine),
     }
+}
+
+// What the square of a sum of the error by rounding and that by radii is at most times the square of the first.
+fn spread(fine: bool) -> u128
+    ensures { result ≡ spread_of fine }
+{
+    if fine { 2 } else { 1 }
 }
 
 // The greatest absolute value.

@@ -29,10 +29,9 @@ fn first_cost(gains: &Gains, e: &ErrorSums) -> u128
         result ≡ missed_cost (held gains.now.c.now) gains.now.f x (sums_of e.now) }
 {
     if !gains.has_room() {
-        return e.first.unsigned_abs();
+        return e.first;
     }
-    let squares = e.weight_den.unsigned_abs() * gains.squares();
-    squares.div_ceil(2 * e.rho.unsigned_abs())
+    (e.weight_den * gains.squares()).div_ceil(2 * e.rho)
 }
 
 /// What the errors of a step cost at most, over `2^40`, by the residuals that the gains of a controller over `2^f` leave: P in `p_mat`, T in `t` and W
@@ -59,9 +58,9 @@ pub fn real_epsilon(
         t,
         w_mat,
         f,
-        state: e.x_box.unsigned_abs(),
-        top: e.y_top.unsigned_abs(),
+        state: e.x_box,
+        top: e.y_top,
     };
-    let bound = plan_bound(e, f).unsigned_abs().min(plan.unsigned_abs());
+    let bound = plan_bound(e, f).min(plan.unsigned_abs());
     errors_cost(e, first_cost(&gains, e), bound, f)
 }

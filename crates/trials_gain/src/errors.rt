@@ -5,15 +5,15 @@ ghost use Rattle.step_error.specs.ErrorSums.{AreSums};
 use crate::sums::sums;
 use qp_model::{Quantity, Wide};
 use std::test::Fail;
-use step_error::{ErrorSums, epsilon, plan_bound, residual_error};
+use step_error::{ErrorSums, Radii, epsilon, plan_bound, residual_error};
 use trials_worked_designs::{DESIGN, SATELLITE};
 
 // The bounds at so many bits: on a plan entry, on a residual, and the error of a step.
-fn bounds(e: &ErrorSums, f: u32) -> [i128; 3]
+fn bounds(e: &ErrorSums, f: u32) -> (u128, u128, i128)
     requires sums { AreSums e.now }
     requires bits { f ≤ 48 }
 {
-    [plan_bound(e, f), residual_error(e, f), epsilon(e, f)]
+    (plan_bound(e, f), residual_error(e, f), epsilon(e, f))
 }
 
 // Of the first design.
@@ -27,29 +27,31 @@ static FIRST: ErrorSums = ErrorSums {
     rho: 1,
     x_box: 1,
     y_top: 16,
-    h_rad: 0,
-    f_rad: 0,
-    o_rad: 0,
-    g_col: 0,
-    g_sum: 0,
-    e_sum: 0,
-    cost_scale: 1,
     weight_den: 1,
-    row_scale: 4,
-    fine: false,
+    radii: Radii {
+        h_rad: 0,
+        f_rad: 0,
+        o_rad: 0,
+        g_col: 0,
+        g_sum: 0,
+        e_sum: 0,
+        cost_scale: 1,
+        row_scale: 4,
+        spread: 1,
+    },
 };
 
 #[test]
 fn first_sums_and_bounds(rt: HostRuntime) -> Result<(), Fail> {
     let e = sums(rt.alloc(), DESIGN, 8)??;
-    assert!(rt; e == FIRST && bounds(&e, 10) == [27, 31, 804534616064]);
+    assert!(rt; e == FIRST && bounds(&e, 10) == (27, 31, 804534616064));
     Ok(())
 }
 
 #[test]
 fn satellite_bounds(rt: HostRuntime) -> Result<(), Fail> {
     let e = sums(rt.alloc(), SATELLITE, 159)??;
-    assert!(rt; bounds(&e, 28) == [6317, 31596, 699629521553]);
+    assert!(rt; bounds(&e, 28) == (6317, 31596, 699629521553));
     Ok(())
 }
 

@@ -92,7 +92,7 @@ fn of_one(alloc: Global) -> Result<String, Fail> {
 }
 
 // The arguments, the certificate, the disturbances, the answer's line and what is printed.
-static OF_ONE: [(&str, &str, &str, &str, &str); 21] = [
+static OF_ONE: [(&str, &str, &str, &str, &str); 22] = [
     // The whole of the box where no multiplier moves, and the least box after so many turns.
     (
         SETTLE,
@@ -114,6 +114,14 @@ static OF_ONE: [(&str, &str, &str, &str, &str); 21] = [
         "",
         "",
         "turn 0\nstate 1 -2 2\n",
+    ),
+    // The row of the cost, which is the state, three turns from where no multiplier moves.
+    (
+        SETTLE,
+        "5,-31,32\n3,-31,32\n1,-2,2\n",
+        "",
+        "",
+        "turn 5\nstate 1 -2 2\ncost 1 3 -4 4\n",
     ),
     // A box where a multiplier may move: by the lower end, and by the upper one.
     (
@@ -199,7 +207,7 @@ static OF_ONE: [(&str, &str, &str, &str, &str); 21] = [
     ),
     (
         SETTLE,
-        "5,-31,32\n1,-31,32\n0,-2,2\n",
+        "5,-31,32\n-1,-31,32\n0,-2,2\n",
         "",
         "error 5 text 3 range 2\n",
         "",

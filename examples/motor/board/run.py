@@ -1,4 +1,3 @@
-#!/usr/bin/env python3
 """run.py [PROGRAM]: the motor's controller as C on an emulated Cortex-M4, in closed loop with the plant, beside `loop`.
 
 Makes the controller, writes it as C, builds it with the loop of main.c for the board, runs 50 turns from each of the example's states, and compares each line with
@@ -9,13 +8,11 @@ import subprocess
 import sys
 import tempfile
 
+from bench.target import board
+
 HERE = os.path.dirname(os.path.abspath(__file__))
 EXAMPLE = os.path.dirname(HERE)
 TOP = os.path.dirname(os.path.dirname(EXAMPLE))
-sys.path.insert(0, os.path.join(TOP, "bench", "target"))
-
-import board
-
 TURNS, CLOCK, STAGE = 50, 168e6, 0.005
 
 

@@ -44,15 +44,6 @@ pub record BoundsGrowth (d : Design) (alpha : ℕ) : Type 0 where
   pub denominator : d.plant_denominator ≤ alpha
   pub plant : (i : ℕ) → i < d.states → size d.states (d.plant_a i) + size d.inputs (d.plant_b i) ≤ alpha
 
--- a run from numbers of at most z, whose states stay below 2^126 also when they are times `factor`
-pub record TrajectoryFits (d : Design) (x v : ℕ → ℤ) (factor : ℕ) : Type 0 where
-  pub alpha : ℕ
-  pub z : ℕ
-  pub growth_bound : BoundsGrowth d alpha
-  pub state : (i : ℕ) → i < d.states → unsigned_abs (x i) ≤ z
-  pub plan : (j : ℕ) → j < entries d → unsigned_abs (v j) ≤ z
-  pub fits : factor * (z * alpha ^ d.stages) ≤ 2 ^ 126
-
 -- each limit row's absolute sum, without its bound, is at most `width`
 pub record HasNarrowLimits (d : Design) (width : ℕ) : Type 0 where
   pub stage : (r : ℕ) → r < d.stage_limits → size d.states (d.stage_limit r).of_state + size d.inputs (d.stage_limit r).of_input ≤ width

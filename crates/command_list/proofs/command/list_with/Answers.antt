@@ -1,10 +1,11 @@
-use Rattle.std.proofs.Common.{ℕ, subst, sym}
-use Rattle.io_edge.specs.Faults.{Rose}
+use Rattle.std.proofs.Common.{◌≡◌, inl, inr, ℕ, subst, sym, refl, le_refl}
+use Rattle.io_edge.specs.Faults.{Files, Rose, IsWritten, IsCutShort}
+use Rattle.mac_listing.proofs.Sizes.{text_short}
 use Rattle.command_line.specs.Words.{word_of}
-use Rattle.command_line.specs.Answers.{ForContents, IsAnswer}
-use Rattle.command_line.specs.declared.status.Status.{Status}
-use Rattle.command_list.specs.Listed.{ListCalls}
-use Rattle.command_list.proofs.Written.{done_called, done_calls, told_listed, told_cut, written_done, written_no_read, written_none, written_second, written_cut}
+use Rattle.command_line.proofs.Results.{both_some}
+use Rattle.command_line.proofs.Following.{nothing_done}
+use Rattle.command_list.specs.Listed.{IsListed, IsListingCut}
+use Rattle.command_list.proofs.Written.{written_done, written_no_read, written_none, written_second}
 use Rattle.command_list.proofs.command.list_with.Goals as goal
 
 pub returns-in-Ok : goal.returns-in-Ok
@@ -13,25 +14,38 @@ returns-in-Ok g c =
     let held = g.S.Store.held c.args.store.now in
     let now = g.S.Store.held c.write_text.new.store in
     let n = c.args.controller.now in
-    let read = c.requires.right in
     let text = c.in-Ok.text.items in
+    let is = c.in-Ok.ensures in
+    let short = text_short n text c.requires.right.right.right.controller is in
     let s = c.write_text.result in
-    let only = c.write_text.ensures.only in
-    let done = rw (c.at.ensures, c.deref.ensures.value) at c.write_text.ensures.done in
-    let cut = rw (c.at.ensures, c.deref.ensures.value) at c.write_text.ensures.cut in
-    let failed = rw c.at.ensures at c.write_text.ensures.failed in
+    let did = c.write_text.ensures in
+    let done = rw (c.at.ensures, c.deref.ensures.value) at did.done in
+    let cut = rw (c.at.ensures, c.deref.ensures.value) at did.cut in
+    let failed = rw c.at.ensures at did.failed in
     record {
-      listed = λ is. told_listed words held now n read text c.in-Ok.ensures (done is);
-      cut = λ is. told_cut words held now n read text c.in-Ok.ensures (cut is);
-      called = λ caused. subst (λ (t : Status). ForContents words held (λ k. IsAnswer (ListCalls (k 1)) t)) (sym (written_done s only caused)) (done_called words held n read);
-      no_read_fault = written_no_read s only;
-      write_fault = λ file is.
-          let second = written_second s only file is in (
-            second,
-            done_calls words held n read,
-            (let at = word_of words in subst (λ (k : ℕ). Rose (g.S.Store.write_faults c.args.store.now (at k)) (g.S.Store.write_faults c.write_text.new.store (at k))) (sym second) (failed (written_cut s only file is))),
-          );
-      held = λ not_done no_write. absurd (written_none s only not_done no_write);
-      reads = c.write_text.ensures.reads;
-      writes = c.write_text.ensures.writes;
+      called = written_done s did.only;
+      read_fault = written_no_read s did.only;
+      write_fault = λ file e.
+          let second = written_second s did.only file e in
+          let at = word_of words in
+          (tt, inr (second.0, subst (λ (k : ℕ). Rose (g.S.Store.write_faults c.args.store.now (at k)) (g.S.Store.write_faults c.write_text.new.store (at k))) (sym second.0) (failed second.1)));
+      shows = tt;
+      quiet = λ unprinted. refl;
+      leaves = record {
+        listed = λ e.
+            both_some (λ (old new : Files). IsWritten old new (word_of words 2) text) (IsListed words n)
+            (λ old new w. record { text = text; is_text = is; short = short; written = w }) held now (done e);
+        cut = λ e.
+            both_some (λ (old new : Files). IsCutShort old new (word_of words 2) text) (IsListingCut words n)
+            (λ old new w. record { text = text; is_text = is; short = short; cut = w }) held now (cut e);
+      };
+      held = λ unwritten. elim unwritten [ inl never ↦ absurd (never 2 refl) | inr none ↦ absurd (written_none s did.only none.0 none.1) ];
+      reads = did.reads;
+      writes = did.writes;
+      no_fewer = le_refl 0;
     }
+
+pub returns-in-Err : goal.returns-in-Err
+returns-in-Err g c =
+    nothing_done (λ caused. absurd (caused.memory refl)) (λ file e. cc) (λ file e. cc) (λ old. refl)
+    (record { listed = λ e. absurd (let never : ⊥ = cc in never); cut = λ e. absurd (let never : ⊥ = cc in never) })

@@ -1,11 +1,13 @@
 use Rattle.std.proofs.Common.{◌≡◌, ◌⊎◌, ◌∙◌, ◌++◌, ◌+◌, ◌<◌, inr, length, refl, sym, subst, arith}
 use Rattle.mat_int.specs.Matrix.{row_of}
 use Rattle.mac_machine.specs.Machine.{NeverTraps}
-use Rattle.command_line.specs.declared.status.Status.TheVariants.{Memory}
+use Rattle.plan_lines.proofs.PlanLines.{told_ok}
+use Rattle.command_line.proofs.Results.{both_some}
+use Rattle.command_line.specs.declared.status.Status.TheVariants.{Memory, WriteFault}
 use Rattle.command_play.specs.Plays.{HaveRunRoom, run_line, run_lines}
-use Rattle.command_play.specs.Printing.{TrapsFrom, PlaysPrint}
+use Rattle.command_play.specs.Printing.{TrapsFrom, ArePart, PlaysPrint}
 use Rattle.command_line.specs.declared.status.Status.TheVariants.{Done}
-use Rattle.command_play.proofs.RunLines.{room_more, print_cut, cut_prints, mapped, stop_ends, stop_prints, stop_first, all_print, told_ok, grown, said_of, none_print}
+use Rattle.command_play.proofs.RunLines.{room_more, print_cut, part_prints, mapped, stop_ends, stop_prints, stop_first, all_print, grown, said_of, none_print}
 use Rattle.command_play.proofs.lines.print_lines.Goals as goal
 
 pub returns-in_default-clause-printed : goal.returns-in_default-clause-printed
@@ -29,7 +31,7 @@ returns-then-is_err-clause-printed g c =
     let there : c.row.result.now ≡ row_of m i = c.row.ensures.value ∙ rw (c.loop-i.invariant.rows, c.loop-i.invariant.next) at c.step.ensures.row in
     let here = said_of NeverTraps c.loop-i.machine.listing l c.row.result.now (row_of m i) c.loop-i.invariant.listing there c.in-Ok-line_from.ensures.room in
     let line = said_of (λ k xi. c.deref.result.now ≡ run_line k xi) c.loop-i.machine.listing l c.row.result.now (row_of m i) c.loop-i.invariant.listing there (c.deref.ensures.value ∙ c.in-Ok-line_from.ensures.line) in
-    cut_prints l m first last
+    both_some (ArePart l m) (PlaysPrint l m (WriteFault 0)) (part_prints l m c.requires.inside) first last
     (print_cut c.put.result l m i c.deref.result.now first mid last (sym c.is_err.ensures.value ∙ c.if-is_err.true) c.put.ensures.err c.loop-i.invariant.got lt (room_more l m i c.loop-i.invariant.room here) line)
 
 pub returns-in-Err-clause-printed : goal.returns-in-Err-clause-printed
@@ -68,7 +70,7 @@ loop-i-preserved g c =
     let there : c.row.result.now ≡ row_of m i = c.row.ensures.value ∙ rw (c.loop-i.invariant.rows, c.loop-i.invariant.next) at c.step.ensures.row in
     let here = said_of NeverTraps c.loop-i.machine.listing l c.row.result.now (row_of m i) c.loop-i.invariant.listing there c.in-Ok-line_from.ensures.room in
     let line = said_of (λ k xi. c.deref.result.now ≡ run_line k xi) c.loop-i.machine.listing l c.row.result.now (row_of m i) c.loop-i.invariant.listing there (c.deref.ensures.value ∙ c.in-Ok-line_from.ensures.line) in
-    let put = told_ok c.put.result _ (sym c.is_err.ensures.value ∙ c.if-is_err.false) c.put.ensures.ok in
+    let put = told_ok c.put.result (sym c.is_err.ensures.value ∙ c.if-is_err.false) c.put.ensures.ok in
     record {
       rows = c.step.ensures.rows ∙ c.loop-i.invariant.rows;
       next = omega (arith, c.step.ensures.next, c.loop-i.invariant.next);
@@ -92,4 +94,4 @@ returns-clause-printed g c =
     let i = c.loop-i.i in
     let all : i ≡ length m.rows = omega arith in
     mapped (λ old new. PlaysPrint l m Done old new) (λ old. old ++ run_lines l m i) (g.O.Sink.got c.args.out.now) (g.O.Sink.got c.loop-i.out) c.loop-i.invariant.got
-    (λ old. all_print l m i old all c.loop-i.invariant.room)
+    (λ old. all_print l m c.requires.inside i old all c.loop-i.invariant.room)

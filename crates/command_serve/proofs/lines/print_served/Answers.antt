@@ -1,7 +1,8 @@
 use Rattle.std.proofs.Common.{arith, sym, subst, ◌∙◌, le_refl, zero-le}
 use Rattle.mat_int.specs.Matrix.{row_of}
+use Rattle.plan_lines.proofs.PlanLines.{told_ok}
 use Rattle.command_serve.specs.Served.{IsHeldBySome}
-use Rattle.command_serve.proofs.ServedLines.{none_printed, line_printed, all_printed, some_printed, part_printed, served_same, told_ok}
+use Rattle.command_serve.proofs.ServedLines.{none_printed, line_printed, all_printed, some_printed, part_printed, served_same}
 use Rattle.command_serve.proofs.lines.print_served.Goals as goal
 
 pub loop-init : goal.loop-init

@@ -1,81 +1,29 @@
-use Rattle.std.proofs.Common.{◌≡◌, ◌≢◌, ◌⊎◌, inl, inr, List, ℕ, ◌<◌, length, Option, Some, None, refl, le_refl}
-use Rattle.std.specs.Prelude.{IfSome, IsSomeAnd}
-use Rattle.mat_int.specs.Matrix.{Matrix}
-use Rattle.qp_model.specs.machine.Controller.{Numbers}
-use Rattle.command_line.specs.declared.status.Status.{Status}
-use Rattle.command_line.specs.declared.status.Status.TheVariants.{Done, Memory, WriteFault}
-use Rattle.command_serve.specs.Served.{AreServed}
-use Rattle.command_serve.specs.Unserved.{IsUnserved}
-use Rattle.command_serve.specs.Printing.{AreServedPrinted, ServedEnd, ServedPrint}
+use Rattle.std.proofs.Common.{inl, refl}
+use Rattle.command_line.specs.declared.status.Status.TheVariants.{Memory}
+use Rattle.plan_lines.proofs.Acting.{none_printed, lines_printed}
+use Rattle.command_serve.specs.Printing.{served_lines}
+use Rattle.command_serve.specs.Deeds.{serve_deeds}
+use Rattle.command_serve.proofs.Serving.{some_cell}
+use Rattle.command_serve.proofs.Unserving.{served_judged}
 use Rattle.command_serve.proofs.states.serve_states.Goals as goal
 
--- ---- nothing is printed
-silent : (n : List Numbers) (m : Matrix) (s : Status) (got : Option (List ℕ)) → s ≢ Done → s ≢ WriteFault 0 → IfSome got (λ old. IsSomeAnd got (λ new. ServedPrint n m s old new))
-silent n m s (Some old) done fault = record { done = λ is. absurd (done is); fault = λ is. absurd (fault is); memory = λ is. inl refl; other = λ a b d. refl }
-silent n m s None done fault = tt
-
--- where the test of the states ends it
-refused_end : (n : List Numbers) (m : Matrix) (s : Status) → (s ≡ Memory) ⊎ IsUnserved n m s → ServedEnd n m s
-refused_end n m s (inl memory) = inl memory
-refused_end n m s (inr out) = inr (inr (inl out))
-
-refused_not_done : (n : List Numbers) (m : Matrix) (s : Status) → (s ≡ Memory) ⊎ IsUnserved n m s → s ≢ Done
-refused_not_done n m s (inl memory) is = cc
-refused_not_done n m s (inr out) is = let told = out.is in cc
-
-refused_no_fault : (n : List Numbers) (m : Matrix) (s : Status) → (s ≡ Memory) ⊎ IsUnserved n m s → s ≢ WriteFault 0
-refused_no_fault n m s (inl memory) is = cc
-refused_no_fault n m s (inr out) is = let told = out.is in cc
-
--- ---- the lines are printed
-module _ (n : List Numbers) (m : Matrix) (s : Status) (inside : AreServed n m (length m.rows)) (only : (s ≡ Memory) ⊎ ((s ≡ Done) ⊎ (s ≡ WriteFault 0)))
-    (some : s ≡ WriteFault 0 → 0 < length m.rows) where
-  lines_end : ServedEnd n m s
-  lines_end = elim only [ inl memory ↦ inl memory | inr rest ↦ elim rest [ inl done ↦ inr (inr (inr (done, inside))) | inr fault ↦ inr (inl (fault, inside, some fault)) ] ]
-
-  one_of_them : (A : Type 0) → s ≢ Done → s ≢ WriteFault 0 → s ≢ Memory → A
-  one_of_them A done fault memory = elim only [ inl is ↦ absurd (memory is) | inr rest ↦ elim rest [ inl is ↦ absurd (done is) | inr is ↦ absurd (fault is) ] ]
-
-  lines_print : (first last : Option (List ℕ)) → IfSome first (λ old. IsSomeAnd last (AreServedPrinted n m s old)) → IfSome first (λ old. IsSomeAnd last (λ new. ServedPrint n m s old new))
-  lines_print (Some old) (Some new) p = record { done = p.done; fault = p.fault; memory = λ is. inr (inside, p.memory is); other = λ a b d. one_of_them _ a b d }
-  lines_print (Some old) None p = p
-  lines_print None last p = tt
-
 pub returns-in_default : goal.returns-in_default
-returns-in_default g c = record {
-  ends = inl refl;
-  printed = silent c.args.cells.now c.args.states.now Memory (g.O.Sink.got c.args.out.now) (λ is. cc) (λ is. cc);
-  quiet = λ done memory fault. refl;
-  failed = λ is. absurd (let never : ⊥ = cc in never);
-  no_fewer = le_refl (g.O.Sink.faults c.args.out.now);
-}
+returns-in_default g c =
+    let n = c.args.cells.now in
+    let m = c.args.states.now in
+    none_printed (served_judged (some_cell n 0 c.requires.some) n m) m (served_lines n m) g.O.Sink serve_deeds c.args.out.now Memory (inl refl)
 
 pub returns-in-Ok-all_served : goal.returns-in-Ok-all_served
 returns-in-Ok-all_served g c =
     let n = c.args.cells.now in
     let m = c.args.states.now in
-    let s = c.print_served.result in
-    let served = c.in-Ok-all_served.ensures.served in
-    let only = c.print_served.ensures.only in
-    let some = c.print_served.ensures.some in
-    record {
-      ends = lines_end n m s served only some;
-      printed = lines_print n m s served only some (g.O.Sink.got c.args.out.now) (g.O.Sink.got c.print_served.new.out) c.print_served.ensures.printed;
-      quiet = λ done memory fault. one_of_them n m s served only some _ done fault memory;
-      failed = c.print_served.ensures.failed;
-      no_fewer = c.print_served.ensures.no_fewer;
-    }
+    let did = c.print_served.ensures in
+    lines_printed (served_judged (some_cell n 0 c.requires.some) n m) m (served_lines n m) g.O.Sink serve_deeds c.args.out.now c.print_served.new.out
+    c.print_served.result c.in-Ok-all_served.ensures.served did.only did.some did.failed did.printed did.no_fewer
 
 pub returns : goal.returns
 returns g c =
     let n = c.args.cells.now in
     let m = c.args.states.now in
-    let s = c.in-Err.status in
-    let refused = c.in-Err.ensures.unserved in
-    record {
-      ends = refused_end n m s refused;
-      printed = silent n m s (g.O.Sink.got c.args.out.now) (refused_not_done n m s refused) (refused_no_fault n m s refused);
-      quiet = λ done memory fault. refl;
-      failed = λ is. absurd (refused_no_fault n m s refused is);
-      no_fewer = le_refl (g.O.Sink.faults c.args.out.now);
-    }
+    none_printed (served_judged (some_cell n 0 c.requires.some) n m) m (served_lines n m) g.O.Sink serve_deeds c.args.out.now c.in-Err.status
+    c.in-Err.ensures.unserved

@@ -31,6 +31,7 @@ returns-in-Ok c =
     let told = rw (c.parts-d.ensures.value, c.parts-c.ensures.value, c.row.ensures.value, c.row-2.ensures.value) at c.in-Ok.ensures in
     record {
       rest = told.rest;
+      costs = told.costs;
       settles = told.settled;
       passes = told.found;
       answer = passing d n f c.args.range.now told.found told.first;
@@ -45,6 +46,7 @@ returns-in-Err c =
     let told = rw (c.parts-d.ensures.value, c.parts-c.ensures.value, c.row.ensures.value, c.row-2.ensures.value) at c.in-Err.ensures in
     record {
       rest = tt;
+      costs = tt;
       settles = tt;
       passes = tt;
       answer = tt;

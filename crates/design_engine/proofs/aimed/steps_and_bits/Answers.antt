@@ -7,7 +7,6 @@ use Rattle.step_error.specs.ErrorSums.{sums_of}
 use Rattle.qp_model.specs.declared.design_parts.DesignParts.{DesignParts}
 use Rattle.design_engine.proofs.RefusalFacts.{refused_by, steps_refused, sums_refused, choice_refused, choice_same}
 use Rattle.qp_model.specs.problem.Parts.{design_of}
-use Rattle.design_engine.proofs.Classes.{sums_back}
 use Rattle.design_engine.proofs.GenerationFacts.{size_kept, kept_least}
 use Rattle.design_engine.proofs.AnswerLaws.{absent_of_error}
 use Rattle.design_engine.proofs.BuiltFacts.{exponent_small}
@@ -41,7 +40,7 @@ returns-in_err-choice-clause-refused c =
     let kept = rw (to_z-of_z w128 _ l) at c.in_err-choice.ensures in
     refused_by c.from_residual-in_err-choice.result _ _ c.from_residual-in_err-choice.ensures.1
     (choice_refused (design_of c.args.design.now) c.args.aim c.args.stepped.now.s (sums_of c.in_ok-sums.sums) _ count.0 sums.0
-    (sums_back (design_of c.args.design.now) c.in_ok-sums.sums _ sums.1) (kept.fine.0 refl) kept.told)
+    sums.1 (kept.fine.0 refl) kept.told)
 
 -- ---- what is chosen
 pub returns-clause-chosen : goal.returns-clause-chosen
@@ -51,17 +50,16 @@ returns-clause-chosen c =
     let l : SFits w128 c.args.aim.error_target = search rules in
     let count = rw (to_z-of_z w128 _ r, to_z-of_z w128 _ t) at c.in_ok-steps.ensures.value in
     let sums = rw (to_z-of_z w128 _ r) at c.in_ok-sums.ensures.value in
-    let back = sums_back (design_of c.args.design.now) c.in_ok-sums.sums _ sums.1 in
     record {
       passes = record {
         steps = count.0;
         error = sums.0;
-        choice = choice_same _ _ _ _ _ _ c.in_ok-choice.choice.f back (ap (λ (p : DesignParts). p.grid) c.parts.ensures.value)
+        choice = choice_same _ _ _ _ _ _ c.in_ok-choice.choice.f sums.1 (ap (λ (p : DesignParts). p.grid) c.parts.ensures.value)
             (size_kept c.args.aim.error_target l) c.in_ok-choice.ensures.choice;
       };
       steps = count.1;
       sums = record { form = c.requires.stepped.form; bound = kept_least c.args.aim.r c.requires.aim.some; sums = sums.1; room = sums.0 };
-      cost = c.in_ok-choice.ensures.cost ∙ ap (λ (sums : ErrorSums). pos (epsilon sums c.in_ok-choice.choice.f)) back;
+      cost = c.in_ok-choice.ensures.cost ∙ ap (λ (sums : ErrorSums). pos (epsilon sums c.in_ok-choice.choice.f)) sums.1;
     }
 
 -- ---- what each call asks of the aim and of the design

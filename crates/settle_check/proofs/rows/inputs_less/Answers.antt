@@ -46,7 +46,8 @@ returns-in_err-sum-clause-room c =
 pub loop-l-preserved : goal.loop-l-preserved
 loop-l-preserved c =
     let lt : c.loop-l.l < c.args.parts.now.inputs = omega (arith, c.loop-l-test.true, c.loop-l.invariant.end) in
-    let number : ℕ → ℤ = λ l. int_max (coimage c.args.parts.now.states (entry_of c.args.parts.now.b) (at c.args.row.now) l) (pos 0) -ℤ coimage c.args.parts.now.states (entry_of c.args.parts.now.b) (at c.args.row.now) l *ℤ at c.args.c.now.t.items l in
+    let of_input : ℕ → ℤ = coimage c.args.parts.now.states (entry_of c.args.parts.now.b) (at c.args.row.now) in
+    let number : ℕ → ℤ = λ l. int_max (of_input l) (pos 0) -ℤ of_input l *ℤ at c.args.c.now.t.items l in
     let term : ℕ → ℕ = λ l. input_size (design_of c.args.parts.now) (at c.args.row.now) l * (unsigned_abs (at c.args.c.now.t.items l) + 1) in
     let f : FitsSigned w128 c.index.result.now = search rules in
     let few = first_inputs (numbers c.args.c.now) c.args.parts.now.inputs c.requires.sized c.requires.matched.inputs in

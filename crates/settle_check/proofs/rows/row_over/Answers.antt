@@ -5,13 +5,13 @@ use Rattle.integer_algebra.specs.Sums.{at}
 use Rattle.integer_algebra.proofs.SumLaws.{total_more}
 use Rattle.integer_algebra.proofs.SizeLaws.{amount_term, amount_next, amount_more}
 use Rattle.settle_check.specs.Still.{box_of}
-use Rattle.settle_check.specs.StillSize.{reach}
+use Rattle.settle_check.specs.StillSize.{furthest}
 use Rattle.settle_check.proofs.rows.row_over.Goals as goal
 
 pub returns-in_err-most-clause-room : goal.returns-in_err-most-clause-room
 returns-in_err-most-clause-room c =
     let box = box_of c.args.low.now c.args.high.now in
-    let term : ℕ → ℕ = λ k. unsigned_abs (at c.args.row.now k) * reach box k in
+    let term : ℕ → ℕ = λ k. unsigned_abs (at c.args.row.now k) * furthest box k in
     let lt : c.loop-k.k < c.args.parts.now.states = omega (arith, c.loop-k-test.true, c.loop-k.invariant.end) in
     let e : FitsSigned w128 c.number_at.result = search rules in
     let f : FitsSigned w128 c.number_at-in-loop-k.result = search rules in
@@ -23,7 +23,7 @@ returns-in_err-most-clause-room c =
 pub returns-in_err-sum-clause-room : goal.returns-in_err-sum-clause-room
 returns-in_err-sum-clause-room c =
     let box = box_of c.args.low.now c.args.high.now in
-    let term : ℕ → ℕ = λ k. unsigned_abs (at c.args.row.now k) * reach box k in
+    let term : ℕ → ℕ = λ k. unsigned_abs (at c.args.row.now k) * furthest box k in
     let lt : c.loop-k.k < c.args.parts.now.states = omega (arith, c.loop-k-test.true, c.loop-k.invariant.end) in
     let e : FitsSigned w128 c.number_at.result = search rules in
     let f : FitsSigned w128 c.number_at-in-loop-k.result = search rules in
@@ -36,7 +36,7 @@ pub loop-k-preserved : goal.loop-k-preserved
 loop-k-preserved c =
     let box = box_of c.args.low.now c.args.high.now in
     let number : ℕ → ℤ = λ k. int_max (at c.args.row.now k *ℤ at c.args.low.now k) (at c.args.row.now k *ℤ at c.args.high.now k) in
-    let term : ℕ → ℕ = λ k. unsigned_abs (at c.args.row.now k) * reach box k in
+    let term : ℕ → ℕ = λ k. unsigned_abs (at c.args.row.now k) * furthest box k in
     let lt : c.loop-k.k < c.args.parts.now.states = omega (arith, c.loop-k-test.true, c.loop-k.invariant.end) in
     let e : FitsSigned w128 c.number_at.result = search rules in
     let f : FitsSigned w128 c.number_at-in-loop-k.result = search rules in

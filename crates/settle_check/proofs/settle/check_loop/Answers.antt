@@ -2,7 +2,7 @@ use Rattle.std.proofs.Common.{inr}
 use Rattle.std.proofs.lemmas.Result.{err_from_is_err_and}
 use Rattle.settle_check.specs.Course.{tube_of}
 use Rattle.settle_check.specs.Certificates.{state_box, certificate_of}
-use Rattle.settle_check.proofs.SettleFacts.{turns_of, start_room, rest_room, told, passed, rest_is, states_are}
+use Rattle.settle_check.proofs.SettleFacts.{turns_of, start_room, rest_room, costs_room, costs_are, told, passed, rest_is, states_are}
 use Rattle.settle_check.proofs.settle.check_loop.Goals as goal
 
 pub tube_from-requires : goal.tube_from-requires
@@ -15,7 +15,6 @@ pub returns-in_err-there-clause-fault : goal.returns-in_err-there-clause-fault
 returns-in_err-there-clause-fault c =
     let l = c.args.closed.now in
     let s = certificate_of c.args.certificate.now in
-    let n = l.parts.now.states in
     let e = err_from_is_err_and c.from_residual.result c.from_residual.ensures.1 in
     rw (e.1, e.2) (start_room l s (states_are l c.args.certificate.now c.requires.low c.requires.high) _ c.in_err-there.ensures.fault)
 
@@ -23,18 +22,29 @@ pub returns-in_err-again-clause-fault : goal.returns-in_err-again-clause-fault
 returns-in_err-again-clause-fault c =
     let l = c.args.closed.now in
     let s = certificate_of c.args.certificate.now in
-    let n = l.parts.now.states in
     let e = err_from_is_err_and c.from_residual-in_err-again.result c.from_residual-in_err-again.ensures.1 in
     rw (e.1, e.2) (rest_room l s (states_are l c.args.certificate.now c.requires.low c.requires.high) _ c.in_err-again.ensures.fault)
+
+pub returns-in_err-costs-clause-fault : goal.returns-in_err-costs-clause-fault
+returns-in_err-costs-clause-fault c =
+    let l = c.args.closed.now in
+    let s = certificate_of c.args.certificate.now in
+    let e = err_from_is_err_and c.from_residual-in_err-costs.result c.from_residual-in_err-costs.ensures.1 in
+    rw (e.1, e.2) (costs_room l s (states_are l c.args.certificate.now c.requires.low c.requires.high) _ c.in_err-costs.ensures.fault)
+
+pub returns-clause-costs : goal.returns-clause-costs
+returns-clause-costs c =
+    let l = c.args.closed.now in
+    let s = certificate_of c.args.certificate.now in
+    costs_are l s (states_are l c.args.certificate.now c.requires.low c.requires.high) c.in_ok-costs.costs c.in_ok-costs.ensures.value
 
 pub returns-in_err-test_tubes-clause-fault : goal.returns-in_err-test_tubes-clause-fault
 returns-in_err-test_tubes-clause-fault c =
     let l = c.args.closed.now in
     let s = certificate_of c.args.certificate.now in
-    let n = l.parts.now.states in
     let e = err_from_is_err_and c.from_residual-in_err-test_tubes.result c.from_residual-in_err-test_tubes.ensures.1 in
     rw (e.1, e.2) (inr (told l s (states_are l c.args.certificate.now c.requires.low c.requires.high) c.in_ok-there.there c.in_ok-again.again c.in_ok-there.ensures.value c.in_ok-again.ensures.value
-    c.in_ok-there.ensures.room c.in_ok-again.ensures.room _ c.in_err-test_tubes.ensures.fault))
+    c.in_ok-there.ensures.room c.in_ok-again.ensures.room c.in_ok-costs.ensures.room _ c.in_err-test_tubes.ensures.fault))
 
 pub test_tubes-requires-clause-sized : goal.test_tubes-requires-clause-sized
 test_tubes-requires-clause-sized c = c.args.closed.now.sized
@@ -59,13 +69,11 @@ pub returns-clause-rest : goal.returns-clause-rest
 returns-clause-rest c =
     let l = c.args.closed.now in
     let s = certificate_of c.args.certificate.now in
-    let n = l.parts.now.states in
-    rest_is l s (states_are l c.args.certificate.now c.requires.low c.requires.high) c.in_ok-again.again c.in_ok-hull_of.field-0 c.requires.certificate.some c.in_ok-again.ensures.value c.in_ok-hull_of.ensures
+    rest_is l s (states_are l c.args.certificate.now c.requires.low c.requires.high) c.in_ok-again.again c.in_ok-rest.rest c.requires.certificate.some c.in_ok-again.ensures.value c.in_ok-rest.ensures
 
 pub returns-clause-passes : goal.returns-clause-passes
 returns-clause-passes c =
     let l = c.args.closed.now in
     let s = certificate_of c.args.certificate.now in
-    let n = l.parts.now.states in
     passed l s (states_are l c.args.certificate.now c.requires.low c.requires.high) c.in_ok-there.there c.in_ok-again.again c.in_ok-there.ensures.value c.in_ok-again.ensures.value
-    c.in_ok-there.ensures.room c.in_ok-again.ensures.room c.in_ok-test_tubes.ensures.passes
+    c.in_ok-there.ensures.room c.in_ok-again.ensures.room c.in_ok-costs.ensures.room c.in_ok-test_tubes.ensures.passes

@@ -6,25 +6,25 @@ use Rattle.integer_algebra.proofs.SumLaws.{total_more}
 use Rattle.integer_algebra.proofs.SizeLaws.{amount_term, amount_next, amount_more}
 use Rattle.qp_model.specs.machine.Controller.{numbers}
 use Rattle.settle_check.specs.Still.{box_of, still_coefficient}
-use Rattle.settle_check.specs.StillSize.{coefficient_size, reach}
+use Rattle.settle_check.specs.StillSize.{still_coefficient_size, furthest}
 use Rattle.settle_check.proofs.CountedFacts.{le_times_reach}
 use Rattle.settle_check.proofs.still.over_box.Goals as goal
 
 pub returns-in_err-coefficient-clause-room : goal.returns-in_err-coefficient-clause-room
 returns-in_err-coefficient-clause-room c =
     let box = box_of c.args.low.now c.args.high.now in
-    let term : ℕ → ℕ = λ k. coefficient_size (numbers c.args.c.now) c.args.i k * reach box k in
+    let term : ℕ → ℕ = λ k. still_coefficient_size (numbers c.args.c.now) c.args.i k * furthest box k in
     let lt : c.loop-j.j < c.args.c.now.n = omega (arith, c.loop-j-test.true, c.loop-j.invariant.end) in
     rw c.from_residual.ensures (
       λ s. cc,
       λ h. c.in_err-coefficient.ensures.room.1
-          (omega (arith, amount_term c.loop-j.j c.args.c.now.n term lt, le_times_reach (coefficient_size (numbers c.args.c.now) c.args.i c.loop-j.j) box c.loop-j.j, h)),
+          (omega (arith, amount_term c.loop-j.j c.args.c.now.n term lt, le_times_reach (still_coefficient_size (numbers c.args.c.now) c.args.i c.loop-j.j) box c.loop-j.j, h)),
     )
 
 pub returns-in_err-most-clause-room : goal.returns-in_err-most-clause-room
 returns-in_err-most-clause-room c =
     let box = box_of c.args.low.now c.args.high.now in
-    let term : ℕ → ℕ = λ k. coefficient_size (numbers c.args.c.now) c.args.i k * reach box k in
+    let term : ℕ → ℕ = λ k. still_coefficient_size (numbers c.args.c.now) c.args.i k * furthest box k in
     let lt : c.loop-j.j < c.args.c.now.n = omega (arith, c.loop-j-test.true, c.loop-j.invariant.end) in
     let f : FitsSigned w128 c.number_at.result = search rules in
     let g : FitsSigned w128 c.number_at-in-loop-j.result = search rules in
@@ -35,7 +35,7 @@ returns-in_err-most-clause-room c =
 pub returns-in_err-sum-clause-room : goal.returns-in_err-sum-clause-room
 returns-in_err-sum-clause-room c =
     let box = box_of c.args.low.now c.args.high.now in
-    let term : ℕ → ℕ = λ k. coefficient_size (numbers c.args.c.now) c.args.i k * reach box k in
+    let term : ℕ → ℕ = λ k. still_coefficient_size (numbers c.args.c.now) c.args.i k * furthest box k in
     let lt : c.loop-j.j < c.args.c.now.n = omega (arith, c.loop-j-test.true, c.loop-j.invariant.end) in
     let f : FitsSigned w128 c.number_at.result = search rules in
     let g : FitsSigned w128 c.number_at-in-loop-j.result = search rules in
@@ -46,7 +46,7 @@ pub loop-j-preserved : goal.loop-j-preserved
 loop-j-preserved c =
     let box = box_of c.args.low.now c.args.high.now in
     let number : ℕ → ℤ = λ k. int_max (still_coefficient (numbers c.args.c.now) c.args.i k *ℤ at c.args.low.now k) (still_coefficient (numbers c.args.c.now) c.args.i k *ℤ at c.args.high.now k) in
-    let term : ℕ → ℕ = λ k. coefficient_size (numbers c.args.c.now) c.args.i k * reach box k in
+    let term : ℕ → ℕ = λ k. still_coefficient_size (numbers c.args.c.now) c.args.i k * furthest box k in
     let lt : c.loop-j.j < c.args.c.now.n = omega (arith, c.loop-j-test.true, c.loop-j.invariant.end) in
     let f : FitsSigned w128 c.number_at.result = search rules in
     let g : FitsSigned w128 c.number_at-in-loop-j.result = search rules in

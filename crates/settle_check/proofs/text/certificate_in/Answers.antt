@@ -19,4 +19,4 @@ returns-in-Some-clause-fault c =
 pub returns-clause-found : goal.returns-clause-found
 returns-clause-found c =
     certificate_read c.args.bytes.now (length c.args.low.now) (box_of c.args.low.now c.args.high.now) _ c.in_ok-read.read.heads.items c.in_ok-read.read.rows c.in_ok-read.ensures.found c.in_default.ensures.none
-    c.in_ok-parts.ensures.turns c.in_ok-parts.ensures.back c.in_ok-parts.ensures.start c.in_ok-parts.ensures.still c.in_ok-parts.ensures.rest
+    c.in_ok-parts.ensures.turns c.in_ok-parts.ensures.after c.in_ok-parts.ensures.back c.in_ok-parts.ensures.start c.in_ok-parts.ensures.still c.in_ok-parts.ensures.rest

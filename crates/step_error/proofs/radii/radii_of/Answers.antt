@@ -1,4 +1,4 @@
-use Rattle.std.proofs.Common.{◌*◌, length, unsigned_abs, rules, arith, ap, sym, ◌∙◌, refl}
+use Rattle.std.proofs.Common.{◌*◌, length, unsigned_abs, rules, arith, ap, sym, ◌∙◌}
 use Rattle.std.specs.Int.{w128}
 use mir.Val.{SFits}
 use Rattle.std.proofs.Math.Nat.{mul-le-mul, one-le-mul}
@@ -9,7 +9,7 @@ use Rattle.qp_model.specs.form.FineSizes.{is_fine}
 use Rattle.qp_model.specs.form.Quantities.{greatest}
 use Rattle.qp_model.proofs.CornerFacts.{greatest_le}
 use Rattle.qp_model.proofs.SizeFacts.{positive}
-use Rattle.step_error.proofs.SumFacts.{few, read_size, through, within_of}
+use Rattle.step_error.proofs.SumFacts.{few, read_size, spread_range, through, within_of}
 use Rattle.step_error.proofs.DesignSums.{radii_are, hessian_radii_small, linear_radii_small, constant_radius_small, column_radii_small, plan_radii_small, state_radii_small}
 use Rattle.step_error.proofs.radii.radii_of.Goals as goal
 
@@ -54,7 +54,7 @@ returns-clause-radii c =
     let squared = ap (λ n. n * n) row ∙ sym (pow-two (unsigned_abs c.args.parts.now.row_den)) in
     let off = c.greatest_size.ensures ∙ ap (λ xs. greatest (length xs) (λ j. unsigned_abs (at xs j))) c.deref.ensures.value in
     radii_are (is_fine (design_of c.args.parts.now)) c.args.parts.now c.args.c.now c.requires _ c.greatest_row.ensures c.greatest_row-2.ensures off c.greatest_column.ensures c.matrix_sum.ensures
-    c.matrix_sum-2.ensures (λ i. cost i * squared i) (read_size _ _ h c.unsigned_abs-2.ensures.value) refl
+    c.matrix_sum-2.ensures (λ i. cost i * squared i) (read_size _ _ h c.unsigned_abs-2.ensures.value) c.spread.ensures
 
 pub returns-clause-room : goal.returns-clause-room
 returns-clause-room c =
@@ -82,4 +82,6 @@ returns-clause-room c =
       cost_scale = rw (row, cost) (through (mul-le-mul small.weight (mul-le-mul small.row small.row)) (omega arith));
       row_some = rw limit (positive p.limit_den is.design.limit_den.low);
       row_scale = rw limit (through small.limit (omega arith));
+      spread_some = rw c.spread.ensures (spread_range k.fine).0;
+      spread_few = rw c.spread.ensures (spread_range k.fine).1;
     }

@@ -1,11 +1,10 @@
-use Rattle.std.proofs.Common.{◌≡◌, ℕ, ◌≤◌, ◌*◌, ◌^◌, Fits, true, false, rules, arith, sym, ◌∙◌}
+use Rattle.std.proofs.Common.{◌≡◌, ℕ, ◌≤◌, ◌*◌, ◌^◌, Fits, true, false, rules, arith, sym, ◌∙◌, refl}
 use Rattle.std.specs.Int.{w128}
-use mir.Val.{SFits}
 use Rattle.std.proofs.Math.Nat.{mul-le-mul_right}
 use Rattle.condensed_form.specs.Form.{held}
 use Rattle.step_error.specs.ErrorSums.{sums_of}
-use Rattle.step_error.proofs.Ceilings.{quotient_is, positive_by}
-use Rattle.step_error.proofs.SumFacts.{bounded, doubled, read_size}
+use Rattle.step_error.proofs.Ceilings.{quotient_is}
+use Rattle.step_error.proofs.SumFacts.{bounded, doubled}
 use Rattle.step_error.specs.Gains.{gain_at, missed_squares}
 use Rattle.step_error.proofs.RoomTests.{cost_without, cost_with}
 use Rattle.step_error.proofs.real_cost.first_cost.Goals as goal
@@ -13,10 +12,9 @@ use Rattle.step_error.proofs.real_cost.first_cost.Goals as goal
 pub returns-then-not-has_room : goal.returns-then-not-has_room
 returns-then-not-has_room c =
     let g = c.args.gains.now in
-    let f : SFits w128 c.args.e.now.first = search rules in
     let none : c.has_room.result ≡ false = search rules in
     cost_without (held g.c.now) g.f (gain_at g.p_mat.now g.t.now g.w_mat.now) (sums_of c.args.e.now) g.state g.top _
-    (sym c.has_room.ensures ∙ none) c.requires.state c.requires.top (read_size _ _ f c.unsigned_abs.ensures.value)
+    (sym c.has_room.ensures ∙ none) c.requires.state c.requires.top refl
 
 pub squares-requires-clause-small : goal.squares-requires-clause-small
 squares-requires-clause-small c = under (bounded c.args.e.now c.requires.sums).scale c.requires.small
@@ -24,27 +22,23 @@ squares-requires-clause-small c = under (bounded c.args.e.now c.requires.sums).s
     under : {a b : ℕ} → 1 ≤ a → a * b ≤ 2 ^ 126 → b ≤ 2 ^ 126
     under {a} {b} h k = omega (arith, mul-le-mul_right b h, k)
 
-pub overflow_mul-squares : goal.overflow_mul-squares
-overflow_mul-squares c =
-    let f : SFits w128 c.args.e.now.weight_den = search rules in
-    close (λ i. read_size _ _ f c.unsigned_abs-2.ensures.value i * c.squares.ensures i) c.requires.small
+pub overflow_mul-e : goal.overflow_mul-e
+overflow_mul-e c = close (λ i. c.args.e.now.weight_den * c.squares.ensures i) c.requires.small
   where
     close : {a b : ℕ} → a ≡ b → b ≤ 2 ^ 126 → Fits w128 a
     close {a} {b} e h = omega (arith, e, h)
 
+pub overflow_mul-e-2 : goal.overflow_mul-e-2
+overflow_mul-e-2 c = omega (arith, (bounded c.args.e.now c.requires.sums).weight)
+
 pub div_ceil-requires : goal.div_ceil-requires
-div_ceil-requires c =
-    let f : SFits w128 c.args.e.now.rho = search rules in
-    positive_by (λ i. 2 * read_size _ _ f c.unsigned_abs-3.ensures.value i) (doubled _ (bounded c.args.e.now c.requires.sums).some)
+div_ceil-requires c = doubled _ (bounded c.args.e.now c.requires.sums).some
 
 pub returns : goal.returns
 returns c =
     let g = c.args.gains.now in
     let s = sums_of c.args.e.now in
-    let f : SFits w128 c.args.e.now.weight_den = search rules in
-    let r : SFits w128 c.args.e.now.rho = search rules in
     let some : c.has_room.result ≡ true = search rules in
     cost_with (held g.c.now) g.f (gain_at g.p_mat.now g.t.now g.w_mat.now) s g.state g.top _ (sym c.has_room.ensures ∙ some) c.requires.state c.requires.top
     (quotient_is _ _ _ (s.weight_scale * missed_squares (held g.c.now) g.f (gain_at g.p_mat.now g.t.now g.w_mat.now) g.state g.top) (2 * s.rho)
-    (doubled _ (bounded c.args.e.now c.requires.sums).some) c.div_ceil.ensures
-    (λ i. read_size _ _ f c.unsigned_abs-2.ensures.value i * c.squares.ensures i) (λ i. 2 * read_size _ _ r c.unsigned_abs-3.ensures.value i))
+    (doubled _ (bounded c.args.e.now c.requires.sums).some) c.div_ceil.ensures (λ i. s.weight_scale * c.squares.ensures i) refl)

@@ -1,0 +1,1 @@
+"""Bounds beside exact optima."""

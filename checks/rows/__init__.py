@@ -1,0 +1,1 @@
+"""Worked rows, whose answers were computed by hand."""

@@ -1,0 +1,37 @@
+-- A kind of file: which bytes are right for what, and with which status others are refused.
+use Rattle.std.specs.Prelude.{◌≡◌, ℕ, List, Option}
+use Rattle.io_edge.specs.Faults.{Files, NoneFalls}
+use Rattle.io_edge.specs.declared.store.Store.{Ghosts as Disk}
+use Rattle.command_line.specs.Answers.{IsRightFor, EndsReading}
+use Rattle.command_line.specs.declared.status.Status.{Status}
+
+pub record Kind : Type 1 where
+  -- what such a file tells of
+  pub Value : Type 0
+  -- and what is seen of it: two values of one file are seen alike
+  pub Seen : Type 0
+  pub view : Value → Seen
+  -- the most bytes of such a file
+  pub limit : ℕ
+  -- the bytes are right for this value
+  pub right : Value → List ℕ → Type 0
+  -- the bytes, of the file at a position, are refused with this status
+  pub wrong : (file : ℕ) → List ℕ → Status → Type 0
+
+-- a kind whose values are seen whole
+abbrev pub whole_kind : {X : Type 0} → ℕ → (X → List ℕ → Type 0) → (ℕ → List ℕ → Status → Type 0) → Kind
+whole_kind {X} limit right wrong = record { Value = X; Seen = X; view = λ x. x; limit = limit; right = right; wrong = wrong }
+
+-- the file at a position is read, and right for this value
+abbrev pub IsRead : (k : Kind) (file : ℕ) → Option Files → (name : List ℕ) → k.Value → Type 0
+IsRead k file held name x = IsRightFor k.limit file (k.wrong file) k.right k.view held name x
+
+-- the status ends the reading of the file at a position
+abbrev pub EndsRead : (k : Kind) (file : ℕ) → Option Files → (name : List ℕ) → (before now : ℕ) → Status → Type 0
+EndsRead k file held name before now s = EndsReading {X = k.Value} k.limit file (k.wrong file) k.right held name before now s
+
+-- reads alone came before: the store tells what it told, and no count fell
+pub record Passes {S : Type 0} (disk : Disk S) (before now : S) : Type 0 where
+  pub held : disk.held now ≡ disk.held before
+  pub reads : NoneFalls (disk.read_faults before) (disk.read_faults now)
+  pub writes : NoneFalls (disk.write_faults before) (disk.write_faults now)

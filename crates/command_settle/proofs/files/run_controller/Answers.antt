@@ -1,0 +1,15 @@
+use Rattle.command_line.proofs.Following.{stopped, went_on}
+use Rattle.command_settle.proofs.files.run_controller.Goals as goal
+
+pub returns-in-Err : goal.returns-in-Err
+returns-in-Err g c =
+    let did = c.read_certificate_file.ensures in
+    stopped (record { held = did.held; reads = did.reads; writes = did.writes }) (rw c.at.ensures at c.in-Err.ensures.ends)
+
+pub returns-in-Ok : goal.returns-in-Ok
+returns-in-Ok g c =
+    let kept = c.in-Ok.ensures in
+    went_on (record { held = kept.held; reads = kept.reads; writes = kept.writes }) (rw c.at.ensures at kept.right) c.run_certificate.ensures
+
+pub run_certificate-requires-clause-inside : goal.run_certificate-requires-clause-inside
+run_certificate-requires-clause-inside g c = c.in-Ok.ensures.right.right.right.inside

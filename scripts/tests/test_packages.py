@@ -1,0 +1,69 @@
+"""The scripts, and the model of checks/fuzz, are packages that can be installed; from a checkout they run as they stand."""
+import importlib.util
+import os
+import pathlib
+import re
+import shutil
+import subprocess
+import sys
+import tomllib
+import unittest
+
+from .worked import FIRST_CONTROLLER, TOP, folder_with
+
+ROOT = pathlib.Path(TOP)
+LACKING = [name for name in ("pip", "setuptools", "wheel") if importlib.util.find_spec(name) is None]
+with open(ROOT / "pyproject.toml", "rb") as file:
+    PROJECT = tomllib.load(file)
+
+
+def python_files():
+    return [path for folder in ("scripts", "checks", "bench", "examples") for path in sorted((ROOT / folder).rglob("*.py"))]
+
+
+def imports_of(path: pathlib.Path) -> list[str]:
+    """The first word of each import, or its dots."""
+    return re.findall(r"^\s*(?:from|import) +(\.+|\w+)", path.read_text(encoding="utf-8"), re.MULTILINE)
+
+
+class Packages(unittest.TestCase):
+    def test_no_file_edits_the_path(self):
+        edits = re.compile(r"sys\.path\b(?!_)")
+        self.assertEqual([str(path.relative_to(ROOT)) for path in python_files() if path.name != "test_packages.py" and edits.search(path.read_text(encoding="utf-8"))], [])
+
+    def test_what_is_installed_names_its_own_by_dots(self):
+        """The folders have other names where they are installed."""
+        for folder in ("scripts", "scripts/common", "checks/fuzz"):
+            for path in (ROOT / folder).glob("*.py"):
+                self.assertEqual({"scripts", "checks", "bench", "common", "tests"} & set(imports_of(path)), set(), path)
+
+    def test_the_model_takes_nothing_of_the_scripts(self):
+        for path in [*(ROOT / "checks" / "fuzz").glob("*.py"), *(ROOT / "checks" / "rows").glob("*.py"), ROOT / "checks" / "optima" / "quadratic.py"]:
+            self.assertNotIn("scripts", path.read_text(encoding="utf-8").replace("(`scripts/", ""), path)
+
+    def test_version(self):
+        self.assertIn(f"\nVersion {PROJECT['project']['version']}, ", (ROOT / "CHANGELOG.md").read_text(encoding="utf-8"))
+
+    @unittest.skipIf(LACKING, f"missing: {', '.join(LACKING)}")
+    def test_installed(self):
+        """From a copy, whose folders the build writes to."""
+        folder, paths = folder_with(self, c=FIRST_CONTROLLER, s="1\n")
+        copy, installed = os.path.join(folder, "copy"), os.path.join(folder, "installed")
+        for part in ("scripts", "checks/fuzz"):
+            shutil.copytree(ROOT / part, os.path.join(copy, part), symlinks=False, ignore=shutil.ignore_patterns("__pycache__", "tests"))
+        for name in ("pyproject.toml", "README.md"):
+            shutil.copy(ROOT / name, copy)
+        words = [sys.executable, "-m", "pip", "install", "--quiet", "--no-build-isolation", "--no-index", "--no-deps", "--target", installed, copy]
+        got = subprocess.run(words, capture_output=True, text=True, env=os.environ | {"PIP_ROOT_USER_ACTION": "ignore"})
+        self.assertEqual(got.returncode, 0, got.stderr)
+        run = lambda name, *more: subprocess.run([os.path.join(installed, "bin", name), *more], cwd=folder, env=os.environ | {"PYTHONPATH": installed}, capture_output=True, text=True)
+        self.assertIn("explain", run("nuddrwyn").stdout.split())
+        told = run("nuddrwyn", "explain", paths["c"])
+        self.assertEqual((told.returncode, "a run has 24 products" in told.stdout), (0, True), told.stderr)
+        self.assertEqual(run("nuddrwyn", "explain", "nowhere").stderr, "explain.py: nowhere: No such file or directory\n")
+        self.assertEqual(run("nuddrwyn", "nothing").returncode, 1)
+        self.assertEqual(run("nuddrwyn-model", "solve", paths["c"], paths["s"]).stdout, "4096 -2224\n")
+
+
+if __name__ == "__main__":
+    unittest.main()
