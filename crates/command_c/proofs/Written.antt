@@ -25,7 +25,6 @@ wide_refusal width s is = record {
   memory = λ e. cc;
   read = λ f e. cc;
   write = λ f e. cc;
-  outside = λ n t k e. cc;
   telling = record { usage = λ e. cc; text = λ at e. cc; controller = λ at e. cc };
 }
 

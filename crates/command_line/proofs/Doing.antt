@@ -45,13 +45,12 @@ cause (NoReturn turn coordinate bound) = caused (NoReturn turn coordinate bound)
 pub done_telling : (s : Status) → s ≡ Done → IsTelling s
 done_telling s is = record { usage = λ e. cc; text = λ at e. cc; controller = λ at e. cc }
 
--- neither done, nor out of memory, nor a fault, nor of a state that a loop met; and it tells
+-- neither done, nor out of memory, nor a fault; and it tells
 pub record IsRefusal (s : Status) : Type 0 where
   pub done : s ≢ Done
   pub memory : s ≢ Memory
   pub read : (file : ℕ) → s ≢ ReadFault file
   pub write : (file : ℕ) → s ≢ WriteFault file
-  pub outside : (entry turn coordinate : ℕ) → s ≢ OutsideBox entry turn coordinate
   pub telling : IsTelling s
 
 -- ---- a row of the table of commands: what it reaches it reads, and what it calls for tells

@@ -31,7 +31,6 @@ fault_refusal (faults.TooWide quantity) s is = record {
   memory = λ e. cc;
   read = λ f e. cc;
   write = λ f e. cc;
-  outside = λ n t k e. cc;
   telling = record { usage = λ e. cc; text = λ f e. cc; controller = λ f e. cc };
 }
 fault_refusal (faults.Unequal entry input left right) s is = record {
@@ -39,7 +38,6 @@ fault_refusal (faults.Unequal entry input left right) s is = record {
   memory = λ e. cc;
   read = λ f e. cc;
   write = λ f e. cc;
-  outside = λ n t k e. cc;
   telling = record { usage = λ e. cc; text = λ f e. cc; controller = λ f e. cc };
 }
 fault_refusal (faults.NoStay entry bound) s is = record {
@@ -47,7 +45,6 @@ fault_refusal (faults.NoStay entry bound) s is = record {
   memory = λ e. cc;
   read = λ f e. cc;
   write = λ f e. cc;
-  outside = λ n t k e. cc;
   telling = record { usage = λ e. cc; text = λ f e. cc; controller = λ f e. cc };
 }
 

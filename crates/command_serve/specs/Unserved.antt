@@ -1,5 +1,5 @@
 -- Which state is the first that no cell's box holds.
-use Rattle.std.specs.Prelude.{◌≡◌, ℕ, ◌+◌, ◌<◌, ℤ, List, length, get_or}
+use Rattle.std.specs.Prelude.{ℕ, ℤ, List, length, get_or}
 use Rattle.mat_int.specs.Matrix.{Matrix, row_of}
 use Rattle.qp_model.specs.machine.Controller.{Numbers}
 use Rattle.fixed_kernel.specs.Outside.{IsFirstOutside}

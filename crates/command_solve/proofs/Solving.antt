@@ -1,5 +1,5 @@
 -- The script of `solve`.
-use Rattle.std.proofs.Common.{inl, ℕ, refl, arith}
+use Rattle.std.proofs.Common.{inl, refl, arith}
 use Rattle.mat_int.specs.Matrix.{Matrix, row_of}
 use Rattle.qp_model.specs.machine.Controller.{Numbers}
 use Rattle.qp_model.specs.machine.Machine.{IsAdmissible}

@@ -5,7 +5,7 @@ use Rattle.std.proofs.lemmas.Bool.{cases_order}
 use Rattle.io_edge.specs.Faults.{Rose}
 use Rattle.io_edge.specs.declared.sink.Sink.{Ghosts as Screen}
 use Rattle.mat_int.specs.Matrix.{Matrix}
-use Rattle.command_line.specs.Answers.{IsAnswer, IsCaused}
+use Rattle.command_line.specs.Answers.{IsAnswer}
 use Rattle.command_line.specs.Deeds.{Deeds}
 use Rattle.command_line.specs.Script.{Act, IsNothing}
 use Rattle.command_line.specs.Does.{IsTelling, Prints}
@@ -13,7 +13,7 @@ use Rattle.command_line.proofs.Doing.{done_telling}
 use Rattle.command_line.proofs.Results.{both_some}
 use Rattle.command_line.proofs.Following.{nothing_printed}
 use Rattle.command_line.specs.declared.status.Status.{Status}
-use Rattle.command_line.specs.declared.status.Status.TheVariants.{Done, Memory, ReadFault, WriteFault, OutsideBox}
+use Rattle.command_line.specs.declared.status.Status.TheVariants.{Done, Memory, WriteFault, OutsideBox}
 use Rattle.plan_lines.specs.Inside.{AreHeld, IsFirstOut}
 use Rattle.plan_lines.specs.Printing.{Lines, AreLinesPrinted, LinesShow, lines_act}
 

@@ -1,4 +1,4 @@
-use Rattle.std.proofs.Common.{◌≡◌, ◌⊎◌, inl, List, ℕ, length, refl, subst, ap}
+use Rattle.std.proofs.Common.{◌≡◌, ◌⊎◌, inl, length, refl, subst, ap}
 use Rattle.std.specs.Prelude.{IfSome, IsSomeAnd}
 use Rattle.fixed_kernel.specs.Progress.{Progress}
 use Rattle.qp_model.specs.machine.Controller.{Numbers}
