@@ -11,7 +11,8 @@ grid number of each part but the last. POLICIES gets the plans of the first cell
     --generate FOLDER   has `./mpc generate` make each cell's controller, and says its K: design-1.toml, policy-1.csv, controller-1.txt, report-1.txt and so on stand then in FOLDER
     --lines FILE     lines of `./mpc loop`: says the mean K over their turns, where each state is served by its cell
 
-`./mpc split DESIGN CUTS POLICIES CELLS REPORT` makes the controllers of all cells, and `./mpc serve CELLS STATES` runs them. What each cell's K is by its policy goes to standard error, and the mean over all grid states beside the K of the whole box. It ends with status 6 where a cell has no policy, and with the status of
+`./mpc split DESIGN CUTS POLICIES CELLS REPORT` makes the controllers of all cells, and `./mpc serve CELLS STATES` runs them. What each cell's K is by its policy
+goes to standard error, and the mean over all grid states beside the K of the whole box. It ends with status 6 where a cell has no policy, and with the status of
 `generate` where that refuses one. Nothing rests on it.
 """
 import contextlib

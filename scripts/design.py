@@ -34,7 +34,8 @@ and where the model's `[box]` has `disturbed`, range.csv is the range of it unde
     --corners N   at most so many corners to begin loops from (8); --random N so many random states (4); --seed N which of them (1)
     --states N    so many random states to judge, beside all corners (96)
 
-First it says what can be said at once (./mpc outlook): units, poles, corners without a plan, sizes; and last from which part of the box loops settle, and where. It ends with the status of the first step that is refused. Nothing rests on it: what `generate` checks is what counts.
+First it says what can be said at once (./mpc outlook): units, poles, corners without a plan, sizes; and last from which part of the box loops settle,
+and where. It ends with the status of the first step that is refused. Nothing rests on it: what `generate` checks is what counts.
 """
 import os
 import shlex

@@ -33,7 +33,8 @@ from .common.texts import Controller, cells_of, controller_of, kind_of, read_tex
 from .common.trajectories import dot
 
 WORD = 32
-KINDS = {"design": "a design", "controller": "a controller", "cells": "cells", "report": "a report", "policy": "a policy", "reference": "a policy or reference plans", "lines": "lines of solve or loop, or nothing that is known", "settled": "what settle says"}
+KINDS = {"design": "a design", "controller": "a controller", "cells": "cells", "report": "a report", "policy": "a policy", "reference": "a policy or reference plans"}
+KINDS |= {"lines": "lines of solve or loop, or nothing that is known", "settled": "what settle says"}
 
 
 def bits_of(numbers: Iterable[int]) -> int:

@@ -170,12 +170,15 @@ def page(found: Found) -> str:
         title=html.escape(found.title),
         warnings=f'<div class="warnings"><strong>Warnings</strong>{listed(told)}</div>' if told else '<p class="well">Nothing is to be warned of.</p>',
         controller=listed(lines_with(found.explained, "every run", "no product", "the plan costs", "on a Cortex", "as C")),
-        promise="Promised for each state of the box; what was asked is the violation target." + (" No loop leaves the box: its faces stand beside, and lean or stay tested them where it made this controller of them." if found.bears else "") + (f" Loops settle: {html.escape(found.settles)}." if found.settles else ""),
+        promise="Promised for each state of the box; what was asked is the violation target."
+        + (" No loop leaves the box: its faces stand beside, and lean or stay tested them where it made this controller of them." if found.bears else "")
+        + (f" Loops settle: {html.escape(found.settles)}." if found.settles else ""),
         limits=table(["limit", "asked", "promised", "of what was asked"], limit_rows(found)),
         measured=listed(found.judged),
         box=table(head, box_rows(found)),
         picture=drawing(found.picture),
-        caption="Full: the controller's loops. Dashed: exact model predictive control. Grey: the box. Red: limits, dotted as far as they may be exceeded." + (" Green: the box in which loops that start in the bar settle." if found.settles else ""),
+        caption="Full: the controller's loops. Dashed: exact model predictive control. Grey: the box. Red: limits, dotted as far as they may be exceeded."
+        + (" Green: the box in which loops that start in the bar settle." if found.settles else ""),
         origin=listed(lines_with(found.explained, "R = ", "K = ", "the least slack", "the greatest", "step 2^-", "curvature")),
         explained=html.escape("\n".join(found.explained)),
     )

@@ -11,7 +11,8 @@ What is measured is what is committed. The clone has no kept work, the first ans
 checkout: then the table has what is left. With names, these crates and those below them are proved, and the others are taken out of the clone. With --processors N all runs on N of the processors alone,
 so the minutes by the clock are what N would take. --lanes N proves N crates side by side with one process each, whatever memory there is; without it the gate chooses by processors and memory, and a
 proof may share several processors, which costs some more processor time. Stopped by Ctrl-C or a SIGTERM, it tells what it has measured. Below the table stand the dearest must-fail edits, each with
-its seconds. With --page the page of costs, bench/gate/COSTS.md or FILE, is written of what was measured, with the words of --note; of a run with names or --kept the rows that it measured alone, or with --first its line of the first answer. --pace-is X takes X for
+its seconds. With --page the page of costs, bench/gate/COSTS.md or FILE, is written of what was measured, with the words of --note; of a run with names or --kept
+the rows that it measured alone, or with --first its line of the first answer. --pace-is X takes X for
 the pace in place of measuring it.
 
 Processor time is that of the prover's processes, as the system counts it, and memory the most that one process held. The marks are for a machine on which the three crates take their marks' seconds, and

@@ -54,7 +54,8 @@ def measured(folder, controller, states, sums, name, which, optimise, straight):
     instructions, cycles = max(runs)
     constant = "" if len({count for count, _ in runs}) == 1 else f" (from {min(runs)[0]:,})"
     told = f"{cycles:,}" if which == TABLED else ""
-    return f"| {name}, {'straight' if straight else 'tables'} | {which} {optimise} | {controller.width} | {controller.steps} | {instructions:,}{constant} | {instructions / controller.steps:,.0f} | {told} | {flash} | {held} |"
+    sizes = f"{controller.width} | {controller.steps} | {instructions:,}{constant} | {instructions / controller.steps:,.0f}"
+    return f"| {name}, {'straight' if straight else 'tables'} | {which} {optimise} | {sizes} | {told} | {flash} | {held} |"
 
 
 def eva(controller, name, seconds):

@@ -68,7 +68,7 @@ def table(logs: list[str]) -> None:
     print("| Crate | Function | Refused at | In the gate | In checks/edits |\n|---|---|---|---|---|")
     for (crate, function, place), (kept, others) in sorted(rows.items()):
         print(f"| `{crate}` | `{function}` | {place} | {', '.join(kept)} | {', '.join(others)} |")
-    both = [set(key for key, row in rows.items() if row[is_here]) for is_here in (0, 1)]
+    both = [{key for key, row in rows.items() if row[is_here]} for is_here in (0, 1)]
     print(f"\n{len(rows)} functions with places; {len(both[0])} have a wrong body in the gate, {len(both[1] - both[0])} only here")
 
 

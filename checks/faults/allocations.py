@@ -25,7 +25,7 @@ import subprocess
 import sys
 import tempfile
 
-HERE = os.path.dirname(os.path.abspath(__file__))
+HERE = os.path.dirname(__file__)
 TOP = os.path.join(HERE, "..", "..")
 # of each test, so many messages are told
 SHOWN = 5

@@ -25,7 +25,7 @@ from ..fuzz import cases, control, listing
 from ..fuzz import program as model_program
 from ..fuzz import split_boxes
 
-HERE = os.path.dirname(os.path.abspath(__file__))
+HERE = os.path.dirname(__file__)
 EXAMPLES = os.path.join(HERE, "..", "..", "examples")
 MEMORY = b"error 1 memory\n"
 # of each group, so many faults are told

@@ -11,7 +11,7 @@ import textwrap
 
 from . import control, model, program
 
-EXAMPLE = os.path.join(os.path.dirname(os.path.abspath(__file__)), "..", "..", "examples", "first", "controller.txt")
+EXAMPLE = os.path.join(os.path.dirname(__file__), "..", "..", "examples", "first", "controller.txt")
 
 
 def corners(text):

@@ -1,9 +1,11 @@
-"""python3 -m checks.plants.run [NAME ..] [--folder FOLDER] [--seconds S] [--tables] [--plain] [--few]: designs each plant of this folder by `./mpc design --stay`, with --plain by `./mpc design`, and prints a table of what it came to.
+"""python3 -m checks.plants.run [NAME ..] [--folder FOLDER] [--seconds S] [--tables] [--plain] [--few]:
+designs each plant of this folder by `./mpc design --stay`, with --plain by `./mpc design`, and prints a table of what it came to.
 
-The models are as a new user writes them: a plant, limits with the tolerances of a data sheet, weights, a box. `--seconds` is the time of each search (40). A line has K; cycles of a run of the straight C of `./mpc c`, counted on
-an emulated Cortex-M4 where gcc-arm-none-eabi and qemu-system-arm are installed, else (or with --tables) about those of tables; their share of a stage at 100 MHz; of the limit that is exceeded most of what is asked of it the
-tolerance, what is promised and what was measured at 100 states; how much of the model's box no loop leaves; the disturbances of a stage that it bears; seconds by the clock, and of the processor. Where there is no controller the
-line has the cause. With --few two loops of four turns and no random states are tried, where the program is the slow model.
+The models are as a new user writes them: a plant, limits with the tolerances of a data sheet, weights, a box. `--seconds` is the time of each search (40). A line has K; cycles of a run of the
+straight C of `./mpc c`, counted on an emulated Cortex-M4 where gcc-arm-none-eabi and qemu-system-arm are installed, else (or with --tables) about those of tables; their share of a stage at 100 MHz;
+of the limit that is exceeded most of what is asked of it the tolerance, what is promised and what was measured at 100 states; how much of the model's box no loop leaves; the disturbances of a stage
+that it bears; seconds by the clock, and of the processor. Where there is no controller the line has the cause. With --few two loops of four turns and no random states are tried, where the program
+is the slow model.
 """
 import argparse
 import os

@@ -48,7 +48,8 @@ class Plant:
         """The plant in other coordinates; the box has the size that each had before."""
         back = numpy.linalg.inv(turn)
         rows = numpy.hstack([self.rows[:, : self.n] @ back, self.rows[:, self.n :]])
-        return Plant(turn @ self.a @ back, turn @ self.b, rows, self.bounds, turn @ self.middle, self.half, abs(turn) @ self.shift, self.held, self.last, self.ends, None if self.disturbed is None else abs(turn) @ self.disturbed)
+        disturbed = None if self.disturbed is None else abs(turn) @ self.disturbed
+        return Plant(turn @ self.a @ back, turn @ self.b, rows, self.bounds, turn @ self.middle, self.half, abs(turn) @ self.shift, self.held, self.last, self.ends, disturbed)
 
     @functools.cached_property
     def even(self) -> bool:

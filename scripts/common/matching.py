@@ -158,4 +158,3 @@ def policy_fault(policy: list, design: Design) -> str | None:
         if record[0] < 1:
             return f"the denominator of plan {number} is {record[0]}"
     return None
-

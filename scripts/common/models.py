@@ -262,7 +262,8 @@ def refuse_growth(model: "Model") -> None:
     grown, far = abs(pole.a_stage), abs(pole.a_stage) ** model.stages
     if grown > MOST_GROWTH or far > MOST_FAR:
         key, other = ("a", "a plant") if model.text.get("sampled") else ("period", "a shorter period, or a plant")
-        refuse([f"{key}: a stage multiplies a state by {pole.told}, {model.stages} stages by {plain(far)}: {other} that grows by at most {MOST_GROWTH} a stage, and fewer stages than take it beyond {MOST_FAR:g} are expected"])
+        expected = f"{other} that grows by at most {MOST_GROWTH} a stage, and fewer stages than take it beyond {MOST_FAR:g} are expected"
+        refuse([f"{key}: a stage multiplies a state by {pole.told}, {model.stages} stages by {plain(far)}: {expected}"])
 
 
 def refuse(faults: list[str]) -> None:

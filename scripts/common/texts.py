@@ -119,7 +119,7 @@ def loop_lines_of(text, states, inputs, grid):
     """The loops of a text of loop lines: record -> list of (state, input), each as fractions."""
     loops = {}
     for line in text.splitlines():
-        record, _, *numbers = [int(word) for word in line.split(" ")]
+        record, _, *numbers = (int(word) for word in line.split(" "))
         if len(numbers) != states + 1 + inputs:
             raise ValueError(f"a loop line of this design has {states + inputs + 3} numbers, and one has {len(numbers) + 2}")
         state = [Fraction(v, 2**grid) for v in numbers[:states]]

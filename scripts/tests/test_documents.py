@@ -155,7 +155,6 @@ class Pages(unittest.TestCase):
                     if anchor:
                         self.assertIn(anchor, anchors_of(target.read_text(encoding="utf-8")))
 
-
     def test_pages_that_scripts_name(self):
         """Each page that a script's words point to is there, with the heading that is named beside it."""
         for path in [TOP / "mpc", TOP / "docs" / "help.txt", *sorted((TOP / "scripts").glob("*.py")), *sorted((TOP / "scripts" / "common").glob("*.py"))]:

@@ -56,7 +56,7 @@ class Outlook(unittest.TestCase):
         ):
             fast = MASS.replace("weight = 2.0", f"weight = {weight}").replace("period = 0.2", f"period = {period}")
             fast = fast.replace("[[0.0, 1.0], [0.0, 0.0]]", f"[[0.0, {0.2 / period}], [0.0, 0.0]]").replace("[[0.0], [1.0]]", f"[[0.0], [{0.2 / period}]]")
-            (line,) = [line for line in said(fast) if "lean" in line]
+            (line,) = (line for line in said(fast) if "lean" in line)
             self.assertRegex(line, f"^warning: a run of a lean controller doesn't end in time: {wanted}$")
 
     def test_corners_without_a_plan(self):

@@ -65,5 +65,29 @@ class Packages(unittest.TestCase):
         self.assertEqual(run("nuddrwyn-model", "solve", paths["c"], paths["s"]).stdout, "4096 -2224\n")
 
 
+class Style(unittest.TestCase):
+    """What pyproject.toml asks of all Python, as far as a tool for it is installed here."""
+
+    def passes(self, *words):
+        got = subprocess.run(words, cwd=ROOT, capture_output=True, text=True)
+        self.assertEqual(got.returncode, 0, got.stdout + got.stderr)
+
+    @unittest.skipIf(shutil.which("isort") is None, "missing: isort")
+    def test_order_of_imports(self):
+        self.passes("isort", "--check", *map(str, python_files()))
+
+    @unittest.skipIf(shutil.which("mypy") is None, "missing: mypy")
+    def test_types_of_the_common_parts(self):
+        self.passes("mypy", "--cache-dir", os.devnull)
+
+    @unittest.skipIf(importlib.util.find_spec("pycodestyle") is None, "missing: pycodestyle")
+    def test_errors_of_style(self):
+        ruff = PROJECT["tool"]["ruff"]
+        wide = list(ruff["lint"]["per-file-ignores"])
+        longer = [path for path in python_files() if not any(path.relative_to(ROOT).match(it) for it in wide)]
+        self.passes(sys.executable, "-m", "pycodestyle", f"--max-line-length={ruff['line-length']}", "--select=E501", *map(str, longer))
+        self.passes(sys.executable, "-m", "pycodestyle", "--select=E401,E70,E711,E712,E713,E714,E721,E722,E9,W6", *map(str, python_files()))
+
+
 if __name__ == "__main__":
     unittest.main()

@@ -45,7 +45,6 @@ class Pages(unittest.TestCase):
     def test_left_out_without_libraries(self):
         self.assertEqual(self.wrong({"./one a && ./two b": ["first", "  second"]}, ["numpy"]), [])
 
-
     def test_left_out_without_a_compiler(self):
         _, paths = folder_with(self, plain="    ./one\n", compiles="    ./one && cc -O2 a.c\n\n    a\n")
         with contextlib.redirect_stdout(io.StringIO()) as said, unittest.mock.patch.object(pages.shutil, "which", lambda name: None), unittest.mock.patch.object(pages, "run_at_top", lambda command: []):

@@ -5,7 +5,7 @@ import tempfile
 
 from checks.rows import worked_texts
 
-HERE = os.path.dirname(os.path.abspath(__file__))
+HERE = os.path.dirname(__file__)
 TOP = os.path.dirname(os.path.dirname(HERE))
 EXAMPLES = os.path.join(TOP, "examples")
 FIRST, FIRST_POLICY, FIRST_CONTROLLER, FIRST_REPORT = worked_texts.DESIGN, worked_texts.POLICY, worked_texts.CONTROLLER, worked_texts.REPORT

@@ -39,7 +39,7 @@ def choice(design, policy, reference):
 def example(name):
     texts = []
     for place in ("design.toml", "policy.csv"):
-        with open(os.path.join(os.path.dirname(os.path.abspath(__file__)), "..", "..", "..", "examples", name, place), encoding="utf-8") as file:
+        with open(os.path.join(os.path.dirname(__file__), "..", "..", "..", "examples", name, place), encoding="utf-8") as file:
             texts.append(file.read())
     return texts
 

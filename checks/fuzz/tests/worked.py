@@ -3,7 +3,7 @@ import os
 
 from checks.fuzz import model, program
 
-FIRST = os.path.join(os.path.dirname(os.path.abspath(__file__)), "..", "..", "..", "examples", "first")
+FIRST = os.path.join(os.path.dirname(__file__), "..", "..", "..", "examples", "first")
 
 
 def example(name):
