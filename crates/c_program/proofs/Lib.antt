@@ -3,6 +3,7 @@
 -- ---- statements and expressions
 pub mod Runs
 pub mod Terms
+pub mod Lowering
 -- ---- the numbers of a controller
 pub mod Amounts
 pub mod Pairs

@@ -11,6 +11,7 @@ mod needed;
 mod opposite;
 mod plan;
 mod rows;
+mod shared;
 mod start;
 mod sums;
 mod tops;
