@@ -23,5 +23,6 @@ pub mod Texts
 pub mod Reading
 pub mod Statements
 pub mod ProgramTexts
+pub mod ShortTexts
 -- ---- a worked program
 pub mod Worked

@@ -90,7 +90,7 @@ row_needs c i k l n h =
     (and_both (is_row_needed c i) (is_product (at (row_of c.state_rows i) k) (state_top c k)) n h))
 
 -- ---- sums of products
-products_need : (needed : Variable → Bool) (a : Expression) (c : ℕ → ℤ) (top : ℕ → ℕ) (v : ℕ → Variable) (n : ℕ) → ReadsNeeded needed a →
+pub products_need : (needed : Variable → Bool) (a : Expression) (c : ℕ → ℤ) (top : ℕ → ℕ) (v : ℕ → Variable) (n : ℕ) → ReadsNeeded needed a →
     ((i : ℕ) → i < n → ltb 0 (unsigned_abs (c i) * top i) ≡ true → needed (v i) ≡ true) → ReadsNeeded needed (plus_products a c top v n)
 products_need needed a c top v zero r h = r
 products_need needed a c top v (suc n) r h =
@@ -158,7 +158,7 @@ gradient_needs c i =
     cond_both (is_first c i) (Declare (variable Gradient i) (plus_plan c i (Constant (pos 0))) ∷ []) [] (AreClosed (is_needed c))
     (λ t. ((λ n. plan_needs c i (Constant (pos 0)) tt), tt)) (λ f. tt)
 
-lowered_needs : (needed : Variable → Bool) (v : Variable) (k : ℕ) → needed v ≡ true → ReadsNeeded needed (lowered_value v k)
+pub lowered_needs : (needed : Variable → Bool) (v : Variable) (k : ℕ) → needed v ≡ true → ReadsNeeded needed (lowered_value v k)
 lowered_needs needed v k h = cond_both (k == 0) (Value v) (Shifted (Value v) k) (ReadsNeeded needed) (λ t. h) (λ f. h)
 
 row_expression_needs : (c : Numbers) (i : ℕ) → i < length c.bounds → is_row_needed c i ≡ true → ReadsNeeded (is_needed c) (row_expression c i)
