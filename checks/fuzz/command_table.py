@@ -1,8 +1,10 @@
 """The commands of commands.txt: how many words may follow each, and which of its words name files that it writes."""
 import os
 
-# a link to the page at the top, whose text an installed package has in its place
-TABLE = os.path.join(os.path.dirname(__file__), "commands.txt")
+# beside the scripts' common parts: of the checkout, or as the scripts and the model are installed
+_HERE = os.path.dirname(os.path.realpath(__file__))
+_PLACES = [os.path.join(_HERE, *part, "common", "commands.txt") for part in (("..", "..", "scripts"), ("..", "nuddrwyn"))]
+TABLE = next(filter(os.path.exists, _PLACES), _PLACES[0])
 
 with open(TABLE, encoding="utf-8") as lines:
     ARGUMENTS = {line.split()[0]: line.split()[1:] for line in lines if not line.startswith("#")}

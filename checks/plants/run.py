@@ -1,10 +1,11 @@
-"""python3 -m checks.plants.run [NAME ..] [--folder FOLDER] [--seconds S] [--tables] [--plain]:
+"""python3 -m checks.plants.run [NAME ..] [--folder FOLDER] [--seconds S] [--tables] [--plain] [--few]:
 designs each plant of this folder by `./mpc design --stay`, with --plain by `./mpc design`, and prints a table of what it came to.
 
 The models are as a new user writes them: a plant, limits with the tolerances of a data sheet, weights, a box. `--seconds` is the time of each search (40). A line has K; cycles of a run of the
 straight C of `./mpc c`, counted on an emulated Cortex-M4 where gcc-arm-none-eabi and qemu-system-arm are installed, else (or with --tables) about those of tables; their share of a stage at 100 MHz;
 of the limit that is exceeded most of what is asked of it the tolerance, what is promised and what was measured at 100 states; how much of the model's box no loop leaves; the disturbances of a stage
-that it bears; seconds by the clock, and of the processor. Where there is no controller the line has the cause.
+that it bears; seconds by the clock, and of the processor. Where there is no controller the line has the cause. With --few two loops of four turns and no random states are tried, where the program
+is the slow model.
 """
 import argparse
 import os
@@ -23,6 +24,7 @@ TOP = os.path.dirname(os.path.dirname(HERE))
 MPC = os.path.join(TOP, "mpc")
 HEAD = "| Plant | K | Cycles | Of a stage | Limit | Asked | Promised | Measured | Of the box | Bears | Seconds |\n|" + "---|" * 11
 CLOCK = 100e6
+FEW = ["--turns", "4", "--corners", "2", "--random", "0", "--states", "0"]
 # states that are run to count cycles
 COUNTED = 2
 
@@ -95,6 +97,7 @@ def main():
     parser.add_argument("--seconds", type=float, default=40)
     parser.add_argument("--tables", action="store_true")
     parser.add_argument("--plain", action="store_true")
+    parser.add_argument("--few", action="store_true")
     given = parser.parse_args()
     for name in given.names:
         if name not in names:
@@ -104,7 +107,7 @@ def main():
     for name in given.names:
         place = os.path.join(folder, name)
         shutil.rmtree(place, ignore_errors=True)
-        print(line_of(name, place, given.seconds, given.tables, [] if given.plain else ["--stay"]), flush=True)
+        print(line_of(name, place, given.seconds, given.tables, [*([] if given.plain else ["--stay"]), *(FEW if given.few else [])]), flush=True)
     print(f"the designs are in {folder}", file=sys.stderr)
 
 

@@ -1,7 +1,6 @@
 """The program's commands, as commands.txt has them: what is not proved counts their arguments, and tells what they write, by that page."""
 import os
 
-# a link to the page at the top, whose text an installed package has in its place
 TABLE = os.path.join(os.path.dirname(__file__), "commands.txt")
 
 

@@ -387,7 +387,6 @@ class Launcher(unittest.TestCase):
             os.makedirs(os.path.join(folder, part))
         shutil.copy(os.path.join(TOP, "mpc"), folder)
         shutil.copy(os.path.join(TOP, "CHANGELOG.md"), folder)
-        shutil.copy(os.path.join(TOP, "commands.txt"), folder)
         shutil.copy(os.path.join(TOP, "docs", "help.txt"), os.path.join(folder, "docs"))
         shutil.copytree(os.path.join(TOP, "scripts"), os.path.join(folder, "scripts"), ignore=shutil.ignore_patterns("__pycache__", "tests"))
         with open(os.path.join(folder, "crates.txt"), "w"):
@@ -642,14 +641,14 @@ mkdir -p crates/mpc_generate/out; printf '#!/bin/bash\necho built\n' >crates/mpc
         folder, _ = folder_with(self)
         for part in ("crates", "docs", "scripts", "examples/first"):
             shutil.copytree(os.path.join(TOP, part), os.path.join(folder, part), ignore=shutil.ignore_patterns("out", "must-fail", "proofs", "tests", "__pycache__"))
-        for name in ("mpc", "commands.txt", "crates.txt", "HANDLES", "CHANGELOG.md"):
+        for name in ("mpc", "crates.txt", "HANDLES", "CHANGELOG.md"):
             shutil.copy(os.path.join(TOP, name), folder)
         os.mkdir(os.path.join(folder, ".git"))
         got = self.run_in(folder, "./mpc try generate examples/first/design.toml examples/first/policy.csv made report")
         self.assertEqual((got.returncode, got.stdout, got.stderr), (0, "", self.NOTE + "\n"))
         with open(os.path.join(folder, "made"), encoding="utf-8") as made, open(os.path.join(TOP, "examples/first/controller.txt"), encoding="utf-8") as kept:
             self.assertEqual(made.read(), kept.read())
-        self.assertEqual(sorted(os.listdir(folder)), sorted([".git", "CHANGELOG.md", "HANDLES", "commands.txt", "crates", "crates.txt", "docs", "examples", "made", "mpc", "report", "scripts"]))
+        self.assertEqual(sorted(os.listdir(folder)), sorted([".git", "CHANGELOG.md", "HANDLES", "crates", "crates.txt", "docs", "examples", "made", "mpc", "report", "scripts"]))
         self.assertEqual(self.run_in(folder, "find crates -newer report").stdout, "")
         self.assertEqual(self.run_in(folder, "find crates -name 'mpc_*' -type f").stdout, "")
 

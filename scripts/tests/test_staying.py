@@ -178,17 +178,20 @@ class Search(unittest.TestCase):
 
     def test_a_run_that_takes_too_long(self):
         """On a slow processor a cost is taken, or fewer stages, by which a run ends in time; but where both are to stay."""
-        model = Model(SLOW.replace("stages = 2", "stages = 4").replace("weight = 2.0", "weight = 50.0"))
+        model = Model(SLOW.replace("stages = 2", "stages = 4"))
         budget = Budget(1000)
-        made = lambda clock, same: staying.Search(model, budget, False, clock, same)
+        made = lambda clock, same, most=staying.MOST_STEPS: staying.Search(model, budget, False, clock, same, most)
         choice = next(limited for found in made(1.0, True).coordinates() if (limited := staying.with_faces(model, found, False)))
         # a run takes ten stages
         clock = made(1.0, True).timely(choice).share / 10
         slow, quick = (made(clock, same).timely(choice) for same in (True, False))
         self.assertEqual((slow.weighing, slow.stages), (SAME, None))
         self.assertGreater(slow.share, 1)
+        self.assertLess(slow.steps, staying.MOST_STEPS)
         self.assertLess(quick.share, staying.ENOUGH)
         self.assertIn("so that a run ends in time", staying.words_of(model, quick))
+        # and where it ends in time, but takes more steps than it may
+        self.assertLess(made(1.0, False, slow.steps / 2).timely(choice).steps, slow.steps / 2)
         text = staying.with_limits(model, quick)
         self.assertNotEqual((text["cost"], text.get("stages")), (model.text["cost"], 4))
         self.assertRegex(staying.others_words(model, text), "^; so that a run ends in time its (cost|stages|cost and its stages) (is|are) not what was asked for$")
@@ -389,6 +392,7 @@ class Boxes(unittest.TestCase):
         a, b = map(numpy.array, self.EXCHANGED)
         for row, wanted in (([0.5, 1.0], True), ([0.5, 1.00001], False), ([1.0, 0.0], False)):
             self.assertEqual(turns.is_kept(numpy.array(row), a, b), wanted)
+        self.assertFalse(turns.is_kept(numpy.array([0.5, 1.0]), numpy.diag([1.0, 0.999]), b))
         # all digits of what is kept, two of what only shrinks
         units = numpy.ones(2)
         self.assertEqual([turns.short(numpy.array([0.349066, 1.0]), 1, units, units, digits) for digits in (2, 9)], [{0: 0.35}, {0: 0.349066}])

@@ -6,7 +6,7 @@ use Rattle.std.proofs.lemmas.Bool.{cases_Bool, and_parts, eqb-true, cond-true, c
 use Rattle.integer_algebra.specs.Division.{floor_of}
 use Rattle.qp_model.specs.machine.ValuesMet.{FitsWidth}
 use Rattle.c_program.specs.Syntax.{Family, Variable, letter_of, Kind, bits_of, Expression, Statement, groups, CProgram}
-use Rattle.c_program.specs.Syntax.Family.{State, Loaded, EntryBase, RowBase, Multiplier, Difference, Entry, Gradient, Moved, Sum, Output}
+use Rattle.c_program.specs.Syntax.Family.{State, Loaded, EntryBase, RowBase, Multiplier, Difference, Entry, Gradient, RowSum, Moved, Sum, Output}
 use Rattle.c_program.specs.Syntax.Expression.{Constant, Value, Plus, Minus, Times, Quotient, Remainder, Shifted}
 use Rattle.c_program.specs.Syntax.Statement.{Declare, Assign, AtLeastZero, AtMost}
 use Rattle.c_program.specs.Meaning.{Environment, held, with_value, value, IsDefined, new_value, variable_of, done, HasOperands, IsDone, all_done, AreDone, repeated, begun, after_rounds, IsDefinedRun}
@@ -31,6 +31,7 @@ family_back Multiplier = refl
 family_back Difference = refl
 family_back Entry = refl
 family_back Gradient = refl
+family_back RowSum = refl
 family_back Moved = refl
 family_back Sum = refl
 family_back Output = refl

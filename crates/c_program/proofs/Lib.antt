@@ -3,6 +3,7 @@
 -- ---- statements and expressions
 pub mod Runs
 pub mod Terms
+pub mod Lowering
 -- ---- the numbers of a controller
 pub mod Amounts
 pub mod Pairs
@@ -22,5 +23,6 @@ pub mod Texts
 pub mod Reading
 pub mod Statements
 pub mod ProgramTexts
+pub mod ShortTexts
 -- ---- a worked program
 pub mod Worked

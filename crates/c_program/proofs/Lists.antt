@@ -1,13 +1,15 @@
 -- Lists that grow number by number, and what the numbers of a controller are at most.
-use Rattle.std.proofs.Common.{◌≡◌, ℕ, zero, suc, ◌+◌, ◌<◌, ◌==◌, Bool, true, false, ◌&&◌, ◌||◌, if◌then◌else◌, ltb, true≢false, IsTrue, ◌↔◌, ℤ, pos, ◌+ℤ◌, List, [], ◌∷◌, ◌++◌, length, take, get_or, unsigned_abs, refl, sym, ap, ◌∙◌, arith, add-one}
-use Rattle.std.proofs.lemmas.Bool.{cond-true, cond-false, eq-eqb, ne_eqb, lt-ltb, ltb-true, false_from_ne_true}
+use Rattle.std.proofs.Common.{◌≡◌, ℕ, zero, suc, ◌+◌, ◌*◌, min, ◌<◌, ◌≤◌, ◌%◌, ◌^◌, ◌==◌, Bool, true, false, ◌&&◌, ◌||◌, if◌then◌else◌, ltb, true≢false, IsTrue, ◌↔◌, ℤ, pos, ◌+ℤ◌, List, [], ◌∷◌, ◌++◌, length, take, get_or, unsigned_abs, refl, sym, ap, ◌∙◌, arith, add-one, inl, inr}
+use Rattle.std.proofs.lemmas.Bool.{cases_lt, cond-true, cond-false, eq-eqb, ne_eqb, lt-ltb, ltb-true, false_from_ne_true}
 use Rattle.std.proofs.lemmas.Int.{ints}
 use Rattle.std.proofs.lemmas.List.{take_more}
 use Rattle.std.proofs.lemmas.List.FromFn.{get_or-map-range_with_len, length-map-range_with_len}
 use Rattle.integer_algebra.specs.Sums.{at}
 use Rattle.mat_int.specs.Matrix.{row_of}
 use Rattle.qp_model.specs.machine.Controller.{Numbers}
-use Rattle.c_program.specs.Of.{state_top, multiplier_top, are_negated, are_opposed, first_opposed, partner, is_first, is_second, any_below, is_product, is_row_needed, is_coordinate_needed}
+use Rattle.qp_model.proofs.AbsoluteLaws.{le_times_pow}
+use Rattle.c_program.specs.Syntax.Kind.{Narrow, Wide}
+use Rattle.c_program.specs.Of.{kind_for, state_top, multiplier_top, are_multiples, shared_bits, are_negated, are_opposed, first_opposed, partner, is_first, is_second, any_below, is_product, is_row_needed, is_coordinate_needed}
 use Rattle.c_program.specs.Terms.{partners_of}
 
 pub one_more : {X : Type 0} (xs : List X) (j : ℕ) (d x : X) (old new : List X) → j < length xs → old ≡ take j xs → x ≡ get_or xs j d → new ≡ old ++ x ∷ [] → new ≡ take (j + 1) xs
@@ -88,6 +90,36 @@ negated_same xs ys us vs n b e k l h =
 
 pub three : (r s a b d e f g : Bool) → r ≡ (s && d) → s ≡ (a && b) → a ≡ e → b ≡ f → d ≡ g → r ≡ (e && f && g)
 three r s a b d e f g h k l m n = h ∙ ap (λ (x : Bool). x && d) (k ∙ ap (λ (x : Bool). x && b) l ∙ ap (λ (x : Bool). e && x) m) ∙ ap (λ (x : Bool). (e && f) && x) n
+
+-- ---- the power of two that a row's factors share
+pub multiples_none : (row : List ℤ) (k : ℕ) → true ≡ are_multiples row k 0
+unfolding are_multiples
+multiples_none row k = refl
+
+pub multiples_more : (row : List ℤ) (k j : ℕ) (old new b : Bool) → old ≡ are_multiples row k j → b ≡ (unsigned_abs (at row j) % 2 ^ k == 0) → new ≡ (old && b) → new ≡ are_multiples row k (j + 1)
+unfolding are_multiples
+multiples_more row k j old new b h e r =
+    r ∙ ap (λ (x : Bool). x && b) h ∙ ap (λ (y : Bool). are_multiples row k j && y) e ∙ ap (are_multiples row k) (sym (add-one j))
+
+pub bits_none : (row : List ℤ) (n : ℕ) → 0 ≡ shared_bits row n 0
+unfolding shared_bits
+bits_none row n = refl
+
+pub bits_more : (row : List ℤ) (n k old new : ℕ) → old ≡ shared_bits row n k → new ≡ (if are_multiples row (k + 1) n then k + 1 else old) → new ≡ shared_bits row n (k + 1)
+unfolding shared_bits
+bits_more row n k old new h e =
+    e ∙ ap (λ (m : ℕ). if are_multiples row m n then m else old) (add-one k) ∙ ap (λ (b : ℕ). if are_multiples row (suc k) n then suc k else b) h ∙ ap (shared_bits row n) (sym (add-one k))
+
+-- a type for 32 bits holds no number above them, however great
+pub kind_capped : (n k : ℕ) → kind_for (min n (2 ^ 31) * 2 ^ k) ≡ kind_for (n * 2 ^ k)
+kind_capped n k = elim (cases_lt n (2 ^ 31)) [
+  | inl l ↦ (let e : min n (2 ^ 31) ≡ n = omega (arith, l) in ap (λ (m : ℕ). kind_for (m * 2 ^ k)) e)
+  | inr l ↦ (let e : min n (2 ^ 31) ≡ 2 ^ 31 = omega (arith, l) in
+      wide (min n (2 ^ 31) * 2 ^ k) (omega (arith, ap (λ (m : ℕ). m * 2 ^ k) e, le_times_pow (2 ^ 31) k)) ∙ sym (wide (n * 2 ^ k) (omega (arith, l, le_times_pow n k))))
+]
+  where
+    wide : (m : ℕ) → 2 ^ 31 ≤ m → kind_for m ≡ Wide
+    wide m h = cond-false (ltb m (2 ^ 31)) Narrow Wide (false_from_ne_true (ltb m (2 ^ 31)) (λ t. absurd (omega (arith, h, ltb-true m (2 ^ 31) t))))
 
 -- what is read, whatever stands for a number outside the list
 pub at_any : (xs : List ℤ) (i : ℕ) (x : ℤ) → i < length xs → x ≡ get_or xs i x → x ≡ at xs i

@@ -7,13 +7,12 @@ use Rattle.integer_algebra.specs.Division.{floor_of}
 use Rattle.integer_algebra.specs.Sums.{total, at}
 use Rattle.integer_algebra.specs.Sizes.{amount}
 use Rattle.integer_algebra.proofs.Quoting.{by_ring, quotes}
-use Rattle.integer_algebra.proofs.SumLaws.{total_same, total_neg, total_add, total_zero, total_swap}
+use Rattle.integer_algebra.proofs.SumLaws.{total_same, total_add, total_zero, total_swap}
 use Rattle.integer_algebra.proofs.BlockLaws.{total_single}
 use Rattle.integer_algebra.proofs.RingLaws.{neg-mul_z}
 use Rattle.integer_algebra.proofs.AmountLaws.{amount_mono}
 use Rattle.mat_int.specs.Row.{list_dot}
 use Rattle.mat_int.specs.Matrix.{row_of}
-use Rattle.mat_int.proofs.Indices.{dot_is}
 use Rattle.qp_model.specs.machine.Controller.{Numbers}
 use Rattle.qp_model.specs.machine.Machine.{exponent_of, lowering_of, top_of, raised}
 use Rattle.qp_model.specs.machine.AbsoluteSums.{weighted_abs_sum, clamp_magnitudes}
@@ -270,10 +269,3 @@ gain_variable_le c multipliers e i l r s =
     cond_both (is_first c i) Difference Multiplier (λ f. unsigned_abs (e f i) ≤ multiplier_top c i)
     (λ t. rw (s.pairs i l t) (difference_le c multipliers i (partner c i) r (pair_there c i t)))
     (λ t. rw (s.alone i l) (r.tops.each i))
-
--- ---- the plan's products of a pair
-pub negated_dot : (n : ℕ) (xs ys plan : List ℤ) → length xs ≡ n → length ys ≡ n → length plan ≡ n → ((j : ℕ) → j < n → at ys j ≡ neg_ℤ (at xs j)) → list_dot ys plan ≡ neg_ℤ (list_dot xs plan)
-negated_dot n xs ys plan h k l e =
-    dot_is n ys plan k l ∙ total_same n (λ j. at ys j *ℤ at plan j) (λ j. neg_ℤ (at xs j *ℤ at plan j))
-    (λ j m. ap (λ (z : ℤ). z *ℤ at plan j) (e j m) ∙ neg-mul_z (at xs j) (at plan j)) ∙
-    total_neg n (λ j. at xs j *ℤ at plan j) ∙ ap neg_ℤ (sym (dot_is n xs plan h l))

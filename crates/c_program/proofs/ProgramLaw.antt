@@ -192,7 +192,7 @@ outputs_are c xi sound narrow grid =
     (rounds_agree (is_needed c) (whole_program c) xi (program_closed c) whole c.steps (le_refl c.steps)) (outputs_needed c js)) ∙
     outputs c xi (after_rounds (whole_program c) xi c.steps) c.steps (holds_after c xi sound narrow grid c.steps (le_refl c.steps))
 
-solves : (c : Numbers) (xi : List ℤ) → IsController c → c.width ≤ 64 → IsAdmissible c xi → Solves c xi
+pub solves : (c : Numbers) (xi : List ℤ) → IsController c → c.width ≤ 64 → IsAdmissible c xi → Solves c xi
 solves c xi sound narrow grid = record {
   state = state_fits c xi sound grid;
   run = part_defined (is_needed c) (whole_program c) xi (program_closed c) (whole_defined c xi sound narrow grid);

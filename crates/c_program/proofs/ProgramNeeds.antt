@@ -1,5 +1,5 @@
 -- The needed statements of a controller's program read only needed variables.
-use Rattle.std.proofs.Common.{◌≡◌, ℕ, zero, suc, ◌*◌, ◌^◌, ◌<◌, Bool, true, false, true≢false, ◌&&◌, ◌||◌, if◌then◌else◌, ltb, ℤ, pos, ◌*ℤ◌, neg_ℤ, List, [], ◌∷◌, ◌++◌, length, map, unsigned_abs, refl, sym, ap, subst, ◌∙◌, arith, mul-pos, inl, inr}
+use Rattle.std.proofs.Common.{◌≡◌, ℕ, zero, suc, ◌-◌, ◌*◌, ◌^◌, ◌<◌, ◌==◌, Bool, true, false, true≢false, ◌&&◌, ◌||◌, if◌then◌else◌, ltb, ℤ, pos, ◌*ℤ◌, neg_ℤ, List, [], ◌∷◌, ◌++◌, length, map, unsigned_abs, refl, sym, ap, subst, ◌∙◌, arith, mul-pos, inl, inr, append_assoc}
 use Rattle.std.proofs.lemmas.Bool.{cond_both, cases_lt, ltb-true, lt-ltb}
 use Rattle.integer_algebra.specs.Sums.{at}
 use Rattle.mat_int.specs.Matrix.{row_of}
@@ -7,12 +7,12 @@ use Rattle.qp_model.specs.machine.Controller.{Numbers}
 use Rattle.qp_model.specs.machine.Machine.{lowering_of}
 use Rattle.qp_model.proofs.AbsoluteLaws.{abs-neg, abs-shifted}
 use Rattle.c_program.specs.Syntax.{Variable, variable, Expression, Statement, groups}
-use Rattle.c_program.specs.Syntax.Family.{Loaded, EntryBase, RowBase, Multiplier, Difference, Entry, Gradient, Sum}
-use Rattle.c_program.specs.Syntax.Expression.{Constant, Value, Plus, Minus, Times}
+use Rattle.c_program.specs.Syntax.Family.{Loaded, EntryBase, RowBase, Multiplier, Difference, Entry, Gradient, RowSum, Sum}
+use Rattle.c_program.specs.Syntax.Expression.{Constant, Value, Plus, Minus, Times, Shifted}
 use Rattle.c_program.specs.Syntax.Statement.{Declare}
 use Rattle.c_program.specs.Meaning.{variable_of}
 use Rattle.c_program.specs.Needed.{left_in}
-use Rattle.c_program.specs.Of.{state_top, multiplier_top, entry_top, plus_products, partner, is_first, is_second, loaded_statements, entry_base_statements, row_base_statements, zero_statements, before_of, difference_statements, gain_of, gain_variable, entry_statements, sum_statements, plus_plan, gradient_statements, row_expression, move_statements, row_statements, repetition_body, any_below, is_product, is_row_needed, is_coordinate_needed, is_needed, whole_program}
+use Rattle.c_program.specs.Of.{state_top, multiplier_top, entry_top, plus_products, partner, is_first, is_second, loaded_statements, entry_base_statements, row_base_statements, zero_statements, before_of, difference_statements, gain_of, gain_variable, entry_statements, sum_statements, row_bits, plan_factor, lowered_value, lowered_base, plus_plan, gradient_statements, row_expression, row_sum_statements, move_statements, row_statements, repetition_body, any_below, is_product, is_row_needed, is_coordinate_needed, is_needed, whole_program}
 use Rattle.c_program.proofs.Lists.{row_needed, coordinate_needed}
 use Rattle.c_program.proofs.Pairs.{IsPair, pair_there, later_there, same_top}
 use Rattle.c_program.proofs.LeftIn.{ReadsNeeded, AreClosed, IsClosed, AreNeeded, closed_append, closed_groups, left_in_append, whole_groups}
@@ -90,7 +90,7 @@ row_needs c i k l n h =
     (and_both (is_row_needed c i) (is_product (at (row_of c.state_rows i) k) (state_top c k)) n h))
 
 -- ---- sums of products
-products_need : (needed : Variable → Bool) (a : Expression) (c : ℕ → ℤ) (top : ℕ → ℕ) (v : ℕ → Variable) (n : ℕ) → ReadsNeeded needed a →
+pub products_need : (needed : Variable → Bool) (a : Expression) (c : ℕ → ℤ) (top : ℕ → ℕ) (v : ℕ → Variable) (n : ℕ) → ReadsNeeded needed a →
     ((i : ℕ) → i < n → ltb 0 (unsigned_abs (c i) * top i) ≡ true → needed (v i) ≡ true) → ReadsNeeded needed (plus_products a c top v n)
 products_need needed a c top v zero r h = r
 products_need needed a c top v (suc n) r h =
@@ -151,21 +151,28 @@ entry_closed c j l = (
 )
 
 plan_needs : (c : Numbers) (i : ℕ) (a : Expression) → ReadsNeeded (is_needed c) a → ReadsNeeded (is_needed c) (plus_plan c i a)
-plan_needs c i a r = products_need (is_needed c) a (at (row_of c.plan_rows i)) (entry_top c) (variable Entry) (length c.offsets) r (λ j m some. refl)
+plan_needs c i a r = products_need (is_needed c) a (plan_factor c i) (entry_top c) (variable Entry) (length c.offsets) r (λ j m some. refl)
 
 gradient_needs : (c : Numbers) (i : ℕ) → AreClosed (is_needed c) (gradient_statements c i)
 gradient_needs c i =
     cond_both (is_first c i) (Declare (variable Gradient i) (plus_plan c i (Constant (pos 0))) ∷ []) [] (AreClosed (is_needed c))
     (λ t. ((λ n. plan_needs c i (Constant (pos 0)) tt), tt)) (λ f. tt)
 
+pub lowered_needs : (needed : Variable → Bool) (v : Variable) (k : ℕ) → needed v ≡ true → ReadsNeeded needed (lowered_value v k)
+lowered_needs needed v k h = cond_both (k == 0) (Value v) (Shifted (Value v) k) (ReadsNeeded needed) (λ t. h) (λ f. h)
+
 row_expression_needs : (c : Numbers) (i : ℕ) → i < length c.bounds → is_row_needed c i ≡ true → ReadsNeeded (is_needed c) (row_expression c i)
 row_expression_needs c i l n =
     let R = λ (a : Expression). ReadsNeeded (is_needed c) a in
-    cond_both (is_first c i) _ _ R (λ t. (n, n)) (λ f. cond_both (is_second c i) _ _ R
-    (λ t. (n, pair_needed c (partner c i) i (later_there c i l t).pair ∙ n)) (λ g. plan_needs c i (Value (variable RowBase i)) n))
+    let base = lowered_needs (is_needed c) (variable RowBase i) (row_bits c i) n in
+    cond_both (is_first c i) _ _ R (λ t. (base, n)) (λ f. cond_both (is_second c i) _ _ R
+    (λ t. (base, pair_needed c (partner c i) i (later_there c i l t).pair ∙ n)) (λ g. plan_needs c i (lowered_base c i) base))
 
-move_needs : (c : Numbers) (i : ℕ) → i < length c.bounds → AreClosed (is_needed c) (move_statements c i)
-move_needs c i l = ((λ n. (n, row_expression_needs c i l n)), ((λ n. n), ((λ n. n), ((λ n. n), tt))))
+row_sum_needs : (c : Numbers) (i : ℕ) → i < length c.bounds → AreClosed (is_needed c) (row_sum_statements c i)
+row_sum_needs c i l = ((λ n. row_expression_needs c i l n), tt)
+
+move_needs : (c : Numbers) (i : ℕ) → AreClosed (is_needed c) (move_statements c i)
+move_needs c i = ((λ n. (n, lowered_needs (is_needed c) (variable RowSum i) (c.fraction_bits - row_bits c i) n)), ((λ n. n), ((λ n. n), ((λ n. n), tt))))
 
 body_needs : (c : Numbers) → AreClosed (is_needed c) (repetition_body c)
 body_needs c =
@@ -178,7 +185,8 @@ body_needs c =
     (closed_append b (d ++ u) s
     (closed_append b d u (closed_groups b (difference_statements c) (length c.bounds) (λ i m. difference_needs c i)) (closed_groups b (entry_statements c) (length c.offsets) (entry_closed c)))
     (closed_groups b sum_statements (length c.offsets) (λ j m. ((λ t. (refl, refl)), tt))))
-    (closed_groups b (row_statements c) (length c.bounds) (λ i m. closed_append b (gradient_statements c i) (move_statements c i) (gradient_needs c i) (move_needs c i m)))
+    (closed_groups b (row_statements c) (length c.bounds) (λ i m. closed_append b (gradient_statements c i ++ row_sum_statements c i) (move_statements c i)
+    (closed_append b (gradient_statements c i) (row_sum_statements c i) (gradient_needs c i) (row_sum_needs c i m)) (move_needs c i)))
 
 pub program_closed : (c : Numbers) → IsClosed (is_needed c) (whole_program c)
 program_closed c = record { before = before_needs c; body = body_needs c }
@@ -215,8 +223,11 @@ difference_part c i = first_part c i (is_needed c) (Declare (variable Difference
 pub row_part : (c : Numbers) (i : ℕ) → left_in (is_needed c) (row_statements c i) ≡ (if is_row_needed c i then row_statements c i else [])
 row_part c i =
     let gradient = first_part c i (is_needed c) (Declare (variable Gradient i) (plus_plan c i (Constant (pos 0)))) refl in
-    let move = constant_part (is_row_needed c i) (move_statements c i) in
-    left_in_append (is_needed c) (gradient_statements c i) (move_statements c i) ∙ (λ k. gradient k ++ move k) ∙ both_parts (is_row_needed c i) (gradient_statements c i) (move_statements c i)
+    let rest = row_sum_statements c i ++ move_statements c i in
+    let move = constant_part (is_row_needed c i) rest in
+    ap (left_in (is_needed c)) (append_assoc (gradient_statements c i) (row_sum_statements c i) (move_statements c i)) ∙
+    left_in_append (is_needed c) (gradient_statements c i) rest ∙ (λ k. gradient k ++ move k) ∙ both_parts (is_row_needed c i) (gradient_statements c i) rest ∙
+    ap (λ (ss : List Statement). if is_row_needed c i then ss else []) (sym (append_assoc (gradient_statements c i) (row_sum_statements c i) (move_statements c i)))
 
 pub before_part : (c : Numbers) → left_in (is_needed c) (before_of c) ≡
     left_in (is_needed c) (groups (loaded_statements c) c.states) ++ groups (entry_base_statements c) (length c.offsets) ++ left_in (is_needed c) (groups (row_base_statements c) (length c.bounds))

@@ -12,7 +12,7 @@ use Rattle.integer_algebra.specs.Sums.{at}
 use Rattle.number_text.specs.Lines.{text_of}
 use Rattle.number_text.proofs.Pieces.{IsPiece, ArePieces, split_text}
 use Rattle.c_program.specs.Syntax.{Family, Variable, variable, letter_of, Kind, Expression, Statement, CProgram}
-use Rattle.c_program.specs.Syntax.Family.{State, Loaded, EntryBase, RowBase, Multiplier, Difference, Entry, Gradient, Moved, Sum, Output}
+use Rattle.c_program.specs.Syntax.Family.{State, Loaded, EntryBase, RowBase, Multiplier, Difference, Entry, Gradient, RowSum, Moved, Sum, Output}
 use Rattle.c_program.specs.Syntax.Kind.{Narrow, Wide}
 use Rattle.c_program.specs.Syntax.Expression.{Constant, Value, Plus, Minus, Times, Quotient, Remainder, Shifted}
 use Rattle.c_program.specs.Syntax.Statement.{Declare, Assign, AtLeastZero, AtMost}
@@ -92,6 +92,7 @@ name_plain Multiplier k h = join (letter_of Multiplier ∷ []) (decimal k) (word
 name_plain Difference k h = join (letter_of Difference ∷ []) (decimal k) (word (letter_of Difference ∷ []) refl) (decimal_plain k h)
 name_plain Entry k h = join (letter_of Entry ∷ []) (decimal k) (word (letter_of Entry ∷ []) refl) (decimal_plain k h)
 name_plain Gradient k h = join (letter_of Gradient ∷ []) (decimal k) (word (letter_of Gradient ∷ []) refl) (decimal_plain k h)
+name_plain RowSum k h = join (letter_of RowSum ∷ []) (decimal k) (word (letter_of RowSum ∷ []) refl) (decimal_plain k h)
 name_plain Moved k h = join (letter_of Moved ∷ []) (decimal k) (word (letter_of Moved ∷ []) refl) (decimal_plain k h)
 name_plain Sum k h = join (letter_of Sum ∷ []) (decimal k) (word (letter_of Sum ∷ []) refl) (decimal_plain k h)
 
@@ -426,6 +427,7 @@ name_no_loop Multiplier k rest = refl
 name_no_loop Difference k rest = refl
 name_no_loop Entry k rest = refl
 name_no_loop Gradient k rest = refl
+name_no_loop RowSum k rest = refl
 name_no_loop Moved k rest = refl
 name_no_loop Sum k rest = refl
 

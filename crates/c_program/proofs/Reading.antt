@@ -6,7 +6,7 @@ use Rattle.std.specs.Str.Parse.{AllDigits, digits_value_after}
 use Rattle.std.proofs.lemmas.Fmt.{decimal_is_IsNumeral}
 use Rattle.std.proofs.lemmas.Bool.{lt-ltb}
 use Rattle.c_program.specs.Syntax.{Family, variable, letter_of, Expression}
-use Rattle.c_program.specs.Syntax.Family.{State, Loaded, EntryBase, RowBase, Multiplier, Difference, Entry, Gradient, Moved, Sum, Output}
+use Rattle.c_program.specs.Syntax.Family.{State, Loaded, EntryBase, RowBase, Multiplier, Difference, Entry, Gradient, RowSum, Moved, Sum, Output}
 use Rattle.c_program.specs.Syntax.Expression.{Constant, Value, Plus, Minus, Times, Quotient, Remainder, Shifted}
 use Rattle.c_program.specs.Text.{name_of, constant_text, enclosed, closed, expression_text}
 use Rattle.c_program.specs.Laws.{HasShortNumbers, ExpressionTextLaw}
@@ -66,7 +66,7 @@ operator_of c = if c == 43 then Add else (if c == 45 then Subtract else (if c ==
 abbrev pub family_of : ℕ → Family
 family_of c =
     if c == 120 then Loaded else (if c == 97 then EntryBase else (if c == 114 then RowBase else (if c == 108 then Multiplier else (if c == 100 then Difference else
-    (if c == 117 then Entry else (if c == 103 then Gradient else (if c == 116 then Moved else Sum)))))))
+    (if c == 117 then Entry else (if c == 103 then Gradient else (if c == 121 then RowSum else (if c == 116 then Moved else Sum))))))))
 
 -- an operand with the operator before it
 abbrev pub below : List Frame → List Frame
@@ -235,6 +235,7 @@ variable_read Multiplier k st h = named_read Multiplier k st refl refl h
 variable_read Difference k st h = named_read Difference k st refl refl h
 variable_read Entry k st h = named_read Entry k st refl refl h
 variable_read Gradient k st h = named_read Gradient k st refl refl h
+variable_read RowSum k st h = named_read RowSum k st refl refl h
 variable_read Moved k st h = named_read Moved k st refl refl h
 variable_read Sum k st h = named_read Sum k st refl refl h
 

@@ -6,7 +6,7 @@ use Rattle.std.specs.Str.Parse.{AllDigits, digits_value_after}
 use Rattle.std.proofs.lemmas.Fmt.{decimal_is_IsNumeral}
 use Rattle.std.proofs.lemmas.Bool.{ne_eqb}
 use Rattle.c_program.specs.Syntax.{Family, Variable, variable, letter_of, Kind, Expression, Statement}
-use Rattle.c_program.specs.Syntax.Family.{State, Loaded, EntryBase, RowBase, Multiplier, Difference, Entry, Gradient, Moved, Sum, Output}
+use Rattle.c_program.specs.Syntax.Family.{State, Loaded, EntryBase, RowBase, Multiplier, Difference, Entry, Gradient, RowSum, Moved, Sum, Output}
 use Rattle.c_program.specs.Syntax.Kind.{Narrow, Wide}
 use Rattle.c_program.specs.Syntax.Expression.{Constant, Value}
 use Rattle.c_program.specs.Syntax.Statement.{Declare, Assign, AtLeastZero, AtMost}
@@ -162,6 +162,7 @@ name_scan p form b Multiplier k h = letter_scan p form Multiplier k b refl refl 
 name_scan p form b Difference k h = letter_scan p form Difference k b refl refl refl h
 name_scan p form b Entry k h = letter_scan p form Entry k b refl refl refl h
 name_scan p form b Gradient k h = letter_scan p form Gradient k b refl refl refl h
+name_scan p form b RowSum k h = letter_scan p form RowSum k b refl refl refl h
 name_scan p form b Moved k h = letter_scan p form Moved k b refl refl refl h
 name_scan p form b Sum k h = letter_scan p form Sum k b refl refl refl h
 

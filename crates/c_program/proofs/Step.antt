@@ -1,5 +1,5 @@
 -- One repetition of the body makes one step of the controller's machine.
-use Rattle.std.proofs.Common.{◌≡◌, ℕ, suc, ◌+◌, ◌^◌, ◌<◌, ◌≤◌, true, ℤ, pos, ◌+ℤ◌, ◌-ℤ◌, List, [], ◌∷◌, length, map, unsigned_abs, refl, sym, ap, subst, ◌∙◌, arith}
+use Rattle.std.proofs.Common.{◌≡◌, ℕ, suc, ◌+◌, ◌^◌, ◌<◌, ◌≤◌, true, ℤ, pos, ◌+ℤ◌, ◌-ℤ◌, List, [], ◌∷◌, ◌++◌, length, map, unsigned_abs, refl, sym, ap, subst, ◌∙◌, arith, le_refl}
 use Rattle.std.specs.List.{range_with_len}
 use Rattle.std.specs.Int.{int_max, int_min}
 use Rattle.std.proofs.lemmas.Int.{ints, clamps}
@@ -7,8 +7,6 @@ use Rattle.std.proofs.lemmas.Bool.{cond_both}
 use Rattle.std.proofs.lemmas.List.FromFn.{length-map-range_with_len, get_or-map-range_with_len}
 use Rattle.integer_algebra.specs.Division.{floor_of}
 use Rattle.integer_algebra.specs.Sums.{at}
-use Rattle.mat_int.specs.Row.{list_dot}
-use Rattle.mat_int.specs.Matrix.{row_of}
 use Rattle.qp_model.specs.machine.Controller.{Numbers}
 use Rattle.qp_model.specs.machine.Machine.{Iterate, raised, top_of, plan_entry, row_sum, next_multiplier, step_of}
 use Rattle.qp_model.specs.machine.AbsoluteSums.{next_magnitude, sum_magnitude}
@@ -16,15 +14,15 @@ use Rattle.qp_model.specs.machine.ValuesMet.{FitsWidth}
 use Rattle.qp_model.proofs.AbsoluteLaws.{abs-clamped_le}
 use Rattle.qp_model.proofs.MagnitudeLaws.{top_nonneg, top_le_clamp, raised_within, plan_within}
 use Rattle.c_program.specs.Syntax.{Variable, variable, Kind, bits_of, Expression, groups}
-use Rattle.c_program.specs.Syntax.Family.{EntryBase, RowBase, Multiplier, Difference, Entry, Gradient, Moved, Sum}
+use Rattle.c_program.specs.Syntax.Family.{EntryBase, RowBase, Multiplier, Difference, Entry, Gradient, RowSum, Moved, Sum}
 use Rattle.c_program.specs.Syntax.Expression.{Constant, Value, Minus}
 use Rattle.c_program.specs.Syntax.Statement.{Declare, Assign, AtLeastZero, AtMost}
 use Rattle.c_program.specs.Meaning.{Environment, held, with_value, value, done}
-use Rattle.c_program.specs.Of.{entry_top, multiplier_top, partner, is_first, plus_plan, moved_expression, difference_statements, entry_statements, sum_statements, gradient_statements, move_statements, row_statements, repetition_body}
+use Rattle.c_program.specs.Of.{entry_top, multiplier_top, partner, is_first, plus_plan, moved_expression, difference_statements, entry_statements, sum_statements, gradient_statements, row_top, row_sum_statements, move_statements, row_statements, repetition_body}
 use Rattle.c_program.proofs.Runs.{Runs, runs_none, runs_first, runs_append, runs_groups, held_new}
-use Rattle.c_program.proofs.Terms.{Makes, fits64, kind_fits, makes_value, makes_plus, makes_minus}
+use Rattle.c_program.proofs.Terms.{Makes, fits64, kind_fits, kind_holds, makes_value, makes_plus, makes_minus}
 use Rattle.c_program.proofs.Pairs.{AreMultipliers, pair_there, difference_le}
-use Rattle.c_program.proofs.Parts.{Ready, entry_base, row_base, entry_made, entry_le, IsPlanned, AreShared, gradient_made, moved_made}
+use Rattle.c_program.proofs.Parts.{Ready, entry_base, row_base, entry_made, entry_le, IsPlanned, AreShared, lowered_dot, gradient_made, lowered_sum, row_made, row_within, moved_made}
 use Rattle.c_program.proofs.Before.{kinds, runs_one, put, kept, put_where, skip_where}
 
 -- ---- what a step needs
@@ -209,9 +207,9 @@ gradient_runs : (c : Numbers) (state : List ℤ) (made : Iterate) (i : ℕ) (e :
 gradient_runs c state made i e r l s =
     let p = length c.offsets in
     let P = Stands c state made (length c.bounds) p p (suc i) i in
-    let z = list_dot (row_of c.plan_rows i) (step_of c state made).plan in
+    let z = lowered_dot c (step_of c state made).plan i in
     let first = is_first c in
-    let new = λ (k : ℕ). list_dot (row_of c.plan_rows k) (step_of c state made).plan in
+    let new = lowered_dot c (step_of c state made).plan in
     let m = gradient_made c state (step_of c state made).plan e i r.ready l (planned c state made p i i e r s) in
     cond_both (is_first c i) (Declare (variable Gradient i) (plus_plan c i (Constant (pos 0))) ∷ []) [] (λ ss. Runs (kinds c) e ss P)
     (λ t. runs_one (kinds c) e _ z P m.defined m.is (fits64 z (omega (arith, m.within, r.ready.fit.rows i l)))
@@ -238,10 +236,38 @@ gradient_runs c state made i e r l s =
       old_multipliers = s.old_multipliers;
     }))
 
+-- within a row: its sum is new, too
+abbrev Sums : (c : Numbers) (state : List ℤ) (made : Iterate) (i : ℕ) → Environment → Type 0
+Sums c state made i e =
+    Stands c state made (length c.bounds) (length c.offsets) (length c.offsets) (suc i) i e × (e RowSum i ≡ lowered_sum c state (step_of c state made).plan i)
+
+row_sum_runs : (c : Numbers) (state : List ℤ) (made : Iterate) (i : ℕ) (e : Environment) → StepReady c state made → i < length c.bounds →
+    Stands c state made (length c.bounds) (length c.offsets) (length c.offsets) (suc i) i e → Runs (kinds c) e (row_sum_statements c i) (Sums c state made i)
+row_sum_runs c state made i e r l s =
+    let plan = (step_of c state made).plan in
+    let z = lowered_sum c state plan i in
+    let p = planned c state made (length c.offsets) (suc i) i e r s in
+    let m = row_made c state plan e i r.ready l p s.gradients in
+    runs_one (kinds c) e _ z (Sums c state made i) m.defined m.is
+    (kind_holds (row_top c i) z (row_within c state plan i r.ready p.within) (omega (arith, m.within, r.ready.fit.rows i l))) (
+      record {
+        entry_bases = s.entry_bases;
+        row_bases = s.row_bases;
+        differences = s.differences;
+        gradients = s.gradients;
+        entries = s.entries;
+        new_sums = s.new_sums;
+        old_sums = s.old_sums;
+        new_multipliers = s.new_multipliers;
+        old_multipliers = s.old_multipliers;
+      },
+      held_new e (variable RowSum i) z,
+    )
+
 moves : (c : Numbers) (state : List ℤ) (made : Iterate) (i : ℕ) (e : Environment) → StepReady c state made → i < length c.bounds →
-    Stands c state made (length c.bounds) (length c.offsets) (length c.offsets) (suc i) i e →
-    Runs (kinds c) e (move_statements c i) (Stands c state made (length c.bounds) (length c.offsets) (length c.offsets) (suc i) (suc i))
-moves c state made i e r l s =
+    Sums c state made i e → Runs (kinds c) e (move_statements c i) (Stands c state made (length c.bounds) (length c.offsets) (length c.offsets) (suc i) (suc i))
+moves c state made i e r l both =
+    let s = both.0 in
     let p = length c.offsets in
     let plan = (step_of c state made).plan in
     let next = (step_of c state made).multipliers in
@@ -251,7 +277,8 @@ moves c state made i e r l s =
     let new = next_multiplier c state plan old i in
     let whole : next_magnitude c i < 2 ^ 63 = omega (arith, r.ready.fit.next i l) in
     let clamp : multiplier_top c i ≤ next_magnitude c i = omega (arith, top_le_clamp c i) in
-    let m = moved_made c state plan made.multipliers e i r.ready l r.ranges.tops (planned c state made p (suc i) i e r s) s.gradients (s.old_multipliers i (omega arith) l) in
+    let w = planned c state made p (suc i) i e r s in
+    let m = moved_made c state plan made.multipliers e i r.ready l r.ranges.tops w.within (row_made c state plan e i r.ready l w s.gradients).within both.1 (s.old_multipliers i (omega arith) l) in
     let last : unsigned_abs new ≤ multiplier_top c i = abs-clamped_le top z (top_nonneg c i r.ready.nonneg) in
     let same : new ≡ at next i = made_at (λ k. next_multiplier c state plan (at made.multipliers k) k) (length c.bounds) i l in
     move_runs (kinds c) e (moved_expression c i) (variable Moved i) (variable Multiplier i) z top (next_magnitude c i) (Stands c state made (length c.bounds) p p (suc i) (suc i)) m
@@ -287,6 +314,7 @@ body_runs c state made e r h =
     (λ t s. runs_groups (kinds c) sum_statements (λ k. S m p k 0 0) p t s (λ k u l v. sum_runs c state made k u r l v)) in
     let four = runs_append (kinds c) e _ (groups (row_statements c) m) (S m p p 0 0) (S m p p m m) three
     (λ t s. runs_groups (kinds c) (row_statements c) (λ k. S m p p k k) m t s (λ k u l v.
-    runs_append (kinds c) u (gradient_statements c k) (move_statements c k) (S m p p (suc k) k) (S m p p (suc k) (suc k))
-    (gradient_runs c state made k u r l v) (λ w x. moves c state made k w r l x))) in
+    runs_append (kinds c) u (gradient_statements c k ++ row_sum_statements c k) (move_statements c k) (Sums c state made k) (S m p p (suc k) (suc k))
+    (runs_append (kinds c) u (gradient_statements c k) (row_sum_statements c k) (S m p p (suc k) k) (Sums c state made k)
+    (gradient_runs c state made k u r l v) (λ w x. row_sum_runs c state made k w r l x)) (λ w x. moves c state made k w r l x))) in
     record { defined = four.defined; ends = ends c state made _ four.ends }

@@ -25,11 +25,14 @@ pub fits64 : (z : ℤ) → unsigned_abs z < 2 ^ 63 → FitsWidth 64 z
 fits64 z h = fits_width 64 z (omega (arith, h))
 
 -- in the type for numbers of at most this absolute value
-pub kind_fits : (top : ℕ) (z : ℤ) → unsigned_abs z ≤ top → top < 2 ^ 63 → FitsWidth (bits_of (kind_for top)) z
-kind_fits top z h room =
+pub kind_holds : (top : ℕ) (z : ℤ) → unsigned_abs z ≤ top → unsigned_abs z < 2 ^ 63 → FitsWidth (bits_of (kind_for top)) z
+kind_holds top z h room =
     cond_both (ltb top (2 ^ 31)) Narrow Wide (λ kind. FitsWidth (bits_of kind) z)
     (λ e. fits_width 32 z (omega (arith, h, ltb-true top (2 ^ 31) e)))
-    (λ e. fits64 z (omega (arith, h, room)))
+    (λ e. fits64 z room)
+
+pub kind_fits : (top : ℕ) (z : ℤ) → unsigned_abs z ≤ top → top < 2 ^ 63 → FitsWidth (bits_of (kind_for top)) z
+kind_fits top z h room = kind_holds top z h (omega (arith, h, room))
 
 -- the same expression with its value and its bound written otherwise
 pub makes_same : (e : Environment) (a : Expression) (z w : ℤ) (m n : ℕ) → Makes e a z m → z ≡ w → m ≤ n → Makes e a w n

@@ -1,25 +1,25 @@
 -- Texts that grow piece by piece.
-use Rattle.std.proofs.Common.{◌≡◌, ℕ, zero, suc, ◌+◌, ◌*◌, ◌^◌, ◌<◌, ◌≢◌, Bool, cond, if◌then◌else◌, true, false, ltb, ℤ, pos, ◌*ℤ◌, List, [], ◌∷◌, ◌++◌, length, map, take, get_or, unsigned_abs, refl, sym, ap, ◌∙◌, append_assoc, append-nil, add-one, arith, mul-pos, pow_pos}
+use Rattle.std.proofs.Common.{◌≡◌, ℕ, zero, suc, ◌+◌, ◌-◌, ◌*◌, ◌^◌, ◌<◌, ◌==◌, ◌≢◌, Bool, cond, if◌then◌else◌, true, false, ltb, ℤ, pos, ◌*ℤ◌, List, [], ◌∷◌, ◌++◌, length, map, take, get_or, unsigned_abs, refl, sym, ap, ◌∙◌, append_assoc, append-nil, add-one, arith, mul-pos, pow_pos}
 use Rattle.std.proofs.lemmas.List.{map_more}
 use Rattle.std.proofs.lemmas.Int.{ints}
 use Rattle.std.proofs.lemmas.Bool.{cond-true, cond-false, cond_both, lt-ltb}
 use Rattle.qp_model.proofs.AbsoluteLaws.{abs-shifted}
 use Rattle.std.specs.Prelude.{codes, decimal}
 use Rattle.std.specs.Fmt.{digits}
+use Rattle.integer_algebra.specs.Division.{floor_of}
 use Rattle.integer_algebra.specs.Sums.{at}
 use Rattle.number_text.specs.Lines.{text_of}
 use Rattle.qp_model.specs.machine.Controller.{Numbers}
-use Rattle.mat_int.specs.Matrix.{row_of}
 use Rattle.c_program.specs.Syntax.{Variable, variable, Expression, Statement, groups}
-use Rattle.c_program.specs.Syntax.Family.{RowBase, Entry, Gradient}
+use Rattle.c_program.specs.Syntax.Family.{RowBase, Entry, Gradient, RowSum}
 use Rattle.c_program.specs.Syntax.Statement.{Declare}
-use Rattle.c_program.specs.Syntax.Expression.{Constant, Value, Plus, Times}
-use Rattle.c_program.specs.Of.{kind_of, plus_products, partner, is_first, is_second, entry_top, row_expression, program_of}
-use Rattle.c_program.specs.Text.{variable_text, kind_text, constant_text, enclosed, expression_text, statement_text, numbered_lines}
+use Rattle.c_program.specs.Syntax.Expression.{Constant, Value, Plus, Times, Shifted}
+use Rattle.c_program.specs.Of.{kind_of, plus_products, partner, is_first, is_second, entry_top, row_bits, plan_factor, lowered_value, lowered_base, row_expression, moved_expression, program_of}
+use Rattle.c_program.specs.Text.{variable_text, kind_text, constant_text, enclosed, closed, expression_text, statement_text, numbered_lines}
 use Rattle.c_program.specs.Needed.{left_in}
 use Rattle.c_program.proofs.Runs.{groups_none}
 use Rattle.c_program.proofs.LeftIn.{left_in_append}
-use Rattle.c_program.specs.Terms.{joined, term_text, product_text, products_text, declared_text, given_end, block_text, row_rest}
+use Rattle.c_program.specs.Terms.{joined, lowered_text, term_text, product_text, products_text, declared_text, given_end, block_text, row_rest}
 
 -- ---- sums of products
 pub products_none : (c : ℕ → ℤ) (top : ℕ → ℕ) (name : ℕ → List ℕ) (old : List ℕ) → old ≡ old ++ products_text c top name 0
@@ -113,6 +113,14 @@ scaled_same row xs s tops ys name m e k l =
     ap (λ (zs : List ℤ). products_text (λ k. at zs k *ℤ pos (2 ^ s)) (λ k. get_or tops k 0) name m) e ∙
     ap (λ (zs : List ℕ). products_text (λ k. at xs k *ℤ pos (2 ^ s)) (λ k. get_or zs k 0) name m) k
 
+pub lowered_same : (row xs : List ℤ) (k q : ℕ) (tops ys : List ℕ) (name : ℕ → List ℕ) (m : ℕ) → row ≡ xs → k ≡ q → tops ≡ ys → length row ≡ m →
+    products_text (λ j. floor_of (at row j) (2 ^ k)) (λ j. get_or tops j 0) name (length row) ≡ products_text (λ j. floor_of (at xs j) (2 ^ q)) (λ j. get_or ys j 0) name m
+lowered_same row xs k q tops ys name m e b l h =
+    ap (λ (n : ℕ). products_text (λ j. floor_of (at row j) (2 ^ k)) (λ j. get_or tops j 0) name n) h ∙
+    ap (λ (zs : List ℤ). products_text (λ j. floor_of (at zs j) (2 ^ k)) (λ j. get_or tops j 0) name m) e ∙
+    ap (λ (n : ℕ). products_text (λ j. floor_of (at xs j) (2 ^ n)) (λ j. get_or tops j 0) name m) b ∙
+    ap (λ (zs : List ℕ). products_text (λ j. floor_of (at xs j) (2 ^ q)) (λ j. get_or zs j 0) name m) l
+
 -- lines after lines
 block_append : (c : Numbers) (indent : List ℕ) (xs ys : List Statement) → block_text c indent (xs ++ ys) ≡ block_text c indent xs ++ block_text c indent ys
 block_append c indent [] ys = refl
@@ -194,17 +202,38 @@ entry_text v g k t0 t1 t2 t3 t4 t5 t6 e1 e2 e3 e4 e5 e6 =
     e6 ∙ ap (λ (t : List ℕ). t ++ codes ")") later ∙ entry_pieces t0 (codes "INT64_C(0)") (codes " - ") (codes "(") v g (codes ")") (codes " >> ") k ∙
     ap (λ (z : List ℕ). t0 ++ (z ++ codes " - " ++ enclosed (enclosed (v ++ g) ++ codes " >> " ++ k))) zero_text
 
--- ---- a multiplier that is moved
-moved_pieces : (t0 v w o r p s f : List ℕ) →
-    (((((t0 ++ v) ++ (w ++ o ++ o)) ++ r) ++ (p ++ s)) ++ f) ++ p ≡ t0 ++ (v ++ w ++ (o ++ ((o ++ r ++ p) ++ s ++ f) ++ p))
-moved_pieces t0 v w o r p s f = simp append_assoc refl
+-- ---- a variable's value over a power of two
+lowered_pieces : (t0 o v w k p : List ℕ) → ((((t0 ++ o) ++ v) ++ w) ++ k) ++ p ≡ t0 ++ (o ++ v ++ w ++ k ++ p)
+lowered_pieces t0 o v w k p = simp append_assoc refl
 
-pub moved_text : (v r f t0 t1 t2 t3 t4 t5 t6 : List ℕ) → t1 ≡ t0 ++ v → t2 ≡ t1 ++ codes " + ((" → t3 ≡ t2 ++ r → t4 ≡ t3 ++ codes ") >> " → t5 ≡ t4 ++ f → t6 ≡ t5 ++ codes ")" →
-    t6 ≡ t0 ++ (v ++ codes " + " ++ enclosed (enclosed r ++ codes " >> " ++ f))
-moved_text v r f t0 t1 t2 t3 t4 t5 t6 e1 e2 e3 e4 e5 e6 =
-    let before : t3 ≡ ((t0 ++ v) ++ codes " + ((") ++ r = e3 ∙ ap (λ (t : List ℕ). t ++ r) (e2 ∙ ap (λ (t : List ℕ). t ++ codes " + ((") e1) in
-    let later : t5 ≡ ((((t0 ++ v) ++ codes " + ((") ++ r) ++ codes ") >> ") ++ f = e5 ∙ ap (λ (t : List ℕ). t ++ f) (e4 ∙ ap (λ (t : List ℕ). t ++ codes ") >> ") before) in
-    e6 ∙ ap (λ (t : List ℕ). t ++ codes ")") later ∙ moved_pieces t0 v (codes " + ") (codes "(") r (codes ")") (codes " >> ") f
+pub lowered_more : (v k t0 t1 t2 t3 t4 t5 : List ℕ) → t1 ≡ t0 ++ codes "((" → t2 ≡ t1 ++ v → t3 ≡ t2 ++ codes ") >> " → t4 ≡ t3 ++ k → t5 ≡ t4 ++ codes ")" →
+    t5 ≡ t0 ++ (codes "((" ++ v ++ codes ") >> " ++ k ++ codes ")")
+lowered_more v k t0 t1 t2 t3 t4 t5 e1 e2 e3 e4 e5 =
+    let before : t3 ≡ ((t0 ++ codes "((") ++ v) ++ codes ") >> " = e3 ∙ ap (λ (t : List ℕ). t ++ codes ") >> ") (e2 ∙ ap (λ (t : List ℕ). t ++ v) e1) in
+    e5 ∙ ap (λ (t : List ℕ). t ++ codes ")") (e4 ∙ ap (λ (t : List ℕ). t ++ k) before) ∙ lowered_pieces t0 (codes "((") v (codes ") >> ") k (codes ")")
+
+-- as an expression
+shifted_read : (o v p s k : List ℕ) → o ++ ((o ++ v ++ p) ++ s ++ k) ++ p ≡ (o ++ o) ++ v ++ (p ++ s) ++ k ++ p
+shifted_read o v p s k = simp append_assoc refl
+
+pub lowered_read : (v : Variable) (k : ℕ) → expression_text (lowered_value v k) ≡ lowered_text (variable_text v) k
+lowered_read v k = each (k == 0)
+  where
+    each : (b : Bool) → expression_text (cond b (Value v) (Shifted (Value v) k)) ≡
+        cond b (codes "(int64_t)" ++ variable_text v) (codes "((" ++ (codes "(int64_t)" ++ variable_text v) ++ codes ") >> " ++ decimal k ++ codes ")")
+    each true = refl
+    each false = shifted_read (codes "(") (codes "(int64_t)" ++ variable_text v) (codes ")") (codes " >> ") (decimal k)
+
+closed_lowered : (v : Variable) (k : ℕ) (text : List ℕ) → closed (lowered_value v k) text ≡ text
+closed_lowered v k text = cond_both (k == 0) (Value v) (Shifted (Value v) k) (λ a. closed a text ≡ text) (λ t. refl) (λ f. refl)
+
+-- ---- a multiplier that is moved
+pub moved_read : (c : Numbers) (i : ℕ) →
+    expression_text (moved_expression c i) ≡ (codes "(int64_t)" ++ (codes "l" ++ decimal i)) ++ codes " + " ++ lowered_text (codes "y" ++ decimal i) (c.fraction_bits - row_bits c i)
+moved_read c i =
+    let v = variable RowSum i in
+    let k = c.fraction_bits - row_bits c i in
+    ap (λ (t : List ℕ). (codes "(int64_t)" ++ (codes "l" ++ decimal i)) ++ codes " + " ++ t) (closed_lowered v k (expression_text (lowered_value v k)) ∙ lowered_read v k)
 
 pub two_more : (t0 t1 t2 a b : List ℕ) → t1 ≡ t0 ++ a → t2 ≡ t1 ++ b → t2 ≡ t0 ++ (a ++ b)
 two_more t0 t1 t2 a b e1 e2 = e2 ∙ ap (λ (t : List ℕ). t ++ b) e1 ∙ append_assoc t0 a b
@@ -216,12 +245,13 @@ split_read true d v x y z p q r h k l = h
 split_read false true v x y z p q r h k l = k
 split_read false false v x y z p q r h k l = l
 
-pub row_read : (c : Numbers) (i : ℕ) → expression_text (row_expression c i) ≡ expression_text (Value (variable RowBase i)) ++ row_rest c i
+pub row_read : (c : Numbers) (i : ℕ) → expression_text (row_expression c i) ≡ lowered_text (codes "r" ++ decimal i) (row_bits c i) ++ row_rest c i
 row_read c i =
-    let base = expression_text (Value (variable RowBase i)) in
+    let base = expression_text (lowered_base c i) in
     split_read (is_first c i) (is_second c i) base _ _ _ _ _ _ (append_assoc base (codes " + ") (expression_text (Value (variable Gradient i))))
     (append_assoc base (codes " - ") (expression_text (Value (variable Gradient (partner c i)))))
-    (products_read (Value (variable RowBase i)) (at (row_of c.plan_rows i)) (entry_top c) (variable Entry) (length c.offsets))
+    (products_read (lowered_base c i) (plan_factor c i) (entry_top c) (variable Entry) (length c.offsets)) ∙
+    ap (λ (t : List ℕ). t ++ row_rest c i) (lowered_read (variable RowBase i) (row_bits c i))
 
 -- ---- the lines that clamp
 pub floor_pieces : (i o t n l z e : List ℕ) →

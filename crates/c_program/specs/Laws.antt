@@ -109,6 +109,10 @@ abbrev pub ProgramTextLaw : Type 0
 ProgramTextLaw =
     (name other : List ℕ) (p q : CProgram) → HasNoLineFeed name → HasNoLineFeed other → HasShortText p → HasShortText q → program_text name p ≡ program_text other q → (name ≡ other) × AreOneProgram p q
 
+-- a controller's program has such a text, so that it can be told from its text
+abbrev pub ShortTextLaw : Type 0
+ShortTextLaw = (c : Numbers) → IsController c → c.width ≤ 64 → HasShortText (program_of c)
+
 -- of each controller of at most 64 bits
 abbrev pub ProgramLaw : Type 0
 ProgramLaw = (c : Numbers) → IsController c → c.width ≤ 64 → IsProgram c

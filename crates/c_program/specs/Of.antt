@@ -1,7 +1,8 @@
 -- The program of a controller: its numbers as literals, zeros left out, and each variable as narrow as its absolute sum lets it be.
-use Rattle.std.specs.Prelude.{ℕ, zero, suc, ◌+◌, ◌-◌, ◌*◌, ◌^◌, min, Bool, true, false, ◌&&◌, ◌||◌, ◌==◌, nat_lt, if◌then◌else◌, ℤ, pos, ◌+ℤ◌, ◌*ℤ◌, neg_ℤ, List, [], ◌∷◌, ◌++◌, length, map, unsigned_abs, slice_index_or, ◌/◌}
+use Rattle.std.specs.Prelude.{ℕ, zero, suc, ◌+◌, ◌-◌, ◌*◌, ◌^◌, ◌%◌, min, Bool, true, false, ◌&&◌, ◌||◌, ◌==◌, nat_lt, if◌then◌else◌, ℤ, pos, ◌+ℤ◌, ◌*ℤ◌, neg_ℤ, List, [], ◌∷◌, ◌++◌, length, map, unsigned_abs, slice_index_or, ◌/◌}
 use Rattle.std.specs.List.{range_with_len}
 use Rattle.std.specs.Int.{w32, trailing_zeros}
+use Rattle.integer_algebra.specs.Division.{floor_of}
 use Rattle.integer_algebra.specs.Sums.{at}
 use Rattle.mat_int.specs.Matrix.{row_of}
 use Rattle.qp_model.specs.machine.Controller.{Numbers}
@@ -9,7 +10,7 @@ use Rattle.qp_model.specs.machine.Machine.{exponent_of, lowering_of, top_of}
 use Rattle.qp_model.specs.machine.AbsoluteSums.{state_magnitudes, plan_magnitudes, next_magnitude, sum_magnitude}
 use Rattle.c_program.specs.Syntax.{Family, Variable, variable, Kind, Expression, Statement, groups, CProgram}
 use Rattle.c_program.specs.Needed.{needed_part}
-use Rattle.c_program.specs.Syntax.Family.{State, Loaded, EntryBase, RowBase, Multiplier, Difference, Entry, Gradient, Moved, Sum, Output}
+use Rattle.c_program.specs.Syntax.Family.{State, Loaded, EntryBase, RowBase, Multiplier, Difference, Entry, Gradient, RowSum, Moved, Sum, Output}
 use Rattle.c_program.specs.Syntax.Kind.{Narrow, Wide}
 use Rattle.c_program.specs.Syntax.Expression.{Constant, Value, Plus, Minus, Times, Quotient, Remainder, Shifted}
 use Rattle.c_program.specs.Syntax.Statement.{Declare, Assign, AtLeastZero, AtMost}
@@ -24,6 +25,29 @@ multiplier_top c i = unsigned_abs (top_of c i)
 abbrev pub entry_top : Numbers → ℕ → ℕ
 entry_top c j = slice_index_or (plan_magnitudes c) j 0
 
+-- ---- by how many bits a row's sum is lowered
+-- 2^k divides the first n numbers
+unfoldable pub are_multiples : List ℤ → (k n : ℕ) → Bool
+are_multiples row k zero = true
+are_multiples row k (suc n) = are_multiples row k n && (unsigned_abs (at row n) % 2 ^ k == 0)
+
+-- the greatest power of two, of those up to this one, that does
+unfoldable pub shared_bits : List ℤ → (n most : ℕ) → ℕ
+shared_bits row n zero = zero
+shared_bits row n (suc most) = if are_multiples row (suc most) n then suc most else shared_bits row n most
+
+-- that of row i
+abbrev pub row_bits : Numbers → ℕ → ℕ
+row_bits c i = shared_bits (row_of c.plan_rows i) (length c.offsets) c.fraction_bits
+
+-- the row's factor of plan entry j without it
+abbrev pub plan_factor : Numbers → (i j : ℕ) → ℤ
+plan_factor c i j = floor_of (at (row_of c.plan_rows i) j) (2 ^ row_bits c i)
+
+-- and its sum is at most this
+abbrev pub row_top : Numbers → ℕ → ℕ
+row_top c i = next_magnitude c i * 2 ^ (c.fraction_bits - row_bits c i)
+
 -- the type that holds numbers of at most this absolute value
 abbrev pub kind_for : ℕ → Kind
 kind_for top = if nat_lt top (2 ^ 31) then Narrow else Wide
@@ -37,6 +61,7 @@ kind_of c Multiplier i = kind_for (multiplier_top c i)
 kind_of c Difference i = kind_for (multiplier_top c i)
 kind_of c Entry j = kind_for (entry_top c j)
 kind_of c Gradient i = Wide
+kind_of c RowSum i = kind_for (row_top c i)
 kind_of c Moved i = kind_for (next_magnitude c i)
 kind_of c Sum j = kind_for (sum_magnitude c j)
 kind_of c Output j = Wide
@@ -76,6 +101,11 @@ is_first c i = nat_lt i (partner c i) && nat_lt (partner c i) (length c.bounds) 
 
 unfoldable pub is_second : Numbers → ℕ → Bool
 is_second c i = nat_lt (partner c i) i && (partner c (partner c i) == i)
+
+-- ---- shifts
+-- a variable's value over 2^k, rounded down
+abbrev pub lowered_value : Variable → ℕ → Expression
+lowered_value v k = if k == 0 then Value v else Shifted (Value v) k
 
 -- ---- before the loop
 abbrev pub loaded_expression : Numbers → ℕ → Expression
@@ -129,23 +159,29 @@ entry_statements c j = Declare (variable Entry j) (entry_expression c j) ∷ []
 abbrev pub sum_statements : ℕ → List Statement
 sum_statements j = Assign (variable Sum j) (Plus (Value (variable Sum j)) (Value (variable Entry j))) ∷ []
 
--- row i's products with the plan, added to an expression
+-- row i's products with the plan, without the power of two that its factors share, added to an expression
 abbrev pub plus_plan : Numbers → ℕ → Expression → Expression
-plus_plan c i a = plus_products a (at (row_of c.plan_rows i)) (entry_top c) (variable Entry) (length c.offsets)
+plus_plan c i a = plus_products a (plan_factor c i) (entry_top c) (variable Entry) (length c.offsets)
 
 -- a pair's products with the plan
 abbrev pub gradient_statements : Numbers → ℕ → List Statement
 gradient_statements c i = if is_first c i then Declare (variable Gradient i) (plus_plan c i (Constant (pos 0))) ∷ [] else []
 
--- the sum of row i
+-- the sum of row i, over 2^(2 fraction_bits - row_bits)
+abbrev pub lowered_base : Numbers → ℕ → Expression
+lowered_base c i = lowered_value (variable RowBase i) (row_bits c i)
+
 abbrev pub row_expression : Numbers → ℕ → Expression
 row_expression c i =
-    if is_first c i then Plus (Value (variable RowBase i)) (Value (variable Gradient i)) else
-    (if is_second c i then Minus (Value (variable RowBase i)) (Value (variable Gradient (partner c i))) else plus_plan c i (Value (variable RowBase i)))
+    if is_first c i then Plus (lowered_base c i) (Value (variable Gradient i)) else
+    (if is_second c i then Minus (lowered_base c i) (Value (variable Gradient (partner c i))) else plus_plan c i (lowered_base c i))
+
+abbrev pub row_sum_statements : Numbers → ℕ → List Statement
+row_sum_statements c i = Declare (variable RowSum i) (row_expression c i) ∷ []
 
 -- multiplier i, moved along its row and clamped
 abbrev pub moved_expression : Numbers → ℕ → Expression
-moved_expression c i = Plus (Value (variable Multiplier i)) (Shifted (row_expression c i) c.fraction_bits)
+moved_expression c i = Plus (Value (variable Multiplier i)) (lowered_value (variable RowSum i) (c.fraction_bits - row_bits c i))
 
 abbrev pub move_statements : Numbers → ℕ → List Statement
 move_statements c i =
@@ -153,7 +189,7 @@ move_statements c i =
     ∷ AtLeastZero (variable Moved i) ∷ AtMost (variable Moved i) (top_of c i) ∷ Assign (variable Multiplier i) (Value (variable Moved i)) ∷ []
 
 abbrev pub row_statements : Numbers → ℕ → List Statement
-row_statements c i = gradient_statements c i ++ move_statements c i
+row_statements c i = gradient_statements c i ++ row_sum_statements c i ++ move_statements c i
 
 abbrev pub repetition_body : Numbers → List Statement
 repetition_body c =
@@ -209,6 +245,7 @@ needed_of c Multiplier i = is_row_needed c i
 needed_of c Difference i = is_row_needed c i
 needed_of c Entry j = true
 needed_of c Gradient i = is_row_needed c i
+needed_of c RowSum i = is_row_needed c i
 needed_of c Moved i = is_row_needed c i
 needed_of c Sum j = true
 needed_of c Output j = true

@@ -12,6 +12,7 @@ pub data Family : Type 0 where
   Difference : Family  -- d0 ..
   Entry : Family  -- u0 ..
   Gradient : Family  -- g0 ..
+  RowSum : Family  -- y0 ..
   Moved : Family  -- t0 ..
   Sum : Family  -- s0 ..
   Output : Family  -- sums[0] ..
@@ -25,6 +26,7 @@ letter_of Multiplier = 108
 letter_of Difference = 100
 letter_of Entry = 117
 letter_of Gradient = 103
+letter_of RowSum = 121
 letter_of Moved = 116
 letter_of Sum = 115
 letter_of Output = 1

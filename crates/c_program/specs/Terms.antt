@@ -1,5 +1,5 @@
 -- The text of a sum of products, as it grows behind what it is added to.
-use Rattle.std.specs.Prelude.{ℕ, zero, suc, ◌*◌, nat_lt, if◌then◌else◌, ℤ, List, [], ◌∷◌, ◌++◌, length, map, codes, decimal, unsigned_abs, slice_index_or}
+use Rattle.std.specs.Prelude.{ℕ, zero, suc, ◌*◌, ◌==◌, nat_lt, Bool, ◌&&◌, if◌then◌else◌, ℤ, List, [], ◌∷◌, ◌++◌, length, map, codes, decimal, unsigned_abs, slice_index_or}
 use Rattle.std.specs.List.{range_with_len}
 use Rattle.integer_algebra.specs.Sums.{at}
 use Rattle.mat_int.specs.Matrix.{row_of}
@@ -8,18 +8,28 @@ use Rattle.qp_model.specs.machine.Controller.{Numbers}
 use Rattle.c_program.specs.Syntax.{variable, Statement, CProgram}
 use Rattle.c_program.specs.Syntax.Family.{Entry, Gradient}
 use Rattle.c_program.specs.Syntax.Expression.{Value}
-use Rattle.c_program.specs.Of.{multiplier_top, gain_of, gain_variable, partner, is_first, is_second, entry_top, program_of}
+use Rattle.c_program.specs.Of.{multiplier_top, gain_of, gain_variable, partner, is_first, is_second, entry_top, plan_factor, is_product, is_row_needed, program_of}
 use Rattle.c_program.specs.Text.{variable_text, constant_text, expression_text, statement_lines, shift_line, head_text, numbered_lines, refusal_line}
 
 -- ---- pairs
 abbrev pub partners_of : Numbers → List ℕ
 partners_of c = map (partner c) (range_with_len 0 (length c.bounds))
 
+-- ---- what is needed
+-- coordinate k, of at most this absolute value, reaches the base of row i, and that row is needed
+abbrev pub reaches_row : Numbers → (k top i : ℕ) → Bool
+reaches_row c k top i = is_row_needed c i && is_product (at (row_of c.state_rows i) k) top
+
 -- ---- text
 -- pieces, one behind the other
 abbrev pub joined : List (List ℕ) → List ℕ
 joined [] = []
 joined (piece ∷ pieces) = piece ++ joined pieces
+
+-- the value of the variable of this name over 2^k
+abbrev pub lowered_text : List ℕ → ℕ → List ℕ
+lowered_text name k =
+    if k == 0 then codes "(int64_t)" ++ name else (codes "((" ++ (codes "(int64_t)" ++ name) ++ codes ") >> " ++ decimal k ++ codes ")")
 
 -- one product with the variable of this name
 abbrev pub term_text : ℤ → List ℕ → List ℕ
@@ -60,7 +70,7 @@ block_text c indent ss = text_of (statement_lines (program_of c).kind indent ss)
 
 -- the products of row i with the plan
 abbrev pub plan_row_text : Numbers → ℕ → List ℕ
-plan_row_text c i = products_text (at (row_of c.plan_rows i)) (entry_top c) (λ j. variable_text (variable Entry j)) (length c.offsets)
+plan_row_text c i = products_text (plan_factor c i) (entry_top c) (λ j. variable_text (variable Entry j)) (length c.offsets)
 
 -- what stands behind the base in the sum of a row
 abbrev pub row_rest : Numbers → ℕ → List ℕ

@@ -1,5 +1,5 @@
 // What the program of a controller does.
-ghost use Rattle.c_program.specs.Laws.{ExpressionTextLaw, ProgramLaw, ProgramTextLaw, StatementTextLaw};
+ghost use Rattle.c_program.specs.Laws.{ExpressionTextLaw, ProgramLaw, ProgramTextLaw, ShortTextLaw, StatementTextLaw};
 ghost use Rattle.c_program.specs.Worked.{WorkedLines};
 
 /// The program of a controller of at most 64 bits, run from a state of its box, is defined by C throughout and puts out the averaged plan's numerators, and of these the
@@ -22,6 +22,11 @@ pub fn statement_text_law()
 /// the outputs and the averages can be told.
 pub fn program_text_law()
     ensures { ProgramTextLaw }
+{}
+
+/// Each number in the text of a controller's program is below 2^64, so that the program can be told from its text.
+pub fn short_text_law()
+    ensures { ShortTextLaw }
 {}
 
 /// The lines of a worked program.

@@ -11,6 +11,7 @@ mod needed;
 mod opposite;
 mod plan;
 mod rows;
+mod shared;
 mod start;
 mod sums;
 mod tops;
@@ -19,6 +20,7 @@ mod writer;
 
 pub use header::write_header;
 pub use laws::{
-    expression_text_law, program_law, program_text_law, statement_text_law, worked_lines,
+    expression_text_law, program_law, program_text_law, short_text_law, statement_text_law,
+    worked_lines,
 };
 pub use writer::write_program;

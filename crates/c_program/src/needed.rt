@@ -1,10 +1,11 @@
 // Which rows and coordinates of the state reach an output.
-ghost use Rattle.std.specs.Prelude.{◌≡◌, ◌<◌, ◌&&◌, ◌||◌, length};
+ghost use Rattle.std.specs.Prelude.{◌≡◌, ◌<◌, ◌||◌, length};
 ghost use Rattle.integer_algebra.specs.Sums.{at};
 ghost use Rattle.mat_int.specs.Matrix.{row_of};
 ghost use Rattle.qp_model.specs.machine.Controller.{numbers};
 ghost use Rattle.qp_model.specs.machine.AbsoluteSums.{IsController};
 ghost use Rattle.c_program.specs.Of.{any_below, is_product, is_row_needed, is_coordinate_needed};
+ghost use Rattle.c_program.specs.Terms.{reaches_row};
 ghost use Rattle.c_program.specs.Measured.{controller_in};
 
 use crate::measured::Measured;
@@ -64,7 +65,7 @@ fn is_in_needed_row(c: &ControllerParts, i: usize, k: usize, top: u128) -> bool
     requires sound { IsController (numbers c.now) }
     requires row { i < length c.now.bound.items }
     requires coordinate { k < c.now.n }
-    ensures { result ≡ (is_row_needed (numbers c.now) i && is_product (at (row_of (numbers c.now).state_rows i) k) top) }
+    ensures { result ≡ reaches_row (numbers c.now) k top i }
 {
     let needed = is_row_needed_at(c, i);
     let product = has_product(&c.e_mat, i, k, top);
@@ -75,7 +76,7 @@ fn is_in_needed_row(c: &ControllerParts, i: usize, k: usize, top: u128) -> bool
 fn is_in_needed_rows(c: &ControllerParts, k: usize, top: u128) -> bool
     requires sound { IsController (numbers c.now) }
     requires coordinate { k < c.now.n }
-    ensures { result ≡ any_below (λ i. is_row_needed (numbers c.now) i && is_product (at (row_of (numbers c.now).state_rows i) k) top) (length c.now.bound.items) }
+    ensures { result ≡ any_below (λ i. reaches_row (numbers c.now) k top i) (length c.now.bound.items) }
 {
     let mut found = false;
     for i in 0..c.bound.len() {

@@ -5,7 +5,7 @@ ghost use Rattle.c_program.specs.Syntax.{variable, groups};
 ghost use Rattle.c_program.specs.Syntax.Family.{Multiplier, Moved};
 ghost use Rattle.c_program.specs.Syntax.Expression.{Value};
 ghost use Rattle.c_program.specs.Syntax.Statement.{Declare, Assign, AtLeastZero, AtMost};
-ghost use Rattle.c_program.specs.Of.{kind_of, is_first, is_second, gradient_statements, row_expression, moved_expression, move_statements, row_statements};
+ghost use Rattle.c_program.specs.Of.{kind_of, is_first, is_second, gradient_statements, row_expression, row_sum_statements, moved_expression, move_statements, row_statements};
 ghost use Rattle.c_program.specs.Text.{kind_text, expression_text};
 ghost use Rattle.c_program.specs.Terms.{plan_row_text, row_rest};
 ghost use Rattle.c_program.specs.Measured.{controller_in, row_count, loop_text, needed_loop_text, row_text};
@@ -13,10 +13,11 @@ ghost use Rattle.c_program.specs.Measured.{controller_in, row_count, loop_text, 
 use crate::measured::Measured;
 use crate::needed::is_row_needed_at;
 use crate::opposite::{is_first_at, is_second_at, partner_at};
-use crate::sums::push_row;
-use crate::tops::{multiplier_top, top_at};
+use crate::shared::row_bits_at;
+use crate::sums::push_lowered_row;
+use crate::tops::{multiplier_top, row_kind, top_at};
 use crate::words::{
-    constant_word, kind_word, push_declared, push_end, push_number, push_pieces, push_value,
+    constant_word, kind_word, push_declared, push_end, push_lowered_value, push_pieces, push_value,
 };
 use overflow_check::next_magnitude;
 use std::alloc::AllocError;
@@ -26,7 +27,8 @@ fn push_plan_row(from: &Measured, text: &mut String, i: usize) -> Result<(), All
     requires in_range { i < row_count from.now }
     ensures { OnOk result (string_bytes text.new ≡ string_bytes text.old ++ plan_row_text (controller_in from.now) i) }
 {
-    push_row(from.alloc, text, from.c.g_mat.row(i), from.plan, "u")?;
+    let bits = row_bits_at(from, i);
+    push_lowered_row(from.alloc, text, from.c.g_mat.row(i), bits, from.plan, "u")?;
     Ok(())
 }
 
@@ -107,8 +109,19 @@ fn push_row_value(from: &Measured, text: &mut String, i: usize) -> Result<(), Al
     requires in_range { i < row_count from.now }
     ensures { OnOk result (string_bytes text.new ≡ string_bytes text.old ++ expression_text (row_expression (controller_in from.now) i)) }
 {
-    push_value(from.alloc, text, "r", i)?;
+    push_lowered_value(from.alloc, text, "r", i, row_bits_at(from, i))?;
     push_rest(from, text, i)?;
+    Ok(())
+}
+
+// The line that declares it.
+fn push_row_sum(from: &Measured, text: &mut String, i: usize) -> Result<(), AllocError>
+    requires in_range { i < row_count from.now }
+    ensures { OnOk result (string_bytes text.new ≡ string_bytes text.old ++ loop_text from.now (row_sum_statements (controller_in from.now) i)) }
+{
+    push_declared(from.alloc, text, "        ", row_kind(from, i), "y", i)?;
+    push_row_value(from, text, i)?;
+    push_end(text)?;
     Ok(())
 }
 
@@ -118,11 +131,9 @@ fn push_moved_value(from: &Measured, text: &mut String, i: usize) -> Result<(), 
     ensures { OnOk result (string_bytes text.new ≡ string_bytes text.old ++ expression_text (moved_expression (controller_in from.now) i)) }
 {
     push_value(from.alloc, text, "l", i)?;
-    text.push_str(" + ((")?;
-    push_row_value(from, text, i)?;
-    text.push_str(") >> ")?;
-    push_number(from.alloc, text, from.c.f as i128)?;
-    text.push_str(")")?;
+    text.push_str(" + ")?;
+    let bits = from.c.f - row_bits_at(from, i);
+    push_lowered_value(from.alloc, text, "y", i, bits)?;
     Ok(())
 }
 
@@ -244,6 +255,7 @@ fn push_row_lines(from: &Measured, text: &mut String, i: usize) -> Result<(), Al
     ensures { OnOk result (string_bytes text.new ≡ string_bytes text.old ++ loop_text from.now (row_statements (controller_in from.now) i)) }
 {
     push_gradient_where(from, text, i)?;
+    push_row_sum(from, text, i)?;
     push_move(from, text, i)?;
     Ok(())
 }

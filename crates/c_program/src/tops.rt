@@ -4,12 +4,16 @@ ghost use Rattle.integer_algebra.specs.Sums.{at};
 ghost use Rattle.qp_model.specs.machine.Controller.{numbers};
 ghost use Rattle.qp_model.specs.machine.Machine.{lowering_of, top_of};
 ghost use Rattle.qp_model.specs.machine.AbsoluteSums.{IsController, state_magnitudes, plan_magnitudes, sum_magnitude};
-ghost use Rattle.c_program.specs.Of.{multiplier_top};
-ghost use Rattle.c_program.specs.Measured.{controller_in, entry_count};
+ghost use Rattle.c_program.specs.Of.{multiplier_top, kind_of};
+ghost use Rattle.c_program.specs.Syntax.Family.{RowSum};
+ghost use Rattle.c_program.specs.Text.{kind_text};
+ghost use Rattle.c_program.specs.Measured.{controller_in, entry_count, row_count};
 
 use crate::measured::Measured;
+use crate::shared::row_bits_at;
+use crate::words::kind_word;
 use frac_scaled::{floor_shift, scaled};
-use overflow_check::{plan_entry_magnitude, state_magnitude};
+use overflow_check::{next_magnitude, plan_entry_magnitude, state_magnitude};
 use qp_model::ControllerParts;
 use std::alloc::{AllocError, Global};
 
@@ -72,6 +76,15 @@ pub fn sum_top(from: &Measured, j: usize) -> u128
     ensures { result ≡ sum_magnitude (controller_in from.now) j }
 {
     u128::from(from.c.steps) * from.plan[j]
+}
+
+// The type of the sum of row `i`, without the power of two that its factors share.
+pub fn row_kind(from: &Measured, i: usize) -> &'static str
+    requires in_range { i < row_count from.now }
+    ensures { result.now ≡ kind_text (kind_of (controller_in from.now) RowSum i) }
+{
+    let next = next_magnitude(from.c, from.plan, i).min(1 << 31);
+    kind_word(next << (from.c.f - row_bits_at(from, i)))
 }
 
 // The offset of plan entry `j`, over `2^(2f + s)`.

@@ -1,9 +1,9 @@
 // The words of a program's text.
-ghost use Rattle.std.specs.Prelude.{◌≡◌, ◌<◌, ◌≤◌, ◌*◌, ◌^◌, ◌++◌, pos, ◌*ℤ◌, OnOk, IfOk, map, codes, string_bytes, unsigned_abs, decimal};
+ghost use Rattle.std.specs.Prelude.{◌≡◌, ◌≢◌, ◌<◌, ◌≤◌, ◌*◌, ◌^◌, ◌++◌, pos, ◌*ℤ◌, OnOk, IfOk, map, codes, string_bytes, unsigned_abs, decimal};
 ghost use Rattle.std.specs.Fmt.{signed_decimal};
 ghost use Rattle.c_program.specs.Text.{constant_text, kind_text};
 ghost use Rattle.c_program.specs.Of.{kind_for};
-ghost use Rattle.c_program.specs.Terms.{joined, term_text, product_text, given_text, given_end, declared_text};
+ghost use Rattle.c_program.specs.Terms.{joined, lowered_text, term_text, product_text, given_text, given_end, declared_text};
 
 use frac_scaled::scaled;
 use std::alloc::{AllocError, Global};
@@ -66,6 +66,57 @@ pub fn push_value(
 {
     text.push_str("(int64_t)")?;
     push_name(alloc, text, family, number)
+}
+
+// The same over `2^k`, where k is 0.
+fn push_plain_value(
+    alloc: Global,
+    text: &mut String,
+    family: &str,
+    number: usize,
+    k: u32,
+) -> Result<(), AllocError>
+    requires { k ≡ 0 }
+    ensures { OnOk result (string_bytes text.new ≡ string_bytes text.old ++ lowered_text (family.now ++ decimal number) k) }
+{
+    push_value(alloc, text, family, number)?;
+    Ok(())
+}
+
+// And where it isn't.
+fn push_shifted_value(
+    alloc: Global,
+    text: &mut String,
+    family: &str,
+    number: usize,
+    k: u32,
+) -> Result<(), AllocError>
+    requires { k ≢ 0 }
+    ensures { OnOk result (string_bytes text.new ≡ string_bytes text.old ++ lowered_text (family.now ++ decimal number) k) }
+{
+    text.push_str("((")?;
+    push_value(alloc, text, family, number)?;
+    text.push_str(") >> ")?;
+    push_number(alloc, text, k as i128)?;
+    text.push_str(")")?;
+    Ok(())
+}
+
+// The value of a variable over `2^k`, rounded down.
+pub fn push_lowered_value(
+    alloc: Global,
+    text: &mut String,
+    family: &str,
+    number: usize,
+    k: u32,
+) -> Result<(), AllocError>
+    ensures { OnOk result (string_bytes text.new ≡ string_bytes text.old ++ lowered_text (family.now ++ decimal number) k) }
+{
+    if k == 0 {
+        push_plain_value(alloc, text, family, number, k)
+    } else {
+        push_shifted_value(alloc, text, family, number, k)
+    }
 }
 
 // A product of a constant and a variable, added to what stands before it.

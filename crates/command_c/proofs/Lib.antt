@@ -1,4 +1,2 @@
--- what ends the command before it writes, what it leaves, and its row of the table
-pub mod Refusing
-pub mod Leaving
-pub mod Row
+-- what it does by its script, and what it leaves
+pub mod Written

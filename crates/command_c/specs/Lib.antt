@@ -1,3 +1,1 @@
 pub mod Compiled
-pub mod Reading
-pub mod Deeds

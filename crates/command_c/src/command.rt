@@ -1,11 +1,11 @@
 // `c` with its arguments.
 ghost use Rattle.command_line.specs.Words.{IsC};
 ghost use Rattle.command_line.specs.Does.{DoesInStore};
-ghost use Rattle.command_c.specs.Deeds.{compile_deeds};
+ghost use Rattle.command_c.specs.Compiled.{compile_deeds};
 
-use crate::texts::texts_for;
-use command_generate::write_texts;
-use command_line::Status;
+use crate::texts::program_texts;
+use command_files::read_controller_file;
+use command_line::{Status, write_texts};
 use io_edge::{Store, Words};
 use std::alloc::Global;
 
@@ -15,8 +15,11 @@ pub fn write_c<S: Store>(alloc: Global, words: &Words, store: &mut S) -> Status
     requires { IsC words.now }
     ensures { DoesInStore S.Store words.now compile_deeds store.old store.new result }
 {
-    match texts_for(alloc, words, store) {
-        Ok(texts) => write_texts(3, words.at(3), 4, words.at(4), &texts, store),
+    match read_controller_file(alloc, 1, words.at(1), store) {
+        Ok(controller) => {
+            let made = program_texts(alloc, &controller, words.at(2));
+            write_texts(words, 3, 4, made, store)
+        }
         Err(status) => status,
     }
 }

@@ -4,6 +4,7 @@ use Rattle.qp_model.specs.problem.Policy.{Plans}
 use Rattle.qp_model.specs.problem.Parts.{design_numbers}
 use Rattle.qp_model.specs.declared.design_parts.DesignParts.{DesignParts}
 use Rattle.command_line.specs.Answers.{IsAnswer, IsCaused}
+use Rattle.command_line.specs.TwoTexts.{IsUnmade}
 use Rattle.command_generate.specs.Made.{MakingCalls}
 use Rattle.command_generate.proofs.SameDesign.{making_same}
 use Rattle.command_demo.specs.Demo.{AreMadeFrom, DemoCalls}
@@ -23,10 +24,8 @@ answer_is number p plans s made one answer = record { called = (p, plans, made, 
         answer.only t (subst (λ (r : Plans). MakingCalls p r t) same.1 (making_same calls.0 p same.0 calls.1 t calls.3))
 
 -- where the design with the policy is refused
-pub refused_is : (number : ℕ) (p : DesignParts) (plans : Plans) (s : Status) → AreMadeFrom number p plans → OneOf number p plans → (s ≡ Memory) ⊎ IsAnswer (MakingCalls p plans) s → IsCaused s →
-    IsAnswer (DemoCalls number) s
-refused_is number p plans s made one (inl memory) caused = absurd (caused.memory memory)
-refused_is number p plans s made one (inr answer) caused = answer_is number p plans s made one answer
+pub refused_is : (number : ℕ) (p : DesignParts) (plans : Plans) (s : Status) → AreMadeFrom number p plans → OneOf number p plans → IsUnmade (MakingCalls p plans) s → IsCaused s → IsAnswer (DemoCalls number) s
+refused_is number p plans s made one none caused = answer_is number p plans s made one (none.called caused)
 
 -- ---- the statuses of printing
 abbrev pub PrintingEnds : Status → Type 0

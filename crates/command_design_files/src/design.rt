@@ -1,7 +1,8 @@
 // A design's file.
 ghost use Rattle.std.specs.Prelude.{◌≡◌, IfOk, IfErr};
 ghost use Rattle.io_edge.specs.Faults.{NoneFalls};
-ghost use Rattle.command_design_files.specs.Reading.{IsDesignRead, EndsDesign};
+ghost use Rattle.command_line.specs.Kind.{IsRead, EndsRead};
+ghost use Rattle.command_design_files.specs.Reading.{design_kind};
 
 use crate::bytes::{FILE_LIMIT, read_bytes};
 use crate::statuses::text_status;
@@ -18,8 +19,8 @@ pub fn read_design_file<S: Store>(
     name: &str,
     store: &mut S,
 ) -> Result<Design, Status>
-    ensures right { IfOk result (λ d. IsDesignRead file (S.held store.old) name.now d) }
-    ensures ends { IfErr result (λ e. EndsDesign file (S.held store.old) name.now (S.read_faults store.old name.now) (S.read_faults store.new name.now) e) }
+    ensures right { IfOk result (λ d. IsRead design_kind file (S.held store.old) name.now d) }
+    ensures ends { IfErr result (EndsRead design_kind file (S.held store.old) name.now (S.read_faults store.old name.now) (S.read_faults store.new name.now)) }
     ensures held { S.held store.new ≡ S.held store.old }
     ensures reads { NoneFalls (S.read_faults store.old) (S.read_faults store.new) }
     ensures writes { NoneFalls (S.write_faults store.old) (S.write_faults store.new) }

@@ -3,7 +3,8 @@ ghost use Rattle.std.specs.Prelude.{◌≡◌, IfOk, IfErr};
 ghost use Rattle.io_edge.specs.Faults.{NoneFalls};
 ghost use Rattle.qp_model.specs.problem.Parts.{design_of};
 ghost use Rattle.qp_model.specs.problem.Policy.{plans_of, IsPolicyFor};
-ghost use Rattle.command_design_files.specs.Reading.{IsPolicyRead, EndsPolicy};
+ghost use Rattle.command_line.specs.Kind.{IsRead, EndsRead};
+ghost use Rattle.command_design_files.specs.Reading.{policy_kind};
 
 use crate::bytes::{FILE_LIMIT, read_bytes};
 use crate::statuses::text_status;
@@ -21,10 +22,10 @@ pub fn read_policy_file<S: Store>(
     design: &Design,
     store: &mut S,
 ) -> Result<Policy, Status>
-    ensures right { IfOk result (λ p. IsPolicyRead (design_of design.now) file (S.held store.old) name.now (plans_of p)) }
+    ensures right { IfOk result (λ p. IsRead (policy_kind (design_of design.now)) file (S.held store.old) name.now (plans_of p)) }
     ensures sized { IfOk result (λ p. IsPolicyFor (design_of design.now) (plans_of p)) }
-    ensures ends { IfErr result (λ e. EndsPolicy (design_of design.now) file (S.held store.old) name.now (S.read_faults store.old name.now)
-        (S.read_faults store.new name.now) e) }
+    ensures ends { IfErr result (EndsRead (policy_kind (design_of design.now)) file (S.held store.old) name.now (S.read_faults store.old name.now)
+        (S.read_faults store.new name.now)) }
     ensures held { S.held store.new ≡ S.held store.old }
     ensures reads { NoneFalls (S.read_faults store.old) (S.read_faults store.new) }
     ensures writes { NoneFalls (S.write_faults store.old) (S.write_faults store.new) }

@@ -1,5 +1,5 @@
 -- A command that a file of a controller, of states or of cells ends.
-use Rattle.std.proofs.Common.{◌≡◌, ◌≢◌, inl, inr, ℕ, List, Option}
+use Rattle.std.proofs.Common.{◌≢◌, inl, inr, ℕ, List, Option}
 use Rattle.qp_model.specs.problem.Design.{Design}
 use Rattle.controller_text.specs.declared.bad_controller.BadController.{BadController}
 use Rattle.controller_text.specs.declared.bad_controller.BadController.TheVariants.{Line, Unsafe, Memory as no_space}

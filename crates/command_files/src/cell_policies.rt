@@ -3,7 +3,8 @@ ghost use Rattle.std.specs.Prelude.{◌≡◌, ◌≤◌, length, map, All, IfOk
 ghost use Rattle.io_edge.specs.Faults.{NoneFalls};
 ghost use Rattle.qp_model.specs.problem.Parts.{design_of};
 ghost use Rattle.qp_model.specs.problem.Policy.{plans_of, IsPolicyFor};
-ghost use Rattle.command_files.specs.Reading.{AreCellPoliciesRead, EndsCellPolicies};
+ghost use Rattle.command_line.specs.Kind.{IsRead, EndsRead};
+ghost use Rattle.command_files.specs.Reading.{cell_policies_kind};
 
 use cell_split::read_cell_policies;
 use command_design_files::{FILE_LIMIT, read_bytes, text_status};
@@ -22,11 +23,11 @@ pub fn read_cell_policies_file<S: Store>(
     store: &mut S,
 ) -> Result<Vec<Policy>, Status>
     requires { cells ≤ 64 }
-    ensures right { IfOk result (λ v. AreCellPoliciesRead (design_of design.now) cells file (S.held store.old) name.now (map plans_of v.items)) }
+    ensures right { IfOk result (λ v. IsRead (cell_policies_kind (design_of design.now) cells) file (S.held store.old) name.now (map plans_of v.items)) }
     ensures count { IfOk result (λ v. length v.items ≡ cells) }
     ensures sized { IfOk result (λ v. All (λ p. IsPolicyFor (design_of design.now) (plans_of p)) v.items) }
-    ensures ends { IfErr result (λ e. EndsCellPolicies (design_of design.now) cells file (S.held store.old) name.now
-        (S.read_faults store.old name.now) (S.read_faults store.new name.now) e) }
+    ensures ends { IfErr result (EndsRead (cell_policies_kind (design_of design.now) cells) file (S.held store.old) name.now
+        (S.read_faults store.old name.now) (S.read_faults store.new name.now)) }
     ensures held { S.held store.new ≡ S.held store.old }
     ensures reads { NoneFalls (S.read_faults store.old) (S.read_faults store.new) }
     ensures writes { NoneFalls (S.write_faults store.old) (S.write_faults store.new) }

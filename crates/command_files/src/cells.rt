@@ -1,7 +1,8 @@
 // A file of cells.
 ghost use Rattle.std.specs.Prelude.{◌≡◌, IfOk, IfErr};
 ghost use Rattle.io_edge.specs.Faults.{NoneFalls};
-ghost use Rattle.command_files.specs.Reading.{AreCellsRead, EndsCells};
+ghost use Rattle.command_line.specs.Kind.{IsRead, EndsRead};
+ghost use Rattle.command_files.specs.Reading.{cells_kind};
 
 use cell_file::read_cells;
 use command_design_files::{controller_status, read_bytes};
@@ -20,8 +21,8 @@ pub fn read_cells_file<S: Store>(
     name: &str,
     store: &mut S,
 ) -> Result<Vec<Controller>, Status>
-    ensures right { IfOk result (λ v. AreCellsRead file (S.held store.old) name.now v.items) }
-    ensures ends { IfErr result (λ e. EndsCells file (S.held store.old) name.now (S.read_faults store.old name.now) (S.read_faults store.new name.now) e) }
+    ensures right { IfOk result (λ v. IsRead cells_kind file (S.held store.old) name.now v.items) }
+    ensures ends { IfErr result (EndsRead cells_kind file (S.held store.old) name.now (S.read_faults store.old name.now) (S.read_faults store.new name.now)) }
     ensures held { S.held store.new ≡ S.held store.old }
     ensures reads { NoneFalls (S.read_faults store.old) (S.read_faults store.new) }
     ensures writes { NoneFalls (S.write_faults store.old) (S.write_faults store.new) }

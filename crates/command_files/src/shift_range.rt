@@ -2,7 +2,8 @@
 ghost use Rattle.std.specs.Prelude.{◌≡◌, IfOk, IfErr};
 ghost use Rattle.io_edge.specs.Faults.{NoneFalls};
 ghost use Rattle.state_files.specs.RangeText.{IsShiftRange};
-ghost use Rattle.command_files.specs.Reading.{IsRangeRead, EndsRange};
+ghost use Rattle.command_line.specs.Kind.{IsRead, EndsRead};
+ghost use Rattle.command_files.specs.Reading.{range_kind};
 
 use command_design_files::{FILE_LIMIT, read_bytes, text_status};
 use command_line::Status;
@@ -20,9 +21,9 @@ pub fn read_range_file<S: Store>(
     n: usize,
     store: &mut S,
 ) -> Result<Mat, Status>
-    ensures right { IfOk result (λ m. IsRangeRead n file (S.held store.old) name.now m) }
+    ensures right { IfOk result (λ m. IsRead (range_kind n) file (S.held store.old) name.now m) }
     ensures sized { IfOk result (IsShiftRange n) }
-    ensures ends { IfErr result (λ e. EndsRange n file (S.held store.old) name.now (S.read_faults store.old name.now) (S.read_faults store.new name.now) e) }
+    ensures ends { IfErr result (EndsRead (range_kind n) file (S.held store.old) name.now (S.read_faults store.old name.now) (S.read_faults store.new name.now)) }
     ensures held { S.held store.new ≡ S.held store.old }
     ensures reads { NoneFalls (S.read_faults store.old) (S.read_faults store.new) }
     ensures writes { NoneFalls (S.write_faults store.old) (S.write_faults store.new) }

@@ -1,7 +1,8 @@
 // A file of shifts turn by turn.
 ghost use Rattle.std.specs.Prelude.{◌≡◌, IfOk, IfErr};
 ghost use Rattle.io_edge.specs.Faults.{NoneFalls};
-ghost use Rattle.command_files.specs.Reading.{AreTurnShiftsRead, EndsTurnShifts};
+ghost use Rattle.command_line.specs.Kind.{IsRead, EndsRead};
+ghost use Rattle.command_files.specs.Reading.{shifts_kind};
 
 use command_design_files::{FILE_LIMIT, read_bytes, text_status};
 use command_line::Status;
@@ -19,9 +20,9 @@ pub fn read_shifts_file<S: Store>(
     turns: usize,
     store: &mut S,
 ) -> Result<PackedRows, Status>
-    ensures right { IfOk result (λ m. AreTurnShiftsRead n turns file (S.held store.old) name.now m) }
-    ensures ends { IfErr result (λ e. EndsTurnShifts n turns file (S.held store.old) name.now
-        (S.read_faults store.old name.now) (S.read_faults store.new name.now) e) }
+    ensures right { IfOk result (λ m. IsRead (shifts_kind n turns) file (S.held store.old) name.now m) }
+    ensures ends { IfErr result (EndsRead (shifts_kind n turns) file (S.held store.old) name.now
+        (S.read_faults store.old name.now) (S.read_faults store.new name.now)) }
     ensures held { S.held store.new ≡ S.held store.old }
     ensures reads { NoneFalls (S.read_faults store.old) (S.read_faults store.new) }
     ensures writes { NoneFalls (S.write_faults store.old) (S.write_faults store.new) }

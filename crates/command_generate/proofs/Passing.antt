@@ -21,7 +21,7 @@ use Rattle.design_engine.specs.Bounds.{margin_of}
 use Rattle.design_engine.specs.Built.{IsBuilt}
 use Rattle.design_engine.specs.Refusals.{HasCause, PassesMargin, PassesSizes, PassesExponent, PassesAll}
 use Rattle.qp_model.specs.declared.refusal.Refusal.{Refusal}
-use Rattle.command_generate.specs.Made.{Passes}
+use Rattle.command_generate.specs.Made.{PassesWith}
 use Rattle.qp_model.specs.declared.refusal.Refusal.TheVariants.{TooWide}
 
 abbrev pub NoCause : Design → Targets → Plans → Type 0
@@ -71,5 +71,5 @@ own_passes p plans c b none built =
     let bits : PassesBits d (aim_of t m) s c.fraction_bits = record { steps = few; error = error; choice = built.made.bits } in
     all d t plans m s c.fraction_bits none exponent bits
 
-pub built_passes : (p : DesignParts) (plans : Plans) (c : Numbers) (b : Printed) → NoCause (design_of p) (targets_of p) plans → IsBuilt p plans c b → Passes p plans
+pub built_passes : (p : DesignParts) (plans : Plans) (c : Numbers) (b : Printed) → NoCause (design_of p) (targets_of p) plans → IsBuilt p plans c b → PassesWith (PassesAll (design_of p) (targets_of p) plans)
 built_passes p plans c b none built = record { margin = margin_of b; exponent = c.step_exponent; bits = c.fraction_bits; all = own_passes p plans c b none built }

@@ -1,5 +1,5 @@
 -- A design is known by its numbers.
-use Rattle.std.proofs.Common.{◌≡◌, inl, inr, ap, subst, unsigned_abs}
+use Rattle.std.proofs.Common.{◌≡◌, ap, subst, unsigned_abs}
 use Rattle.qp_model.specs.problem.Design.{Design}
 use Rattle.qp_model.specs.problem.Policy.{Plans}
 use Rattle.qp_model.specs.problem.Parts.{DesignNumbers, design_numbers, design_of}
@@ -7,7 +7,7 @@ use Rattle.qp_model.specs.declared.design_parts.DesignParts.{DesignParts}
 use Rattle.design_engine.specs.Targets.{Targets, targets_of}
 use Rattle.design_engine.specs.Refusals.{HasCause, PassesAll}
 use Rattle.command_design_files.proofs.Designs.{same_design}
-use Rattle.command_generate.specs.Made.{MakingCalls}
+use Rattle.command_generate.specs.Made.{CallsFor, MakingCalls}
 use Rattle.command_line.specs.declared.status.Status.{Status}
 
 abbrev targets_from : DesignNumbers → Targets
@@ -20,7 +20,4 @@ pub along : (F : Design → Targets → Type 0) (p q : DesignParts) → design_n
 along F p q e h = subst (λ (t : Targets). F (design_of q) t) (same_targets p q e) (subst (λ (d : Design). F d (targets_of p)) (same_design p q e) h)
 
 pub making_same : (p q : DesignParts) → design_numbers p ≡ design_numbers q → (plans : Plans) (s : Status) → MakingCalls p plans s → MakingCalls q plans s
-making_same p q e plans s (inl why) = inl (record { refusal = why.refusal; cause = along (λ d t. HasCause d t plans why.refusal) p q e why.cause; is = why.is })
-making_same p q e plans s (inr done) =
-    let passes = done.1 in
-    inr (done.0, record { margin = passes.margin; exponent = passes.exponent; bits = passes.bits; all = along (λ d t. PassesAll d t plans passes.margin passes.exponent passes.bits) p q e passes.all })
+making_same p q e plans s = along (λ d t. CallsFor (HasCause d t plans) (PassesAll d t plans) s) p q e

@@ -1,88 +1,82 @@
--- What is written, of the design and the policy that were read.
-use Rattle.std.proofs.Common.{◌≢◌, ℕ, ◌≤◌, List, length, Option, Some, subst, arith}
-use Rattle.io_edge.specs.Faults.{Files, IsCutShort}
-use Rattle.qp_model.specs.problem.Policy.{Plans}
+-- What `generate` does, and what is written of what was made.
+use Rattle.std.proofs.Common.{◌≡◌, inl, inr, refl, ℕ, ◌≤◌, List, length, Option, Some, None, arith}
+use Rattle.std.specs.Prelude.{IfSome, IsSomeAnd}
+use Rattle.io_edge.specs.Faults.{Files}
 use Rattle.qp_model.specs.problem.Parts.{design_of}
 use Rattle.qp_model.specs.machine.Controller.{Numbers}
-use Rattle.qp_model.specs.declared.design_parts.DesignParts.{DesignParts}
 use Rattle.qp_model.specs.bounds.Printed.{Printed}
 use Rattle.qp_model.specs.text.ControllerText.{IsControllerText}
+use Rattle.design_engine.specs.Targets.{targets_of}
+use Rattle.design_engine.specs.Refusals.{HasCause, PassesAll}
 use Rattle.controller_text.proofs.Lengths.{text_length_law}
-use Rattle.command_line.specs.Words.{word_of, IsGenerate}
+use Rattle.command_line.specs.Words.{word_of}
 use Rattle.command_line.specs.Limit.{file_limit}
-use Rattle.command_line.specs.Answers.{FileHolds}
-use Rattle.command_design_files.specs.Texts.{DesignRight, PolicyRight}
-use Rattle.command_generate.specs.Made.{IsMadeOf}
-use Rattle.command_generate.specs.Inputs.{AreInputsRead}
-use Rattle.command_generate.specs.Writing.{AreTextsFor, AreTextsFrom, AreWritten, IsSecondCut, IsAnswered}
-use Rattle.command_generate.specs.Generate.{GenerateCalls, HoldsInputs, IsMadeFrom, IsGenerated, IsControllerCut, IsReportCut}
+use Rattle.command_line.specs.Script.{ends, reads, writing_act, calls_of, leaves_at, leaves_of}
+use Rattle.command_line.specs.TwoTexts.{BothStand, Two}
+use Rattle.command_line.proofs.Gathering.{whole}
+use Rattle.command_line.proofs.Following.{IsSoundWork, left_told}
+use Rattle.command_line.proofs.TwoTexts.{some_weaker}
+use Rattle.command_design_files.specs.Reading.{policy_kind}
+use Rattle.command_design_files.proofs.Stopping.{design_refused, policy_refused}
+use Rattle.command_generate.specs.Made.{CallsFor, IsMadeOf, AreTextsOf}
+use Rattle.command_generate.specs.Generate.{generate_act, generate_work, IsMadeFrom, AreMadeAndWritten, IsGenerated}
+use Rattle.command_generate.proofs.Making.{making_telling}
+use Rattle.command_generate.proofs.SameDesign.{along}
+use Rattle.command_line.specs.declared.status.Status.{Status}
 use Rattle.command_line.specs.declared.status.Status.TheVariants.{Done}
-use Rattle.command_generate.proofs.TwoTexts.{MakesTwo, first_stands, kept_or_front}
 
--- a controller's text is no longer than a file may be
+-- ---- its script
+pub generate_sound : IsSoundWork generate_work
+generate_sound = record {
+  sound = (
+    omega arith,
+    design_refused 1,
+    λ p q same contents s.
+        along (λ d t. calls_of (reads 2 (policy_kind d) (λ plans. ends (writing_act (CallsFor (HasCause d t plans) (PassesAll d t plans)) ⊥ (λ words u old new. ⊥)))) contents s) p q same,
+    λ p. (omega arith, policy_refused (design_of p) 2, whole (λ plans. ends (generate_act p plans)), λ plans. making_telling (HasCause (design_of p) (targets_of p) plans) _ (λ never. never)),
+  );
+  first = inl refl;
+}
+
+-- ---- a text of a controller is no longer than a file may be
 pub controller_short : (text : List ℕ) (c : Numbers) → IsControllerText text c → length text ≤ file_limit
 controller_short text c is = omega (arith, text_length_law text c is)
 
--- the first two names hold them
-pub inputs_of : (words : List (List ℕ)) (files : Files) (p : DesignParts) (plans : Plans) → AreInputsRead words (Some files) p plans → HoldsInputs (files (word_of words 1)) (files (word_of words 2)) p plans
-inputs_of words files p plans read = record {
-  design_right = subst (λ (o : Option (List ℕ)). FileHolds file_limit (DesignRight p) o) read.design.told read.design.right;
-  policy_right = subst (λ (o : Option (List ℕ)). FileHolds file_limit (PolicyRight (design_of p) plans) o) read.policy.told read.policy.right;
+-- both texts stand, of what was made so
+abbrev pub made_and_written : (Made Of : Numbers → Printed → Type 0) (first second : ℕ) (words : List (List ℕ)) (files new : Files) →
+    (two : Two (AreTextsOf Made (word_of words second)) (BothStand files new (word_of words first) (word_of words second))) → Of two.are.controller two.are.bounds → AreMadeAndWritten Of first second words files new
+made_and_written Made Of first second words files new two of = record {
+  controller = two.are.controller;
+  bounds = two.are.bounds;
+  made = of;
+  text = two.text;
+  is_text = two.are.is_text;
+  short = controller_short two.text two.are.controller two.are.is_text;
+  report = two.report;
+  is_report = two.are.is_report;
+  controller_file = two.true_of.first;
+  report_file = two.true_of.second;
+  others = two.true_of.others;
 }
 
-abbrev made_from : (design policy : Option (List ℕ)) (p : DesignParts) (plans : Plans) (c : Numbers) (b : Printed) → HoldsInputs design policy p plans → IsMadeOf p plans c b → IsMadeFrom design policy c b
-made_from design policy p plans c b inputs made = record { p = p; plans = plans; inputs = inputs; built = made.built; certified = made.certified; targets = made.targets }
-
-module _ (words : List (List ℕ)) (p : DesignParts) (plans : Plans) (text report : List ℕ) (texts : AreTextsFor p plans (word_of words 4) text report) (files new : Files)
-    (inputs : HoldsInputs (files (word_of words 1)) (files (word_of words 2)) p plans) where
-  abbrev made : IsMadeFrom (files (word_of words 1)) (files (word_of words 2)) texts.controller texts.bounds
-  made = made_from (files (word_of words 1)) (files (word_of words 2)) p plans texts.controller texts.bounds inputs texts.made
-
-  abbrev pub generated : word_of words 4 ≢ word_of words 3 → AreWritten files new (word_of words 3) (word_of words 4) text report → IsGenerated words files new
-  generated apart written =
-      let first = first_stands files written.mid new (word_of words 3) (word_of words 4) text apart written.first written.second.others in
-      record {
-        controller = texts.controller;
-        bounds = texts.bounds;
-        made = made;
-        text = text;
-        is_text = texts.is_text;
-        short = controller_short text texts.controller texts.is_text;
-        report = report;
-        is_report = texts.is_report;
-        controller_file = first.here;
-        report_file = written.second.here;
-        others = first.others;
-      }
-
-  pub controller_cut : IsCutShort files new (word_of words 3) text → IsControllerCut words files new
-  controller_cut cut = record { controller = texts.controller; bounds = texts.bounds; made = made; text = text; is_text = texts.is_text; cut = cut }
-
-  abbrev pub report_cut : word_of words 4 ≢ word_of words 3 → IsSecondCut files new (word_of words 3) (word_of words 4) text report → IsReportCut words files new
-  report_cut apart written =
-      let first = first_stands files written.mid new (word_of words 3) (word_of words 4) text apart written.first written.second.others in
-      record {
-        controller = texts.controller;
-        bounds = texts.bounds;
-        made = made;
-        text = text;
-        is_text = texts.is_text;
-        short = controller_short text texts.controller texts.is_text;
-        report = report;
-        is_report = texts.is_report;
-        controller_file = first.here;
-        report_file = kept_or_front files written.mid new (word_of words 3) (word_of words 4) text report apart written.first written.second.here;
-        others = first.others;
-      }
-
--- the texts of a design and a policy, for the command that writes them
-pub generate_made : (words : List (List ℕ)) → IsGenerate words → (text report : List ℕ) (held : Option Files) → AreTextsFrom words held text report → IsAnswered words held Done →
-    MakesTwo (λ k. GenerateCalls (k 1) (k 2)) 3 4 (IsGenerated words) (IsControllerCut words) (IsReportCut words) words held text report
-generate_made words is text report held from answer = record {
-  Read = λ o. AreInputsRead words o from.p from.plans;
-  read = from.read;
-  answer = answer;
-  both = λ files new read are. generated words from.p from.plans text report from.texts files new (inputs_of words files from.p from.plans read) is.report_controller are;
-  first_cut = λ files new read cut. controller_cut words from.p from.plans text report from.texts files new (inputs_of words files from.p from.plans read) cut;
-  second_cut = λ files new read cut. report_cut words from.p from.plans text report from.texts files new (inputs_of words files from.p from.plans read) is.report_controller cut;
-}
+-- ---- what it left
+pub generated : (words : List (List ℕ)) (s : Status) (held now : Option Files) → s ≡ Done → leaves_of generate_work.script words s held now → IfSome held (λ files. IsSomeAnd now (IsGenerated words files))
+generated words s None now is left = tt
+generated words s (Some files) now is left = go (left_told words s files now generate_work.script left)
+  where
+    go : leaves_at generate_work.script (λ i. files (word_of words i)) words s (Some files) now → IsSomeAnd now (IsGenerated words files)
+    go (inl none) = absurd (none.done is)
+    go (inr (p, design, inl none)) = absurd (none.done is)
+    go (inr (p, design, inr (plans, policy, leaves))) =
+        some_weaker now _ _
+        (λ new two.
+        let made = two.are.made in
+        made_and_written (IsMadeOf p plans) (IsMadeFrom (files (word_of words 1)) (files (word_of words 2))) 3 4 words files new two (record {
+          p = p;
+          plans = plans;
+          inputs = record { design_right = design; policy_right = policy };
+          built = made.built;
+          certified = made.certified;
+          targets = made.targets;
+        }))
+        (leaves.both is)

@@ -1,6 +1,6 @@
--- What `generate` is called to answer by what its first two files hold, and what it leaves in the store.
-use Rattle.std.specs.Prelude.{◌≡◌, ◌≢◌, ◌⊎◌, ℕ, ◌≤◌, List, length, Option, Some, IsSomeAnd}
-use Rattle.io_edge.specs.Faults.{Files, IsCutShort, IsProperPrefix}
+-- What `generate` does with what its first two files hold, and what it leaves in the store.
+use Rattle.std.specs.Prelude.{◌≡◌, ◌≢◌, ℕ, ◌≤◌, List, length, Option, Some}
+use Rattle.io_edge.specs.Faults.{Files}
 use Rattle.qp_model.specs.problem.Policy.{Plans}
 use Rattle.qp_model.specs.problem.Parts.{design_of}
 use Rattle.qp_model.specs.machine.Controller.{Numbers}
@@ -13,25 +13,33 @@ use Rattle.design_engine.specs.Built.{IsBuilt}
 use Rattle.command_line.specs.Words.{word_of}
 use Rattle.command_line.specs.Limit.{file_limit}
 use Rattle.command_line.specs.Answers.{FileHolds}
+use Rattle.command_line.specs.Deeds.{Deeds}
+use Rattle.command_line.specs.Script.{Act, Script, ends, reads, Work, deeds_of_work}
+use Rattle.command_line.specs.TwoTexts.{two_texts, two_work}
 use Rattle.command_design_files.specs.Texts.{DesignRight, PolicyRight}
-use Rattle.command_design_files.specs.Reading.{ReadsDesign, ReadsPolicy}
-use Rattle.command_generate.specs.Made.{MakingCalls, IsReport}
-use Rattle.command_line.specs.declared.status.Status.{Status}
+use Rattle.command_design_files.specs.Reading.{design_kind, policy_kind}
+use Rattle.command_generate.specs.Made.{MakingCalls, IsMadeOf, IsReport, AreTextsOf}
 
--- what the contents of a design's and a policy's file call for
-abbrev pub GenerateCalls : (design policy : Option (List ℕ)) → Status → Type 0
-GenerateCalls design policy s = ReadsDesign 1 design (λ p. ReadsPolicy (design_of p) 2 policy (MakingCalls p)) s
+-- ---- what it does: it reads a design and a policy for it, and writes the texts of what is made of them
+abbrev pub generate_act : DesignParts → Plans → Act
+generate_act p plans = two_texts (MakingCalls p plans) (λ words. AreTextsOf (IsMadeOf p plans) (word_of words 4)) 3 4
 
+abbrev pub generate_after : DesignParts → Script
+generate_after p = reads 2 (policy_kind (design_of p)) (λ plans. ends (generate_act p plans))
+
+abbrev pub generate_work : Work
+generate_work = two_work (reads 1 design_kind generate_after) 3 4
+
+-- its row of the table of commands
+abbrev pub generate_deeds : Deeds
+generate_deeds = deeds_of_work generate_work
+
+-- ---- what is written
 -- two files hold a design and a policy for it
 pub record HoldsInputs (design policy : Option (List ℕ)) (p : DesignParts) (plans : Plans) : Type 0 where
   pub design_right : FileHolds file_limit (DesignRight p) design
   pub policy_right : FileHolds file_limit (PolicyRight (design_of p) plans) policy
 
--- the file at this position is read: the first, and the second where the first holds a design
-abbrev pub GenerateReaches : (design : Option (List ℕ)) → ℕ → Type 0
-GenerateReaches design file = (file ≡ 1) ⊎ ((file ≡ 2) × (p : DesignParts) × FileHolds file_limit (DesignRight p) design)
-
--- ---- what is written
 -- the controller and its bounds are built of the design and the policy in the files, and certified, and the bounds are within the targets
 pub record IsMadeFrom (design policy : Option (List ℕ)) (c : Numbers) (b : Printed) : Type 0 where
   pub p : DesignParts
@@ -41,40 +49,21 @@ pub record IsMadeFrom (design policy : Option (List ℕ)) (c : Numbers) (b : Pri
   pub certified : IsCertified (design_of p) c b
   pub targets : IsWithinTargets (targets_of p) b
 
--- The third name holds the text of a controller, no longer than a file may be, and the fourth the report of its bounds; every other name holds what it held.
--- They are those of the design and the policy that the first two names held.
-pub record IsGenerated (words : List (List ℕ)) (files new : Files) : Type 0 where
+-- The name at the first of these positions holds the text of a controller, no longer than a file may be, and that at the second the report of its bounds;
+-- every other name holds what it held. They are made so.
+pub record AreMadeAndWritten (Made : Numbers → Printed → Type 0) (first second : ℕ) (words : List (List ℕ)) (files new : Files) : Type 0 where
   pub controller : Numbers
   pub bounds : Printed
-  pub made : IsMadeFrom (files (word_of words 1)) (files (word_of words 2)) controller bounds
+  pub made : Made controller bounds
   pub text : List ℕ
   pub is_text : IsControllerText text controller
   pub short : length text ≤ file_limit
   pub report : List ℕ
-  pub is_report : IsReport (word_of words 4) bounds report
-  pub controller_file : new (word_of words 3) ≡ Some text
-  pub report_file : new (word_of words 4) ≡ Some report
-  pub others : (q : List ℕ) → q ≢ word_of words 3 → q ≢ word_of words 4 → new q ≡ files q
+  pub is_report : IsReport (word_of words second) bounds report
+  pub controller_file : new (word_of words first) ≡ Some text
+  pub report_file : new (word_of words second) ≡ Some report
+  pub others : (q : List ℕ) → q ≢ word_of words first → q ≢ word_of words second → new q ≡ files q
 
--- the controller's text was cut short, and every other name holds what it held
-pub record IsControllerCut (words : List (List ℕ)) (files new : Files) : Type 0 where
-  pub controller : Numbers
-  pub bounds : Printed
-  pub made : IsMadeFrom (files (word_of words 1)) (files (word_of words 2)) controller bounds
-  pub text : List ℕ
-  pub is_text : IsControllerText text controller
-  pub cut : IsCutShort files new (word_of words 3) text
-
--- the controller's text stands whole, the report's name holds what it held or a proper prefix of the report, and every other name holds what it held
-pub record IsReportCut (words : List (List ℕ)) (files new : Files) : Type 0 where
-  pub controller : Numbers
-  pub bounds : Printed
-  pub made : IsMadeFrom (files (word_of words 1)) (files (word_of words 2)) controller bounds
-  pub text : List ℕ
-  pub is_text : IsControllerText text controller
-  pub short : length text ≤ file_limit
-  pub report : List ℕ
-  pub is_report : IsReport (word_of words 4) bounds report
-  pub controller_file : new (word_of words 3) ≡ Some text
-  pub report_file : (new (word_of words 4) ≡ files (word_of words 4)) ⊎ IsSomeAnd (new (word_of words 4)) (IsProperPrefix report)
-  pub others : (q : List ℕ) → q ≢ word_of words 3 → q ≢ word_of words 4 → new q ≡ files q
+-- The third name holds the text of a controller, and the fourth the report of its bounds, made of the design and the policy that the first two names held.
+abbrev pub IsGenerated : (words : List (List ℕ)) → (files new : Files) → Type 0
+IsGenerated words files new = AreMadeAndWritten (IsMadeFrom (files (word_of words 1)) (files (word_of words 2))) 3 4 words files new

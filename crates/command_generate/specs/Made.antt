@@ -4,6 +4,7 @@ use Rattle.qp_model.specs.problem.Policy.{Plans}
 use Rattle.qp_model.specs.problem.Parts.{design_of}
 use Rattle.qp_model.specs.machine.Controller.{Numbers}
 use Rattle.qp_model.specs.bounds.Certified.{IsCertified}
+use Rattle.qp_model.specs.text.ControllerText.{IsControllerText}
 use Rattle.qp_model.specs.declared.design_parts.DesignParts.{DesignParts}
 use Rattle.qp_model.specs.bounds.Printed.{Printed}
 use Rattle.qp_model.specs.declared.bounds.Margin.{Margin}
@@ -17,23 +18,29 @@ use Rattle.command_line.specs.Words.{IsJson}
 use Rattle.command_line.specs.declared.status.Status.{Status}
 use Rattle.command_line.specs.declared.status.Status.TheVariants.{Done}
 
--- the design with the policy is refused, by the first test that fails
-pub record IsRefusedBy (p : DesignParts) (plans : Plans) (s : Status) : Type 0 where
+-- ---- the answer of a generator, by the causes of its refusals and by what passes all its tests
+-- refused, by the first test that fails
+pub record IsRefusedFor (Cause : Refusal → Type 0) (s : Status) : Type 0 where
   pub refusal : Refusal
-  pub cause : HasCause (design_of p) (targets_of p) plans refusal
+  pub cause : Cause refusal
   pub is : s ≡ status_of refusal
 
--- a design with a policy passes every test
-pub record Passes (p : DesignParts) (plans : Plans) : Type 0 where
+-- every test is passed, with a margin, a step exponent and fraction bits
+pub record PassesWith (All : Margin → (s f : ℕ) → Type 0) : Type 0 where
   pub margin : Margin
   pub exponent : ℕ
   pub bits : ℕ
-  pub all : PassesAll (design_of p) (targets_of p) plans margin exponent bits
+  pub all : All margin exponent bits
 
--- what a design with a policy calls for: it is refused, or passes every test
+-- the one or the other is called for
+abbrev pub CallsFor : (Cause : Refusal → Type 0) → (All : Margin → (s f : ℕ) → Type 0) → Status → Type 0
+CallsFor Cause All s = IsRefusedFor Cause s ⊎ ((s ≡ Done) × PassesWith All)
+
+-- what a design with a policy calls for
 abbrev pub MakingCalls : DesignParts → Plans → Status → Type 0
-MakingCalls p plans s = IsRefusedBy p plans s ⊎ ((s ≡ Done) × Passes p plans)
+MakingCalls p plans s = CallsFor (HasCause (design_of p) (targets_of p) plans) (PassesAll (design_of p) (targets_of p) plans) s
 
+-- ---- what is made
 -- the controller and its bounds are built of the design and the policy, and certified, and the bounds are within the targets
 pub record IsMadeOf (p : DesignParts) (plans : Plans) (c : Numbers) (b : Printed) : Type 0 where
   pub built : IsBuilt p plans c b
@@ -44,3 +51,11 @@ pub record IsMadeOf (p : DesignParts) (plans : Plans) (c : Numbers) (b : Printed
 pub record IsReport (name : List ℕ) (b : Printed) (report : List ℕ) : Type 0 where
   pub json : IsJson name → report ≡ report_json b
   pub text : ¬ IsJson name → report ≡ report_text b
+
+-- the text of a controller and the report of its bounds, which are made so
+pub record AreTextsOf (Made : Numbers → Printed → Type 0) (report_name text report : List ℕ) : Type 0 where
+  pub controller : Numbers
+  pub bounds : Printed
+  pub made : Made controller bounds
+  pub is_text : IsControllerText text controller
+  pub is_report : IsReport report_name bounds report

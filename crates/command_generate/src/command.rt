@@ -2,11 +2,11 @@
 ghost use Rattle.std.specs.Prelude.{◌≡◌, IfSome, IsSomeAnd};
 ghost use Rattle.command_line.specs.Words.{IsGenerate};
 ghost use Rattle.command_line.specs.Does.{DoesInStore};
-ghost use Rattle.command_generate.specs.Generate.{IsGenerated};
-ghost use Rattle.command_generate.specs.Deeds.{generate_deeds};
+ghost use Rattle.command_generate.specs.Generate.{IsGenerated, generate_deeds};
 
-use crate::texts::{texts_for, write_texts};
-use command_line::Status;
+use crate::texts::texts_of;
+use command_design_files::{read_design_file, read_policy_file};
+use command_line::{Status, write_texts};
 use io_edge::{Store, Words};
 use std::alloc::Global;
 
@@ -19,8 +19,15 @@ pub fn generate<S: Store>(alloc: Global, words: &Words, store: &mut S) -> Status
     // And all that it does.
     ensures does { DoesInStore S.Store words.now generate_deeds store.old store.new result }
 {
-    match texts_for(alloc, words, store) {
-        Ok(texts) => write_texts(3, words.at(3), 4, words.at(4), &texts, store),
+    let design = match read_design_file(alloc, 1, words.at(1), store) {
+        Ok(design) => design,
+        Err(ended) => return ended,
+    };
+    match read_policy_file(alloc, 2, words.at(2), &design, store) {
+        Ok(policy) => {
+            let made = texts_of(alloc, &design, &policy, words.at(4));
+            write_texts(words, 3, 4, made, store)
+        }
         Err(status) => status,
     }
 }

@@ -2,13 +2,11 @@
 #![tactic(auto)]
 
 mod command;
-mod inputs;
 mod made;
 mod texts;
 
 pub use command::generate;
 // Handed on with `texts_made`, which takes what is made: a crate above that names fewer others is stamped on fewer paths.
 pub use design_engine::{Made, row_violations};
-pub use inputs::{DesignWithPolicy, read_inputs};
 pub use made::make_controller;
-pub use texts::{Texts, texts_made, write_texts};
+pub use texts::texts_made;

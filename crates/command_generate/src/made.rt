@@ -1,10 +1,11 @@
 // A controller and its bounds.
-ghost use Rattle.std.specs.Prelude.{◌≡◌, ◌≢◌, ◌⊎◌, pos, IfOk, IfErr};
+ghost use Rattle.std.specs.Prelude.{◌≡◌, pos, IfOk, IfErr};
 ghost use Rattle.qp_model.specs.problem.Parts.{design_of};
 ghost use Rattle.qp_model.specs.problem.Policy.{plans_of, IsPolicyFor};
 ghost use Rattle.qp_model.specs.bounds.Printed.{printed};
 ghost use Rattle.design_engine.specs.Bounds.{printed_multiplier, stated_cost};
 ghost use Rattle.command_line.specs.Answers.{IsAnswer};
+ghost use Rattle.command_line.specs.TwoTexts.{IsUnmade};
 ghost use Rattle.command_generate.specs.Made.{MakingCalls, IsMadeOf};
 
 use command_line::Status;
@@ -19,8 +20,7 @@ pub fn make_controller(alloc: Global, design: &Design, policy: &Policy) -> Resul
     ensures errors { IfOk result (λ made.
         made.eps ≡ pos (stated_cost (design_of design.now) (printed_multiplier (printed made.bounds)) made.controller.fraction_bits)) }
     ensures called { IfOk result (λ _. IsAnswer (MakingCalls design.now (plans_of policy.now)) Status.Done) }
-    ensures refused { IfErr result (λ e. (e ≡ Status.Memory) ⊎ IsAnswer (MakingCalls design.now (plans_of policy.now)) e) }
-    ensures not_done { IfErr result (λ e. e ≢ Status.Done) }
+    ensures unmade { IfErr result (IsUnmade (MakingCalls design.now (plans_of policy.now))) }
 {
     match generate(alloc, design, policy) {
         Ok(made) => Ok(made),

@@ -1,8 +1,7 @@
 -- A certified controller that a file holds, solved from grid states of its design's box.
-use Rattle.std.proofs.Common.{◌≡◌, ◌⊎◌, ◌∙◌, inl, inr, ℕ, ◌<◌, ◌≤◌, List, ◌++◌, length, Option, Some, None, refl, sym, ap, subst, arith}
-use Rattle.std.specs.Prelude.{IfSome, IsSomeAnd}
+use Rattle.std.proofs.Common.{◌≡◌, ◌∙◌, inl, inr, ℕ, ◌<◌, ◌≤◌, List, length, Option, Some, refl, sym, ap, subst, arith}
 use Rattle.std.proofs.lemmas.List.{append-nil}
-use Rattle.io_edge.specs.Faults.{Files, GrowsByPart}
+use Rattle.io_edge.specs.Faults.{Files}
 use Rattle.mat_int.specs.Matrix.{Matrix, row_of}
 use Rattle.qp_model.specs.problem.Design.{Design}
 use Rattle.qp_model.specs.problem.Parts.{design_of}
@@ -12,13 +11,12 @@ use Rattle.qp_model.specs.bounds.Built.{HasSizesOf}
 use Rattle.qp_model.specs.bounds.Certified.{IsCertified}
 use Rattle.qp_model.specs.bounds.Printed.{Printed}
 use Rattle.controller_file.proofs.Uniqueness.{one_controller}
-use Rattle.plan_lines.specs.Lines.{plan_lines}
 use Rattle.plan_lines.specs.Inside.{AreInside}
 use Rattle.plan_lines.specs.Printing.{ArePrinted, AreFirstLines, IsSolved, lines_of_plans}
 use Rattle.plan_lines.proofs.Acting.{nothing_shown, lines_shown}
 use Rattle.command_line.specs.Words.{word_of}
 use Rattle.command_line.specs.Limit.{file_limit}
-use Rattle.command_line.specs.Answers.{Contents, ForContents, FileHolds}
+use Rattle.command_line.specs.Answers.{Contents, FileHolds}
 use Rattle.command_line.specs.Deeds.{IsCalledFor}
 use Rattle.command_line.specs.Script.{shows_of}
 use Rattle.command_line.proofs.Results.{both_some}

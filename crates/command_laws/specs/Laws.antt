@@ -8,7 +8,7 @@ use Rattle.command_line.specs.Words.{word_of}
 use Rattle.command_line.specs.declared.status.Status.{Status}
 use Rattle.command_generate.specs.Generate.{IsGenerated}
 use Rattle.command_solve.specs.Deeds.{solve_deeds}
-use Rattle.command_lean.specs.Lean.{IsLeanWritten}
+use Rattle.command_make.specs.Lean.{IsLeanWritten}
 use Rattle.command_split.specs.Split.{IsSplitWritten}
 use Rattle.command_serve.specs.Deeds.{serve_deeds}
 use Rattle.command_laws.specs.Runs.{HasAnswered, HoldsGridStates, IsSolvedAsCertified, IsServedAsCertified}

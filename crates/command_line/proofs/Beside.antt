@@ -17,8 +17,8 @@ IsSilent (reads file k next) = (x : k.Value) → IsSilent (next x)
 IsSilent (tests Refuses Passes next) = IsSilent next
 
 module _ (contents : Contents) (words : List (List ℕ)) (s : Status) (held now : Option Files) (old : List ℕ) where
-  nothing : IsNothing s held now → IsNothing s old old
-  nothing none = record { done = none.done; write = none.write; same = refl }
+  nothing : {Why : Type 0} → IsNothing Why s held now → IsNothing Why s old old
+  nothing none = record { done = none.done; write = none.write; why = none.why; same = refl }
 
   shown : (script : Script) → IsSilent script → leaves_at script contents words s held now → shows_of script contents s old old
   shown (ends a) silent h = silent s old

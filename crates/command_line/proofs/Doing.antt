@@ -6,8 +6,8 @@ use Rattle.io_edge.specs.declared.store.Store.{Ghosts as Disk}
 use Rattle.io_edge.specs.declared.sink.Sink.{Ghosts as Screen}
 use Rattle.command_line.specs.Words.{word_of}
 use Rattle.command_line.specs.Answers.{Contents, ForContents, IsAnswer, IsCaused}
-use Rattle.command_line.specs.Deeds.{Deeds, IsCalledFor, UsesNoFile, IsUnwritten, IsBeforePrinting, IsUnprinted, WriteFailed, NoneRises}
-use Rattle.command_line.specs.Does.{IsTelling, Does, DoesInStore}
+use Rattle.command_line.specs.Deeds.{Deeds, IsCalledFor, UsesNoFile, IsBeforePrinting, WriteFailed, NoneRises}
+use Rattle.command_line.specs.Does.{IsTelling, Does}
 use Rattle.command_line.proofs.Composing.{some_contents}
 use Rattle.command_line.specs.declared.status.Status.{Status}
 use Rattle.command_line.specs.declared.status.Status.TheVariants.{Done, Memory, Usage, ReadFault, WriteFault, Text, Refused, Controller, OutsideBox, Long, Mismatch, Unequal, NoStay, Cell, Listing, Trap, TooWideForC, Moves, Unsettled, NoReturn}
@@ -45,13 +45,12 @@ cause (NoReturn turn coordinate bound) = caused (NoReturn turn coordinate bound)
 pub done_telling : (s : Status) → s ≡ Done → IsTelling s
 done_telling s is = record { usage = λ e. cc; text = λ at e. cc; controller = λ at e. cc }
 
--- neither done, nor out of memory, nor a fault, nor of a state that a loop met; and it tells
+-- neither done, nor out of memory, nor a fault; and it tells
 pub record IsRefusal (s : Status) : Type 0 where
   pub done : s ≢ Done
   pub memory : s ≢ Memory
   pub read : (file : ℕ) → s ≢ ReadFault file
   pub write : (file : ℕ) → s ≢ WriteFault file
-  pub outside : (entry turn coordinate : ℕ) → s ≢ OutsideBox entry turn coordinate
   pub telling : IsTelling s
 
 -- ---- a row of the table of commands: what it reaches it reads, and what it calls for tells
@@ -142,60 +141,3 @@ printing disk screen words deeds row prints before now out out_now s unused leav
   where
     failed : (at : ℕ) → s ≡ WriteFault at → ForContents words (disk.held before) deeds.starts × WriteFailed deeds words at (disk.write_faults before) (disk.write_faults now) (screen.faults out) (screen.faults out_now)
     failed at is = let found = p.write_fault at is in (found.1, inl (found.0, prints, found.2))
-
--- ---- a command that writes files, and has no output
-pub record Writing {S : Type 0} (disk : Disk S) (words : List (List ℕ)) (deeds : Deeds) (before now : S) (s : Status) : Type 0 where
-  pub called : IsCaused s → ForContents words (disk.held before) (λ contents. IsAnswer (deeds.calls contents) s)
-  pub read_fault : (file : ℕ) → s ≡ ReadFault file →
-      ForContents words (disk.held before) (λ contents. deeds.reaches contents file) × Rose (disk.read_faults before (word_of words file)) (disk.read_faults now (word_of words file))
-  pub write_fault : (file : ℕ) → s ≡ WriteFault file →
-      deeds.writes file × ForContents words (disk.held before) deeds.starts × Rose (disk.write_faults before (word_of words file)) (disk.write_faults now (word_of words file))
-  pub leaves : deeds.leaves words s (disk.held before) (disk.held now)
-  pub held : s ≢ Done → ((file : ℕ) → s ≢ WriteFault file) → disk.held now ≡ disk.held before
-  pub reads : NoneFalls (disk.read_faults before) (disk.read_faults now)
-  pub writes : NoneFalls (disk.write_faults before) (disk.write_faults now)
-
-pub writing : {S : Type 0} (disk : Disk S) (words : List (List ℕ)) (deeds : Deeds) → IsRow deeds → (file at : ℕ) → deeds.reads file → deeds.writes at → (before now : S) (s : Status) → Writing disk words deeds before now s →
-    DoesInStore disk words deeds before now s
-writing disk words deeds row file at reads writes before now s w = record {
-  called = w.called;
-  telling = telling deeds row words (disk.held before) s w.called;
-  complete =
-      complete deeds row words (disk.held before) s w.called (disk.read_faults before) (disk.read_faults now) (disk.write_faults before) (disk.write_faults now) 0 0 w.read_fault failed;
-  read_fault = w.read_fault;
-  write_fault = failed;
-  shows = tt;
-  quiet = λ unprinted. refl;
-  leaves = w.leaves;
-  held = λ unwritten. elim unwritten [ inl never ↦ absurd (never at writes) | inr none ↦ w.held none.0 none.1 ];
-  unused = λ unused. absurd (unused.reads file reads);
-  reads = w.reads;
-  writes = w.writes;
-  no_fewer = le_refl 0;
-}
-  where
-    failed : (position : ℕ) → s ≡ WriteFault position → ForContents words (disk.held before) deeds.starts × WriteFailed deeds words position (disk.write_faults before) (disk.write_faults now) 0 0
-    failed position is = let found = w.write_fault position is in (found.1, inr (found.0, found.2))
-
--- beside any output it does the same, and the output is as it was
-pub beside_output : {S O : Type 0} (disk : Disk S) (screen : Screen O) (words : List (List ℕ)) (deeds : Deeds) → ¬ deeds.prints → ((contents : Contents) (s : Status) (old : List ℕ) → deeds.shows contents s old old) →
-    (before now : S) (out : O) (s : Status) → DoesInStore disk words deeds before now s → Does disk screen words deeds before now out out s
-beside_output disk screen words deeds silent shows before now out s does = record {
-  called = does.called;
-  telling = does.telling;
-  complete = λ t for_t none. does.complete t for_t (record { reads = none.reads; writes = none.writes; output = λ prints. absurd (silent prints) });
-  read_fault = does.read_fault;
-  write_fault = λ file is.
-      let found = does.write_fault file is in
-      (found.0, elim found.1 [ inl printed ↦ absurd (silent printed.1) | inr written ↦ inr written ]);
-  shows =
-      unshown (screen.got out) (λ old new. ForContents words (disk.held before) (λ contents. deeds.shows contents s old new))
-      (λ old. some_contents words (disk.held before) (λ contents. deeds.shows contents s old old) (λ contents. shows contents s old));
-  quiet = λ unprinted. refl;
-  leaves = does.leaves;
-  held = does.held;
-  unused = does.unused;
-  reads = does.reads;
-  writes = does.writes;
-  no_fewer = le_refl (screen.faults out);
-}

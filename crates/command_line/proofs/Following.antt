@@ -5,7 +5,7 @@ use Rattle.io_edge.specs.Faults.{Files, Rose, NoneFalls}
 use Rattle.io_edge.specs.declared.store.Store.{Ghosts as Disk}
 use Rattle.io_edge.specs.declared.sink.Sink.{Ghosts as Screen}
 use Rattle.command_line.specs.Words.{word_of}
-use Rattle.command_line.specs.Answers.{Contents, ForContents, IsAnswer, IsCaused, FileHolds, IsFileRefused}
+use Rattle.command_line.specs.Answers.{ForContents, IsAnswer, IsCaused, FileHolds, IsFileRefused}
 use Rattle.command_line.specs.Deeds.{Deeds, IsCalledFor, WriteFailed}
 use Rattle.command_line.specs.Kind.{Kind, IsRead, EndsRead, Passes}
 use Rattle.command_line.specs.Script.{Act, Script, ends, reads, tests, IsNothing, reads_of, calls_of, reaches_of, starts_of, shows_of, leaves_at, leaves_of, Work, deeds_of_work}
@@ -14,7 +14,7 @@ use Rattle.command_line.specs.Running.{EndsAt, Stopping, Failing, Ending, runnin
 use Rattle.command_line.proofs.Composing.{weaker}
 use Rattle.command_line.proofs.Counts.{rose_later, none_falls_twice}
 use Rattle.command_line.proofs.Doing.{IsRefusal, IsRow, telling, complete, unshown, none_falls}
-use Rattle.command_line.proofs.Gathering.{along, comes, IsRefusedBy, IsSound, sound_telling, RunsAt, gathered, answers}
+use Rattle.command_line.proofs.Gathering.{along, comes, IsRefusedBy, IsSound, sound_telling, IsWrongIn, RunsAt, gathered, answers}
 use Rattle.command_line.specs.declared.status.Status.{Status}
 use Rattle.command_line.specs.declared.status.Status.TheVariants.{Done, Memory, ReadFault, WriteFault}
 
@@ -144,12 +144,11 @@ module _ (k : Kind) (file : ℕ) (by : IsRefusedBy file k) (held : Option Files)
   its_status P memory read refusal (inr (inl fault)) = read fault
   its_status P memory read refusal (inr (inr wrong)) = refusal (by wrong.content s wrong.answer.called)
 
-  nothing_left : {A : Type 0} (old new : A) → new ≡ old → EndsRead k file held name before now s → IsNothing s old new
-  nothing_left old new same end = record {
-    done = its_status (s ≢ Done) (λ is e. cc) (λ fault e. let is = fault.0 in cc) (λ r. r.done) end;
-    write = its_status ((at : ℕ) → s ≢ WriteFault at) (λ is at e. cc) (λ fault at e. let is = fault.0 in cc) (λ r. r.write) end;
-    same = same;
-  }
+  unwritten : EndsRead k file held name before now s → (s ≢ Done) × ((at : ℕ) → s ≢ WriteFault at)
+  unwritten end = (
+    its_status (s ≢ Done) (λ is e. cc) (λ fault e. let is = fault.0 in cc) (λ r. r.done) end,
+    its_status ((at : ℕ) → s ≢ WriteFault at) (λ is at e. cc) (λ fault at e. let is = fault.0 in cc) (λ r. r.write) end,
+  )
 
   its_fault : EndsRead k file held name before now s → (at : ℕ) → s ≡ ReadFault at → (at ≡ file) × Rose before now
   its_fault end at is =
@@ -204,26 +203,30 @@ module _ {S O : Type 0} {disk : Disk S} {screen : Screen O} {words : List (List 
         (λ Refuses h refusal. absurd (refusal.read at e)) (λ a acts. absurd (acts.read_fault at e)),
   )
 
-  nothing : {A : Type 0} (old new : A) → new ≡ old → (file : ℕ) (k : Kind) → stop file k → IsRefusedBy file k → IsNothing s old new
-  nothing old new same file k h by = nothing_left k file by held (word_of words file) _ _ s old new same h.why
+  no_write : (file : ℕ) (k : Kind) → stop file k → IsRefusedBy file k → (s ≢ Done) × ((at : ℕ) → s ≢ WriteFault at)
+  no_write file k h by = unwritten k file by held (word_of words file) _ _ s h.why
 
-  refused_nothing : {A : Type 0} (old new : A) → new ≡ old → IsRefusal s → IsNothing s old new
-  refused_nothing old new same refusal = record { done = refusal.done; write = refusal.write; same = same }
+  nothing : {A : Type 0} (old new : A) → new ≡ old → (content : Option (List ℕ)) (file : ℕ) (k : Kind) → stop file k × IsRefusedBy file k × IsWrongIn content s file k →
+      IsNothing (IsFileRefused k.limit file (k.wrong file) content s) s old new
+  nothing old new same content file k h = record { done = (no_write file k h.0 h.1).0; write = (no_write file k h.0 h.1).1; why = λ caused. (h.2.answer caused).called; same = same }
+
+  refused_nothing : {A : Type 0} (old new : A) → new ≡ old → (Refuses : Status → Type 0) → fail Refuses × IsRefusal s → IsNothing (Refuses s) s old new
+  refused_nothing old new same Refuses h = record { done = h.1.done; write = h.1.write; why = λ caused. h.0.why; same = same }
 
   write_failed : (at : ℕ) → s ≡ WriteFault at →
       ForContents words held (starts_of w.script) × WriteFailed (deeds_of_work w) words at (disk.write_faults before) (disk.write_faults now) (screen.faults out) (screen.faults out_now)
   write_failed at e = (
     weaker words held (RunsAt stop fail end s w.script) _
-        (λ c. along _ _ (λ file k x h. h.right) (λ file k h. (nothing at at refl file k h.0 h.1).write at e) (λ Refuses h. h.1.write at e) (λ a acts. (acts.write_fault at e).0) w.script) contents,
-    where_it_ends _ (λ file k h by. absurd ((nothing at at refl file k h by).write at e)) (λ Refuses h refusal. absurd (refusal.write at e)) (λ a acts. (acts.write_fault at e).1),
+        (λ c. along _ _ (λ file k x h. h.right) (λ file k h. (no_write file k h.0 h.1).1 at e) (λ Refuses h. h.1.write at e) (λ a acts. (acts.write_fault at e).0) w.script) contents,
+    where_it_ends _ (λ file k h by. absurd ((no_write file k h by).1 at e)) (λ Refuses h refusal. absurd (refusal.write at e)) (λ a acts. (acts.write_fault at e).1),
   )
 
   shown : (got_now : Option (List ℕ)) (got : Option (List ℕ)) → (out_now ≡ out → got_now ≡ got) → ((a : Act) → end a → IfSome got (λ old. IsSomeAnd got_now (a.shows s old))) →
       IfSome got (λ old. IsSomeAnd got_now (λ new. ForContents words held (λ c. shows_of w.script c s old new)))
   shown (Some new) (Some old) same acts =
       weaker words held (RunsAt stop fail end s w.script) _
-      (λ c. along _ _ (λ file k x h. h.right) (λ file k h. nothing old new (let is : new ≡ old = cc (same h.0.silent) in is) file k h.0 h.1)
-      (λ Refuses h. refused_nothing old new (let is : new ≡ old = cc (same h.0.silent) in is) h.1) acts w.script) contents
+      (λ c. along _ _ (λ file k x h. h.right) (λ file k h. nothing old new (let is : new ≡ old = cc (same h.0.silent) in is) (c file) file k h)
+      (λ Refuses h. refused_nothing old new (let is : new ≡ old = cc (same h.0.silent) in is) Refuses h) acts w.script) contents
   shown None (Some old) same acts = where_it_ends ⊥ (λ file k h by. cc (same h.silent)) (λ Refuses h refusal. cc (same h.silent)) acts
   shown got_now None same acts = tt
 
@@ -239,8 +242,8 @@ module _ {S O : Type 0} {disk : Disk S} {screen : Screen O} {words : List (List 
     quiet = λ unprinted. where_it_ends _ (λ file k h by. h.silent) (λ Refuses h refusal. h.silent) (λ a acts. acts.quiet unprinted);
     leaves =
         weaker words held (RunsAt stop fail end s w.script) _
-        (λ c. along _ _ (λ file k x h. h.right) (λ file k h. nothing held (disk.held now) h.0.passes.held file k h.0 h.1) (λ Refuses h. refused_nothing held (disk.held now) h.0.passes.held h.1)
-        (λ a acts. acts.leaves) w.script)
+        (λ c. along _ _ (λ file k x h. h.right) (λ file k h. nothing held (disk.held now) h.0.passes.held (c file) file k h)
+        (λ Refuses h. refused_nothing held (disk.held now) h.0.passes.held Refuses h) (λ a acts. acts.leaves) w.script)
         contents;
     held = λ unwritten. where_it_ends _ (λ file k h by. h.passes.held) (λ Refuses h refusal. h.passes.held) (λ a acts. acts.held unwritten);
     unused = λ unused. absurd (unused.reads 1 is.first);
@@ -251,18 +254,24 @@ module _ {S O : Type 0} {disk : Disk S} {screen : Screen O} {words : List (List 
         (λ Refuses h refusal. subst (λ (o : O). screen.faults out ≤ screen.faults o) (sym h.silent) (le_refl (screen.faults out))) (λ a acts. acts.no_fewer);
   }
 
--- ---- what is left, by the files of a store that tells them
+-- ---- by the files of a store that tells them: what is left
+moved_nothing : {A : Type 0} (k : Kind) (file : ℕ) (content other : Option (List ℕ)) (s : Status) (old new : A) → content ≡ other → IsNothing (IsFileRefused k.limit file (k.wrong file) content s) s old new →
+    IsNothing (IsFileRefused k.limit file (k.wrong file) other s) s old new
+moved_nothing {A} k file content other s old new = subst (λ (o : Option (List ℕ)). IsNothing (IsFileRefused k.limit file (k.wrong file) o s) s old new)
+
 pub left_told : (words : List (List ℕ)) (s : Status) (files : Files) (new : Option Files) (script : Script) → leaves_of script words s (Some files) new →
     leaves_at script (λ position. files (word_of words position)) words s (Some files) new
 left_told words s files new script l =
-    along _ _ (λ file k x. subst (λ (o : Option (List ℕ)). FileHolds k.limit (k.right x) o) (l.told file)) (λ file k h. h) (λ Refuses h. h) (λ a h. h) script l.true_of
+    along _ _ (λ file k x. subst (λ (o : Option (List ℕ)). FileHolds k.limit (k.right x) o) (l.told file))
+    (λ file k. moved_nothing k file (l.contents file) (files (word_of words file)) s (Some files) new (l.told file)) (λ Refuses h. h) (λ a h. h) script l.true_of
 
 -- what the output got
 pub shown_told : (words : List (List ℕ)) (s : Status) (files : Files) (script : Script) (before now : Option (List ℕ)) →
     IfSome before (λ old. IsSomeAnd now (λ new. ForContents words (Some files) (λ contents. shows_of script contents s old new))) →
     IfSome before (λ old. IsSomeAnd now (shows_of script (λ position. files (word_of words position)) s old))
 shown_told words s files script (Some old) (Some new) l =
-    along _ _ (λ file k x. subst (λ (o : Option (List ℕ)). FileHolds k.limit (k.right x) o) (l.told file)) (λ file k h. h) (λ Refuses h. h) (λ a h. h) script l.true_of
+    along _ _ (λ file k x. subst (λ (o : Option (List ℕ)). FileHolds k.limit (k.right x) o) (l.told file))
+    (λ file k. moved_nothing k file (l.contents file) (files (word_of words file)) s old new (l.told file)) (λ Refuses h. h) (λ a h. h) script l.true_of
 shown_told words s files script (Some old) None l = l
 shown_told words s files script None now l = tt
 

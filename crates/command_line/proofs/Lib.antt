@@ -8,5 +8,7 @@ pub mod Doing
 -- what follows from the script that a command runs along
 pub mod Gathering
 pub mod Following
+-- two texts that a command writes
+pub mod TwoTexts
 -- beside any output
 pub mod Beside

@@ -43,10 +43,6 @@ pub record IsLong (limit file : ℕ) (content : Option (List ℕ)) (s : Status) 
 abbrev pub IsFileRefused : (limit file : ℕ) → (Wrong : List ℕ → Status → Type 0) → Option (List ℕ) → Status → Type 0
 IsFileRefused limit file Wrong content s = IsLong limit file content s ⊎ FileHolds limit (λ bytes. Wrong bytes s) content
 
--- The file at a position is refused with this status; or it holds bytes that are right for some x, and what comes after gives this status for x.
-abbrev pub ReadsThen : {X : Type 0} → (limit file : ℕ) → (Wrong : List ℕ → Status → Type 0) → (Right : X → List ℕ → Type 0) → Option (List ℕ) → (After : X → Status → Type 0) → Status → Type 0
-ReadsThen {X} limit file Wrong Right content After s = IsFileRefused limit file Wrong content s ⊎ ((x : X) × FileHolds limit (Right x) content × After x s)
-
 -- ---- one answer
 -- this status is called for, and no other is
 pub record IsAnswer (Calls : Status → Type 0) (s : Status) : Type 0 where

@@ -10,3 +10,4 @@ pub mod Kind
 pub mod Script
 pub mod Does
 pub mod Running
+pub mod TwoTexts

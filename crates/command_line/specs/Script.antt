@@ -1,7 +1,7 @@
 -- The files that a command reads, one after the other, and what it does then. Its row of the table of commands follows.
 use Rattle.std.specs.Prelude.{◌≡◌, ◌≢◌, ◌⊎◌, ℕ, List, Option, ⊤}
 use Rattle.io_edge.specs.Faults.{Files}
-use Rattle.command_line.specs.Answers.{Contents, ForContents, FileHolds, IsFileRefused}
+use Rattle.command_line.specs.Answers.{Contents, ForContents, FileHolds, IsFileRefused, IsCaused}
 use Rattle.command_line.specs.Deeds.{Deeds}
 use Rattle.command_line.specs.Kind.{Kind}
 use Rattle.command_line.specs.declared.status.Status.{Status}
@@ -67,19 +67,27 @@ reads_of script at = Along (record { right = λ file k x. ⊤; stop = λ file k.
 abbrev pub starts_of : Script → Contents → Type 0
 starts_of script contents = Along (record { right = HoldsAt contents; stop = λ file k. ⊥; fail = λ Refuses. ⊥; end = λ a. a.starts }) script
 
--- nothing is left by an answer that no write gave
-pub record IsNothing {A : Type 0} (s : Status) (old new : A) : Type 0 where
+-- nothing is left by an answer that no write gave: where it has a cause, it is this
+pub record IsNothing {A : Type 0} (Why : Type 0) (s : Status) (old new : A) : Type 0 where
   pub done : s ≢ Done
   pub write : (file : ℕ) → s ≢ WriteFault file
+  pub why : IsCaused s → Why
   pub same : new ≡ old
 
+-- so it is where a file or a test refuses
+abbrev pub leaving : {A : Type 0} → Contents → Status → (old new : A) → (Act → Type 0) → Way
+leaving contents s old new End = record {
+  right = HoldsAt contents;
+  stop = λ file k. IsNothing (IsFileRefused k.limit file (k.wrong file) (contents file) s) s old new;
+  fail = λ Refuses. IsNothing (Refuses s) s old new;
+  end = End;
+}
+
 abbrev pub shows_of : Script → Contents → Status → (old new : List ℕ) → Type 0
-shows_of script contents s old new =
-    Along (record { right = HoldsAt contents; stop = λ file k. IsNothing s old new; fail = λ Refuses. IsNothing s old new; end = λ a. a.shows s old new }) script
+shows_of script contents s old new = Along (leaving contents s old new (λ a. a.shows s old new)) script
 
 abbrev pub leaves_at : Script → Contents → List (List ℕ) → Status → (old new : Option Files) → Type 0
-leaves_at script contents words s old new =
-    Along (record { right = HoldsAt contents; stop = λ file k. IsNothing s old new; fail = λ Refuses. IsNothing s old new; end = λ a. a.leaves words s old new }) script
+leaves_at script contents words s old new = Along (leaving contents s old new (λ a. a.leaves words s old new)) script
 
 abbrev pub leaves_of : Script → List (List ℕ) → Status → (old new : Option Files) → Type 0
 leaves_of script words s old new = ForContents words old (λ contents. leaves_at script contents words s old new)

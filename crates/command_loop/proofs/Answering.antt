@@ -1,5 +1,5 @@
 -- The script of `loop`, and what is answered and printed once its files are read.
-use Rattle.std.proofs.Common.{◌≡◌, ◌≢◌, ◌⊎◌, inl, inr, ℕ, ◌≤◌, Bool, true, false, List, Option, Some, None, refl, subst, arith}
+use Rattle.std.proofs.Common.{◌≡◌, ◌≢◌, inl, inr, ℕ, ◌≤◌, Bool, true, false, List, Option, Some, None, refl, subst, arith}
 use Rattle.std.specs.Prelude.{IfSome, IsSomeAnd}
 use Rattle.io_edge.specs.Faults.{Rose}
 use Rattle.io_edge.specs.declared.sink.Sink.{Ghosts as Screen}
@@ -22,7 +22,7 @@ use Rattle.command_line.specs.declared.status.Status.TheVariants.{Done, Memory, 
 use Rattle.command_design_files.proofs.Designs.{same_design}
 use Rattle.command_design_files.proofs.Stopping.{design_refused}
 use Rattle.command_files.proofs.Stopping.{controller_refused, states_refused, shifts_refused}
-use Rattle.command_loop.specs.Loop.{Course, course_of, MayPrintLine, IsMismatch, LoopsCall, LoopsPrint, TellsLeavingLater, loop_act, loop_shifts, loop_states, loop_controller, loop_design}
+use Rattle.command_loop.specs.Loop.{Course, course_of, MayPrintLine, IsMismatch, LoopsCall, LoopsPrint, TellsLeavingLater, loop_act, loop_shifts, loop_controller, loop_design}
 use Rattle.command_loop.specs.Printing.{LoopsEnd, AreRowsFor}
 use Rattle.command_loop.specs.Deeds.{loop_work, loop_deeds}
 use Rattle.command_loop.proofs.Refusals.{mismatch_refusal}

@@ -14,7 +14,6 @@ field_refusal field x y s is = record {
   memory = λ e. cc;
   read = λ f e. cc;
   write = λ f e. cc;
-  outside = λ entry turn coordinate e. cc;
   telling = record { usage = λ e. cc; text = λ f e. cc; controller = λ f e. cc };
 }
 

@@ -12,7 +12,7 @@ use Rattle.closed_loop.specs.declared.fault.LoopFault.{LoopFault}
 use Rattle.closed_loop.specs.declared.fault.LoopFault.TheVariants as faults
 use Rattle.command_loop.specs.Loop.{Course, MayPrintLine, LoopsCall}
 use Rattle.command_line.specs.declared.status.Status.{Status}
-use Rattle.command_line.specs.declared.status.Status.TheVariants.{Done, Memory, WriteFault, Refused, OutsideBox}
+use Rattle.command_line.specs.declared.status.Status.TheVariants.{Memory, WriteFault, Refused, OutsideBox}
 use Rattle.qp_model.specs.declared.refusal.Refusal.TheVariants.{TooWide}
 
 -- the status that tells why the loop of a record ended

@@ -8,24 +8,14 @@ use Rattle.mac_machine.specs.Traps.{Stops}
 use Rattle.mac_machine.specs.declared.stop.Stop.{Stop}
 use Rattle.mac_machine.specs.declared.stop.Stop.TheVariants as stops
 use Rattle.mac_machine.proofs.Stopping.{first_one, no_trap, one_trap, not_in_box, one_coordinate}
-use Rattle.command_play.specs.Plays.{AreInBox, HaveRunRoom, IsOutsideBox, IsTrapped, PlaysCall}
+use Rattle.plan_lines.proofs.Acting.{IsJudged, one_out, not_held}
+use Rattle.command_play.specs.Plays.{HaveRunRoom, IsTrapped, PlaysCall}
 use Rattle.command_line.specs.declared.status.Status.{Status}
-use Rattle.command_line.specs.declared.status.Status.TheVariants.{Done, OutsideBox, Trap}
+use Rattle.command_line.specs.declared.status.Status.TheVariants.{Done, Trap}
 
 -- ---- the first state outside the box
-outside_index : (l : Instructions) (m : Matrix) (s t : Status) (a : IsOutsideBox l m s) (b : IsOutsideBox l m t) → a.index ≡ b.index
-outside_index l m s t a b =
-    first_one (λ e. IsInBox l (row_of m e)) a.index b.index a.before (not_in_box l (row_of m a.index) a.coordinate a.here) b.before (not_in_box l (row_of m b.index) b.coordinate b.here)
-
-one_outside : (l : Instructions) (m : Matrix) (s t : Status) → IsOutsideBox l m s → IsOutsideBox l m t → t ≡ s
-one_outside l m s t a b =
-    let same = outside_index l m s t a b in
-    let moved = subst (λ (e : ℕ). IsFirstOutsideBox l (row_of m e) a.coordinate) same a.here in
-    let coordinate = one_coordinate l (row_of m b.index) a.coordinate b.coordinate moved b.here in
-    b.is ∙ ap (λ (e : ℕ). OutsideBox (e + 1) 0 b.coordinate) (sym same) ∙ ap (OutsideBox (a.index + 1) 0) (sym coordinate) ∙ sym a.is
-
-pub not_all_inside : (l : Instructions) (m : Matrix) (s : Status) → IsOutsideBox l m s → AreInBox l m (length m.rows) → ⊥
-not_all_inside l m s a inside = not_in_box l (row_of m a.index) a.coordinate a.here (inside a.index a.there)
+judged : (l : Instructions) (m : Matrix) → IsJudged (λ e. IsInBox l (row_of m e)) (λ e. IsFirstOutsideBox l (row_of m e))
+judged l m = record { none = λ e k. not_in_box l (row_of m e) k; one = λ e j k. one_coordinate l (row_of m e) j k }
 
 -- ---- the first run that traps
 trap_status : ℕ → Stop → Status
@@ -48,9 +38,9 @@ not_all_room l m s a room = trapped_none l m s a (room a.index a.there)
 
 -- ---- both
 pub one_call : (l : Instructions) (m : Matrix) (s t : Status) → PlaysCall l m s → PlaysCall l m t → t ≡ s
-one_call l m s t (inl a) (inl b) = one_outside l m s t a b
-one_call l m s t (inl a) (inr b) = absurd (not_all_inside l m s a b.0)
-one_call l m s t (inr a) (inl b) = absurd (not_all_inside l m t b a.0)
+one_call l m s t (inl a) (inl b) = one_out (judged l m) (length m.rows) s t a b
+one_call l m s t (inl a) (inr b) = absurd (not_held (judged l m) (length m.rows) s a b.0)
+one_call l m s t (inr a) (inl b) = absurd (not_held (judged l m) (length m.rows) t b a.0)
 one_call l m s t (inr a) (inr b) = ends a.1 b.1
   where
     ends : IsTrapped l m s ⊎ ((s ≡ Done) × HaveRunRoom l m (length m.rows)) → IsTrapped l m t ⊎ ((t ≡ Done) × HaveRunRoom l m (length m.rows)) → t ≡ s

@@ -32,7 +32,6 @@ listing_refused file content s (inr wrong) =
       memory = λ e. cc;
       read = λ f e. cc;
       write = λ f e. cc;
-      outside = λ entry turn coordinate e. cc;
       telling = record { usage = λ e. cc; text = λ f e. cc; controller = λ f e. cc };
     }
 

@@ -1,10 +1,10 @@
 -- Lines that are printed one after the other.
-use Rattle.std.proofs.Common.{◌≡◌, ◌≢◌, ◌⊎◌, ◌∙◌, inl, inr, ℕ, zero, suc, ◌+◌, ◌<◌, ℤ, List, [], ◌∷◌, ◌++◌, length, take, get_or, Option, Some, None, option_map, Result, Ok, Err, refl, sym, ap, subst, arith, append_assoc, below_more, true, false}
+use Rattle.std.proofs.Common.{◌≡◌, ◌≢◌, ◌⊎◌, ◌∙◌, inl, inr, ℕ, zero, suc, ◌+◌, ◌<◌, ℤ, List, [], ◌∷◌, ◌++◌, length, take, get_or, Option, Some, None, option_map, Result, refl, sym, ap, subst, arith, append_assoc, below_more, true}
 use Rattle.std.specs.Prelude.{IfSome, IsSomeAnd}
-use Rattle.std.specs.Result.{is_err, OnOk, OnErr}
+use Rattle.std.specs.Result.{is_err, OnErr}
 use Rattle.std.specs.List.{flat_map}
 use Rattle.std.proofs.lemmas.Grind.{flat_map-append}
-use Rattle.std.proofs.lemmas.List.{append-nil, length-append, take_more}
+use Rattle.std.proofs.lemmas.List.{append-nil, take_more}
 use Rattle.io_edge.specs.Faults.{GrowsByPart}
 use Rattle.mat_int.specs.Matrix.{Matrix, row_of}
 use Rattle.number_text.specs.Lines.{spaced}

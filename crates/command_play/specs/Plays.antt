@@ -7,8 +7,9 @@ use Rattle.mac_machine.specs.Machine.{NeverTraps, after_repetitions, play_line}
 use Rattle.mac_machine.specs.Box.{IsInBox, IsFirstOutsideBox}
 use Rattle.mac_machine.specs.Traps.{Stops}
 use Rattle.mac_machine.specs.declared.stop.Stop.TheVariants as stops
+use Rattle.plan_lines.specs.Inside.{IsFirstOut}
 use Rattle.command_line.specs.declared.status.Status.{Status}
-use Rattle.command_line.specs.declared.status.Status.TheVariants.{Done, OutsideBox, Trap}
+use Rattle.command_line.specs.declared.status.Status.TheVariants.{Done, Trap}
 
 -- ---- states
 -- each of the first k states lies in the listing's box
@@ -20,13 +21,8 @@ abbrev pub HaveRunRoom : Instructions → Matrix → ℕ → Type 0
 HaveRunRoom l states k = (e : ℕ) → e < k → NeverTraps l (row_of states e)
 
 -- the state of a record is the first that lies outside the box, and the status tells which, and its first coordinate outside
-pub record IsOutsideBox (l : Instructions) (states : Matrix) (s : Status) : Type 0 where
-  pub index : ℕ
-  pub coordinate : ℕ
-  pub there : index < length states.rows
-  pub before : AreInBox l states index
-  pub here : IsFirstOutsideBox l (row_of states index) coordinate
-  pub is : s ≡ OutsideBox (index + 1) 0 coordinate
+abbrev pub IsOutsideBox : Instructions → Matrix → Status → Type 0
+IsOutsideBox l states s = IsFirstOut (λ e. IsInBox l (row_of states e)) (λ e. IsFirstOutsideBox l (row_of states e)) (length states.rows) s
 
 -- the run from the state of a record is the first in which a value has no room, and the status tells which, and where
 pub record IsTrapped (l : Instructions) (states : Matrix) (s : Status) : Type 0 where

@@ -1,6 +1,6 @@
 -- What `serve` does with its two files.
 use Rattle.std.specs.Prelude.{ℕ, List, length, Option}
-use Rattle.mat_int.specs.Matrix.{Matrix}
+use Rattle.mat_int.specs.Matrix.{Matrix, row_of}
 use Rattle.qp_model.specs.machine.Controller.{Numbers}
 use Rattle.command_line.specs.Limit.{file_limit, cells_limit}
 use Rattle.command_line.specs.Answers.{FileHolds}
@@ -8,8 +8,8 @@ use Rattle.command_line.specs.Script.{Act, Script, ends, reads}
 use Rattle.command_files.specs.Texts.{StatesRight, CellsRight}
 use Rattle.command_files.specs.Reading.{cells_kind, states_kind}
 use Rattle.plan_lines.specs.Printing.{lines_act}
-use Rattle.command_serve.specs.Served.{cell_states, AreServed}
-use Rattle.command_serve.specs.Unserved.{IsUnserved}
+use Rattle.command_serve.specs.Served.{cell_states, IsHeldBySome, AreServed}
+use Rattle.command_serve.specs.Unserved.{IsHeldByNone}
 use Rattle.command_serve.specs.Printing.{served_lines}
 
 -- two files hold cells and states, each of which some cell's box holds
@@ -20,7 +20,7 @@ pub record HoldsServed (cells states : Option (List ℕ)) (cs : List Numbers) (m
 
 -- the first state that no cell's box holds is told, or the lines of all are printed
 abbrev pub serve_act : List Numbers → Matrix → Act
-serve_act cells m = lines_act (IsUnserved cells m) (AreServed cells m (length m.rows)) m (served_lines cells m)
+serve_act cells m = lines_act (λ e. IsHeldBySome cells (row_of m e)) (λ e. IsHeldByNone cells (row_of m e)) m (served_lines cells m)
 
 abbrev pub serve_states : List Numbers → Script
 serve_states cells = reads 2 (states_kind (cell_states cells)) (λ m. ends (serve_act cells m))

@@ -1,3 +1,2 @@
--- what a controller and its states are answered, and what is printed of them
-pub mod Outside
+-- the script
 pub mod Solving

@@ -1,7 +1,7 @@
 // Which state is the first outside the box.
 ghost use Rattle.std.specs.Prelude.{◌≡◌, ◌⊎◌, ◌<◌, ◌^◌, length, IfErr, OnOk};
 ghost use Rattle.plan_lines.specs.Inside.{AreInside};
-ghost use Rattle.command_solve.specs.Inside.{IsOutside};
+ghost use Rattle.command_solve.specs.Solve.{IsOutside};
 
 use command_line::Status;
 use fixed_kernel::Kernel;

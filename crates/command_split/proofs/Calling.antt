@@ -16,11 +16,12 @@ use Rattle.cell_maker.proofs.CellDesigns.{cell_same}
 use Rattle.cell_maker.proofs.Cells.{made_at}
 use Rattle.command_generate.proofs.Passing.{built_passes}
 use Rattle.command_line.specs.Answers.{IsAnswer}
+use Rattle.command_line.specs.TwoTexts.{IsUnmade}
+use Rattle.command_line.proofs.Doing.{IsRefusal}
+use Rattle.command_line.proofs.TwoTexts.{unmade_memory, unmade}
 use Rattle.command_line.specs.declared.status.Status.{Status}
 use Rattle.command_line.specs.declared.status.Status.TheVariants.{Done, Memory, Cell}
 use Rattle.command_split.specs.Cells.{CellsCall}
-use Rattle.command_generate.specs.Ending.{IsFaultless}
-use Rattle.command_split.specs.Reading.{CellsRefuse}
 
 -- a cell that was made passes every test
 passes_made : (p : DesignParts) (cuts : List (List ℤ)) (k : ℕ) (plans : Plans) (c : Numbers) (b : Printed) → IsCellMade p cuts k plans c b → PassesCell p cuts k plans
@@ -35,8 +36,14 @@ passes_made p cuts k plans c b made =
 abbrev pub TellsCell : CellRefusal → Status → Type 0
 TellsCell e s = ((s ≡ Memory) × (e.refusal ≡ refusals.Memory)) ⊎ ((s ≡ Cell e.cell e.refusal) × (e.refusal ≢ refusals.Memory))
 
-cell_faultless : (cell : ℕ) (refusal : Refusal) (s : Status) → s ≡ Cell cell refusal → IsFaultless s
-cell_faultless cell refusal s is = record { done = λ e. cc; memory = λ e. cc; read = λ f e. cc; write = λ f e. cc }
+pub cell_refusal : (cell : ℕ) (refusal : Refusal) (s : Status) → s ≡ Cell cell refusal → IsRefusal s
+cell_refusal cell refusal s is = record {
+  done = λ e. cc;
+  memory = λ e. cc;
+  read = λ f e. cc;
+  write = λ f e. cc;
+  telling = record { usage = λ e. cc; text = λ f e. cc; controller = λ f e. cc };
+}
 
 module _ (p : DesignParts) (cuts : List (List ℤ)) (policies : List Plans) where
   pub done_called : (cells : List Numbers) (bounds : List Printed) → AreCellsMade p cuts policies cells bounds → IsAnswer (CellsCall p cuts policies) Done
@@ -52,10 +59,11 @@ module _ (p : DesignParts) (cuts : List (List ℤ)) (policies : List Plans) wher
       only t (inl refused) = absurd (none refused.refusal refused.first)
       only t (inr done) = done.0
 
-  pub refused_called : (e : CellRefusal) (s : Status) → TellsCell e s → (e.refusal ≡ refusals.Memory) ⊎ IsOnlyRefused p cuts policies e → CellsRefuse p cuts policies s
-  refused_called e s (inl memory) why = inl memory.0
+  pub refused_called : (e : CellRefusal) (s : Status) → TellsCell e s → (e.refusal ≡ refusals.Memory) ⊎ IsOnlyRefused p cuts policies e → IsUnmade (CellsCall p cuts policies) s
+  refused_called e s (inl memory) why = unmade_memory (CellsCall p cuts policies) s memory.0
   refused_called e s (inr told) (inl memory) = absurd (told.1 memory)
-  refused_called e s (inr told) (inr why) = inr (record { called = inl (record { refusal = e; first = why.first; is = told.0 }); only = only }, cell_faultless e.cell e.refusal s told.0)
+  refused_called e s (inr told) (inr why) =
+      unmade (CellsCall p cuts policies) s (record { called = inl (record { refusal = e; first = why.first; is = told.0 }); only = only }) (cell_refusal e.cell e.refusal s told.0)
     where
       only : (t : Status) → CellsCall p cuts policies t → t ≡ s
       only t (inl other) = other.is ∙ ap (λ (f : CellRefusal). Cell f.cell f.refusal) (why.only other.refusal other.first) ∙ sym told.0

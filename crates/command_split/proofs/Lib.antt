@@ -4,7 +4,5 @@ pub mod BoxFree
 pub mod Serving
 -- the reports, one after the other
 pub mod Reports
--- how the files end it, and what is written
-pub mod Opening
+-- what it does by its script, and what is written
 pub mod Written
-pub mod Row

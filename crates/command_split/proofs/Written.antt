@@ -1,90 +1,103 @@
--- What is written, and the clauses of the whole.
-use Rattle.std.proofs.Common.{◌≡◌, ◌≢◌, ℕ, ◌≤◌, List, length, Option, Some, sym, subst, arith}
-use Rattle.io_edge.specs.Faults.{Files, IsCutShort}
-use Rattle.qp_model.specs.problem.Parts.{design_of}
-use Rattle.command_line.specs.Words.{word_of, IsSplit}
-use Rattle.command_line.specs.Limit.{file_limit, cells_limit}
-use Rattle.command_line.specs.Answers.{FileHolds}
+-- What `split` does by its script, and what is written.
+use Rattle.std.proofs.Common.{◌≡◌, inl, inr, refl, ℕ, ◌≤◌, ℤ, List, length, Option, Some, None, subst, arith}
+use Rattle.std.specs.Prelude.{IfSome, IsSomeAnd}
+use Rattle.io_edge.specs.Faults.{Files}
+use Rattle.qp_model.specs.problem.Parts.{design_numbers, design_of}
+use Rattle.qp_model.specs.problem.Design.{Design}
 use Rattle.qp_model.specs.machine.Controller.{Numbers}
+use Rattle.qp_model.specs.declared.design_parts.DesignParts.{DesignParts}
 use Rattle.cell_split.specs.Cells.{cell_count}
 use Rattle.cell_file.specs.Text.{IsCellsText}
 use Rattle.cell_file.proofs.Lengths.{cells_length_law}
-use Rattle.command_design_files.specs.Texts.{DesignRight}
-use Rattle.command_files.specs.Texts.{CutsRight, CellPoliciesRight}
-use Rattle.command_generate.specs.Writing.{AreWritten, IsSecondCut}
-use Rattle.command_generate.proofs.TwoTexts.{MakesTwo, KeptOrFront, first_stands, kept_or_front}
-use Rattle.command_split.specs.Split.{AreSplitOfFiles, IsSplitWritten, IsCellsCut, IsCellsReportCut}
-use Rattle.command_split.specs.Reading.{split_calls, AreSplitRead, AreSplitTexts}
+use Rattle.command_line.specs.Words.{word_of}
+use Rattle.command_line.specs.Limit.{file_limit, cells_limit}
+use Rattle.command_line.specs.Answers.{Contents, FileHolds, IsFileRefused}
+use Rattle.command_line.specs.Does.{IsTelling}
+use Rattle.command_line.specs.Script.{ends, calls_of, leaves_at, leaves_of}
+use Rattle.command_line.specs.TwoTexts.{BothStand, Two}
+use Rattle.command_line.proofs.Gathering.{whole}
+use Rattle.command_line.proofs.Doing.{done_telling}
+use Rattle.command_line.proofs.Following.{IsSoundWork, left_told}
+use Rattle.command_line.specs.declared.status.Status.{Status}
+use Rattle.command_line.specs.declared.status.Status.TheVariants.{Done}
+use Rattle.command_design_files.proofs.Designs.{same_design}
+use Rattle.command_design_files.proofs.Stopping.{design_refused}
+use Rattle.command_files.specs.Texts.{CutsRight, CutsWrong, CellPoliciesRight, CellPoliciesWrong}
+use Rattle.command_files.proofs.Stopping.{cuts_refused, cell_policies_refused}
+use Rattle.command_line.proofs.TwoTexts.{some_weaker}
+use Rattle.command_split.specs.Cells.{CellsCall}
+use Rattle.command_split.specs.Split.{split_act, split_after, split_after_cuts, split_work, AreCellTexts, IsSplitWritten}
+use Rattle.command_split.proofs.Calling.{calls_same, cell_refusal}
 use Rattle.command_split.proofs.Serving.{boxes, splits, each_served}
+use Rattle.qp_model.specs.problem.Policy.{Plans}
 
+-- ---- its script
+telling : (p : DesignParts) (cuts : List (List ℤ)) (policies : List Plans) (s : Status) → CellsCall p cuts policies s → IsTelling s
+telling p cuts policies s (inl why) = (cell_refusal why.refusal.cell why.refusal.refusal s why.is).telling
+telling p cuts policies s (inr done) = done_telling s done.0
+
+-- of a design its numbers are seen
+sees : (y x : DesignParts) → design_numbers y ≡ design_numbers x → (contents : Contents) (s : Status) → calls_of (split_after y) contents s → calls_of (split_after x) contents s
+sees y x same contents s (inl refused) = inl (subst (λ (d : Design). IsFileRefused file_limit 2 (CutsWrong d 2) (contents 2) s) (same_design y x same) refused)
+sees y x same contents s (inr (cuts, right, rest)) = inr (cuts, subst (λ (d : Design). FileHolds file_limit (CutsRight d cuts) (contents 2)) (same_design y x same) right, after rest)
+  where
+    after : calls_of (split_after_cuts y cuts) contents s → calls_of (split_after_cuts x cuts) contents s
+    after (inl refused) = inl (subst (λ (d : Design). IsFileRefused file_limit 3 (CellPoliciesWrong d (cell_count cuts) 3) (contents 3) s) (same_design y x same) refused)
+    after (inr (policies, here, calls)) =
+        inr (policies, subst (λ (d : Design). FileHolds file_limit (CellPoliciesRight d (cell_count cuts) policies) (contents 3)) (same_design y x same) here, calls_same y x same cuts policies s calls)
+
+pub split_sound : IsSoundWork split_work
+split_sound = record {
+  sound = (
+    omega arith,
+    design_refused 1,
+    sees,
+    λ p. (
+      omega arith,
+      cuts_refused (design_of p) 2,
+      whole (split_after_cuts p),
+      λ cuts. (omega arith, cell_policies_refused (design_of p) (cell_count cuts) 3, whole (λ policies. ends (split_act p cuts policies)), telling p cuts),
+    ),
+  );
+  first = inl refl;
+}
+
+-- ---- what it left
 -- a text of cells is no longer than a file of cells may be
 cells_short : (text : List ℕ) (cells : List Numbers) → IsCellsText text cells → length text ≤ cells_limit
 cells_short text cells is = omega (arith, cells_length_law text cells is)
 
--- ---- of files that hold what was read, and how they are left
-module _ (words : List (List ℕ)) (text report : List ℕ) (held : Option Files) (from : AreSplitTexts words held text report) (files new : Files)
-    (read : AreSplitRead words (Some files) from.p from.lists from.plans) where
-  made : AreSplitOfFiles words files from.texts.cells from.texts.bounds
-  made = record {
-    p = from.p;
-    lists = from.lists;
-    plans = from.plans;
-    inputs = record {
-      design_right = subst (λ (o : Option (List ℕ)). FileHolds file_limit (DesignRight from.p) o) read.design.told read.design.right;
-      cuts_right = subst (λ (o : Option (List ℕ)). FileHolds file_limit (CutsRight (design_of from.p) from.lists) o) read.cuts.told read.cuts.right;
-    };
-    policies_right = subst (λ (o : Option (List ℕ)). FileHolds file_limit (CellPoliciesRight (design_of from.p) (cell_count from.lists) from.plans) o) read.policies.told read.policies.right;
-    splits = splits from.p from.lists from.plans from.texts.cells from.texts.bounds from.texts.made from.texts.design from.texts.cut;
-    made = from.texts.made;
-    boxes = boxes from.p from.lists from.plans from.texts.cells from.texts.bounds from.texts.made;
-    served = each_served from.p from.lists from.plans from.texts.cells from.texts.bounds from.texts.made from.texts.design from.texts.cut;
-  }
-
-  pub both_written : word_of words 5 ≢ word_of words 4 → AreWritten files new (word_of words 4) (word_of words 5) text report → IsSplitWritten words files new
-  both_written apart written =
-      let first = first_stands files written.mid new (word_of words 4) (word_of words 5) text apart written.first written.second.others in
-      record {
-        cells = from.texts.cells;
-        bounds = from.texts.bounds;
-        made = made;
-        text = text;
-        is_text = from.texts.is_text;
-        short = cells_short text from.texts.cells from.texts.is_text;
-        cells_file = first.here;
-        report_file = subst (λ (bytes : List ℕ). new (word_of words 5) ≡ Some bytes) from.texts.is_report written.second.here;
-        others = first.others;
-      }
-
-  pub first_cut : IsCutShort files new (word_of words 4) text → IsCellsCut words files new
-  first_cut cut = record { cells = from.texts.cells; bounds = from.texts.bounds; made = made; text = text; is_text = from.texts.is_text; cut = cut }
-
-  pub second_cut : word_of words 5 ≢ word_of words 4 → IsSecondCut files new (word_of words 4) (word_of words 5) text report → IsCellsReportCut words files new
-  second_cut apart written =
-      let first = first_stands files written.mid new (word_of words 4) (word_of words 5) text apart written.first written.second.others in
-      record {
-        cells = from.texts.cells;
-        bounds = from.texts.bounds;
-        made = made;
-        text = text;
-        is_text = from.texts.is_text;
-        short = cells_short text from.texts.cells from.texts.is_text;
-        cells_file = first.here;
-        report_file = subst (λ (bytes : List ℕ). KeptOrFront files new (word_of words 5) bytes) from.texts.is_report
-            (kept_or_front files written.mid new (word_of words 4) (word_of words 5) text report apart written.first written.second.here);
-        others = first.others;
-      }
-
--- the texts of a design, cuts and policies, for the command that writes them
-pub split_made : (words : List (List ℕ)) → IsSplit words → (text report : List ℕ) (held : Option Files) → AreSplitTexts words held text report →
-    MakesTwo split_calls 4 5 (IsSplitWritten words) (IsCellsCut words) (IsCellsReportCut words) words held text report
-split_made words is text report held from = record {
-  Read = λ o. AreSplitRead words o from.p from.lists from.plans;
-  read = from.read;
-  answer = from.answer;
-  both = λ files new read are. both_written words text report held from files new read apart are;
-  first_cut = λ files new read cut. first_cut words text report held from files new read cut;
-  second_cut = λ files new read cut. second_cut words text report held from files new read apart cut;
-}
+pub split_left : (words : List (List ℕ)) (s : Status) (held now : Option Files) → s ≡ Done → leaves_of split_work.script words s held now → IfSome held (λ files. IsSomeAnd now (IsSplitWritten words files))
+split_left words s None now is left = tt
+split_left words s (Some files) now is left = go (left_told words s files now split_work.script left)
   where
-    apart : word_of words 5 ≢ word_of words 4
-    apart e = is.report 4 (omega arith) (omega (arith, is.count)) (λ k. omega (arith, k)) (sym e)
+    go : leaves_at split_work.script (λ i. files (word_of words i)) words s (Some files) now → IsSomeAnd now (IsSplitWritten words files)
+    go (inl none) = absurd (none.done is)
+    go (inr (p, design, inl none)) = absurd (none.done is)
+    go (inr (p, design, inr (cuts, cut, inl none))) = absurd (none.done is)
+    go (inr (p, design, inr (cuts, cut, inr (policies, right, left_two)))) =
+        some_weaker now (λ new. Two (AreCellTexts p cuts policies) (BothStand files new (word_of words 4) (word_of words 5))) (IsSplitWritten words files)
+        (λ new two.
+        let are = two.are in
+        record {
+          cells = are.cells;
+          bounds = are.bounds;
+          made = record {
+            p = p;
+            lists = cuts;
+            plans = policies;
+            inputs = record { design_right = design; cuts_right = cut };
+            policies_right = right;
+            splits = splits p cuts policies are.cells are.bounds are.made are.design are.cut;
+            made = are.made;
+            boxes = boxes p cuts policies are.cells are.bounds are.made;
+            served = each_served p cuts policies are.cells are.bounds are.made are.design are.cut;
+          };
+          text = two.text;
+          is_text = are.is_text;
+          short = cells_short two.text are.cells are.is_text;
+          cells_file = two.true_of.first;
+          report_file = subst (λ (bytes : List ℕ). new (word_of words 5) ≡ Some bytes) are.is_report two.true_of.second;
+          others = two.true_of.others;
+        })
+        (left_two.both is)

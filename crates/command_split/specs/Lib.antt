@@ -1,4 +1,2 @@
 pub mod Cells
 pub mod Split
-pub mod Reading
-pub mod Deeds

@@ -12,14 +12,14 @@ ghost use Rattle.cell_file.specs.Cells.{AreAlike};
 ghost use Rattle.cell_file.specs.Text.{IsCellsText};
 ghost use Rattle.command_line.specs.Answers.{IsAnswer};
 ghost use Rattle.command_split.specs.Cells.{CellsCall};
-ghost use Rattle.command_split.specs.Reading.{AreCellTexts, CellsRefuse};
+ghost use Rattle.command_line.specs.TwoTexts.{IsUnmade};
+ghost use Rattle.command_split.specs.Split.{AreCellTexts};
 
 use bound_report::report_text;
 use cell_file::write_cells;
 use cell_maker::{CellRefusal, MadeCells, make_cells};
 use cell_split::Cuts;
-use command_generate::Texts;
-use command_line::Status;
+use command_line::{Status, Texts};
 use qp_model::{Bounds, Design, Policy, Refusal};
 use std::alloc::{AllocError, Global};
 
@@ -49,7 +49,7 @@ fn cells_made(
     requires sized { All (λ p. IsPolicyFor (design_of design.now) (plans_of p)) policies.now }
     ensures made { IfOk result (λ m. AreCellsMade design.now cuts.now (map plans_of policies.now) m.controllers.items (map printed m.bounds.items)) }
     ensures called { IfOk result (λ _. IsAnswer (CellsCall design.now cuts.now (map plans_of policies.now)) Status.Done) }
-    ensures refused { IfErr result (CellsRefuse design.now cuts.now (map plans_of policies.now)) }
+    ensures unmade { IfErr result (IsUnmade (CellsCall design.now cuts.now (map plans_of policies.now))) }
 {
     match make_cells(alloc, design, cuts, policies) {
         Ok(made) => Ok(made),
@@ -75,13 +75,13 @@ fn texts_made(alloc: Global, made: &MadeCells) -> Result<Texts, Status>
     requires few { length made.now.controllers.items ≤ 64 }
     requires alike { (i : ℕ) (c : Numbers) → i < length made.now.controllers.items →
         AreAlike (get_or made.now.controllers.items 0 c) (get_or made.now.controllers.items i c) }
-    ensures cells { IfOk result (λ t. IsCellsText t.controller.items made.now.controllers.items) }
-    ensures reports { IfOk result (λ t. t.report.items ≡ flat_map (λ b. report_text (printed b)) made.now.bounds.items) }
+    ensures cells { IfOk result (λ t. IsCellsText t.first.items made.now.controllers.items) }
+    ensures reports { IfOk result (λ t. t.second.items ≡ flat_map (λ b. report_text (printed b)) made.now.bounds.items) }
     ensures memory { IfErr result (λ e. e ≡ Status.Memory) }
 {
-    let controller = write_cells(alloc, &made.controllers)?;
-    let report = reports_of(alloc, &made.bounds)?;
-    Ok(Texts { controller, report })
+    let first = write_cells(alloc, &made.controllers)?;
+    let second = reports_of(alloc, &made.bounds)?;
+    Ok(Texts { first, second })
 }
 
 /// Both texts of the cells of a design's box with their policies; or the status that tells why there are none.
@@ -94,8 +94,9 @@ pub(crate) fn texts_of(
     requires cuts { AreCutsFor (design_of design.now) cuts.now }
     requires count { length policies.now ≡ cell_count cuts.now }
     requires sized { All (λ p. IsPolicyFor (design_of design.now) (plans_of p)) policies.now }
-    ensures texts { IfOk result (λ t. AreCellTexts design.now cuts.now (map plans_of policies.now) t.controller.items t.report.items) }
-    ensures refused { IfErr result (CellsRefuse design.now cuts.now (map plans_of policies.now)) }
+    ensures texts { IfOk result (λ t. AreCellTexts design.now cuts.now (map plans_of policies.now) t.first.items t.second.items) }
+    ensures called { IfOk result (λ _. IsAnswer (CellsCall design.now cuts.now (map plans_of policies.now)) Status.Done) }
+    ensures unmade { IfErr result (IsUnmade (CellsCall design.now cuts.now (map plans_of policies.now))) }
 {
     // A design keeps its rules, and the cuts make 1 to 64 cells; with these read, that is known on every way out.
     let _parts = design.parts();

@@ -1,12 +1,18 @@
 // `split` with its arguments.
+ghost use Rattle.qp_model.specs.problem.Parts.{design_of};
+ghost use Rattle.cell_split.specs.Cells.{AreCutsFor};
 ghost use Rattle.command_line.specs.Words.{IsSplit};
 ghost use Rattle.command_line.specs.Does.{DoesInStore};
-ghost use Rattle.command_split.specs.Deeds.{split_deeds};
+ghost use Rattle.command_line.specs.Running.{RunsInStore};
+ghost use Rattle.command_split.specs.Split.{split_after_cuts, split_deeds};
 
-use crate::texts::texts_for;
-use command_generate::write_texts;
-use command_line::Status;
+use crate::cells::texts_of;
+use cell_split::Cuts;
+use command_design_files::read_design_file;
+use command_files::{read_cell_policies_file, read_cuts_file};
+use command_line::{Status, write_texts};
 use io_edge::{Store, Words};
+use qp_model::Design;
 use std::alloc::Global;
 
 /// Makes a controller for each cell of the box of the design in the first file, as the cuts in the second split it, with the policies in the third, and
@@ -16,8 +22,34 @@ pub fn split<S: Store>(alloc: Global, words: &Words, store: &mut S) -> Status
     requires { IsSplit words.now }
     ensures { DoesInStore S.Store words.now split_deeds store.old store.new result }
 {
-    match texts_for(alloc, words, store) {
-        Ok(texts) => write_texts(4, words.at(4), 5, words.at(5), &texts, store),
+    let design = match read_design_file(alloc, 1, words.at(1), store) {
+        Ok(design) => design,
+        Err(ended) => return ended,
+    };
+    match read_cuts_file(alloc, 2, words.at(2), &design, store) {
+        Ok(cuts) => after_cuts(alloc, words, &design, &cuts, store),
+        Err(status) => status,
+    }
+}
+
+// Reads the policies of all cells, and writes the texts.
+fn after_cuts<S: Store>(
+    alloc: Global,
+    words: &Words,
+    design: &Design,
+    cuts: &Cuts,
+    store: &mut S,
+) -> Status
+    requires words { IsSplit words.now }
+    requires split { AreCutsFor (design_of design.now) cuts.now }
+    ensures { RunsInStore S.Store words.now split_deeds store.old store.new result (split_after_cuts design.now cuts.now) }
+{
+    let cells = cuts.cells();
+    match read_cell_policies_file(alloc, 3, words.at(3), design, cells, store) {
+        Ok(policies) => {
+            let made = texts_of(alloc, design, cuts, &policies);
+            write_texts(words, 4, 5, made, store)
+        }
         Err(status) => status,
     }
 }

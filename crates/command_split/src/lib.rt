@@ -3,6 +3,5 @@
 
 mod cells;
 mod command;
-mod texts;
 
 pub use command::split;

@@ -9,6 +9,7 @@ pub mod FormLaws
 pub mod TargetLaws
 pub mod PromiseFacts
 pub mod RowChoice
+pub mod RunPromise
 pub mod PromiseLaws
 -- ---- one refusal, one controller but for its gains
 pub mod TestLaws

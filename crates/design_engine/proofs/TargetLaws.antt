@@ -1,5 +1,5 @@
 -- The bounds are within the design's targets.
-use Rattle.std.proofs.Common.{◌≡◌, ℕ, zero, suc, ◌+◌, ◌*◌, ◌/◌, ◌^◌, ◌<◌, ◌≤◌, ℤ, pos, ◌*ℤ◌, ◌≤ℤ◌, unsigned_abs, arith, refl, sym, subst}
+use Rattle.std.proofs.Common.{◌≡◌, ℕ, zero, suc, ◌+◌, ◌*◌, ◌/◌, ◌^◌, ◌<◌, ◌≤◌, min, ℤ, pos, ◌*ℤ◌, ◌≤ℤ◌, unsigned_abs, arith, refl, sym, subst}
 use Rattle.std.proofs.lemmas.Int.{ints}
 use Rattle.std.proofs.lemmas.Nat.{pow_pos, mul-le}
 use Rattle.std.proofs.Math.Nat.{mul-le-mul_left, mul-le-mul_right, div-mul-le_self, le-div_iff_mul-le}
@@ -7,10 +7,14 @@ use Rattle.integer_algebra.specs.Sums.{at}
 use Rattle.integer_algebra.specs.Division.{ceil_div}
 use Rattle.integer_algebra.proofs.DivisionLaws.{le-mul-ceil_div, ceil_div-le}
 use Rattle.qp_model.specs.bounds.Choices.{step_count, violation_bound, multiplier_of}
+use Rattle.qp_model.specs.problem.Parts.{IsDesign}
+use Rattle.qp_model.specs.machine.Controller.{Numbers}
 use Rattle.qp_model.specs.machine.Machine.{exponent_of}
+use Rattle.qp_model.specs.bounds.Printed.{Printed}
+use Rattle.qp_model.specs.declared.design_parts.DesignParts.{DesignParts}
 use Rattle.dual_bounds.proofs.RowBounds.{row_below}
-use Rattle.design_engine.specs.Targets.{targets_of, half_target, violation_target, step_target, rest_target}
-use Rattle.design_engine.specs.Bounds.{margin_of}
+use Rattle.design_engine.specs.Targets.{targets_of, half_target, violation_target, step_target, rest_target, gap_target, IsWithinTargets}
+use Rattle.design_engine.specs.Bounds.{margin_of, AreBoundsWith}
 use Rattle.design_engine.specs.Promise.{TargetsLaw}
 use Rattle.design_engine.specs.Threshold.{ThresholdTargetsLaw}
 
@@ -122,28 +126,31 @@ floor_fits v d h =
     at_most (2 ^ 24 * (2 ^ 16 * v / d)) (2 ^ 40 * v) d h (omega (arith, a))
 
 -- steps and errors of a share each leave no more than the whole
-shares_enough : (s r a e k t m n : ℕ) → 1 ≤ m → k ≡ ceil_div (2 ^ (s + 41) * r) m → e ≤ r * n → m + n ≤ t → 2 ^ (s + 41) * r * r + k * e ≤ k * r * t
-shares_enough s r a e k t m n l f h g =
-    let p : 2 ^ (s + 41) * r ≤ m * k = rw f (le-mul-ceil_div (2 ^ (s + 41) * r) m l) in
-    omega (arith, mul-le-mul_right r p, mul-le-mul_left k h, mul-le-mul_left (k * r) g)
+pub shares_enough : (s r e k t m n : ℕ) → 2 ^ (s + 41) * r ≤ m * k → e ≤ r * n → m + n ≤ t → 2 ^ (s + 41) * r * r + k * e ≤ k * r * t
+shares_enough s r e k t m n p h g = omega (arith, mul-le-mul_right r p, mul-le-mul_left k h, mul-le-mul_left (k * r) g)
+
+-- bounds of at most the target, which the violation's is printed by, whatever else they are
+pub above_targets : (p : DesignParts) → IsDesign p → (c : Numbers) (b : Printed) (r cost most : ℕ) (row : ℕ → ℕ) →
+    AreBoundsWith c b r cost (min (violation_target (targets_of p)) most) (λ e. min (violation_target (targets_of p)) (row e)) (violation_target (targets_of p)) →
+    cost ≤ gap_target (targets_of p) → IsWithinTargets (targets_of p) b
+above_targets p design c b r cost most row bounds cheap = record {
+  violation = as_targets b.violation _ (unsigned_abs p.target_den) (unsigned_abs p.violation) bounds.violation
+      (whole_target _ (unsigned_abs p.violation) (unsigned_abs p.target_den) (omega arith));
+  rows = λ i l. as_targets (at b.row_violations i) _ (unsigned_abs p.target_den) (unsigned_abs p.violation)
+      (bounds.row_violations i (subst (λ (n : ℕ). i < n) bounds.row_count l)) (whole_target _ (unsigned_abs p.violation) (unsigned_abs p.target_den) (omega arith));
+  gap = as_targets b.gap _ (unsigned_abs p.target_den) (unsigned_abs p.gap) bounds.gap (whole_target _ (unsigned_abs p.gap) (unsigned_abs p.target_den) cheap);
+}
+
+-- the steps' share
+pub step_some : (p : DesignParts) → IsDesign p → 1 ≤ step_target (targets_of p)
+step_some p design = quotient_some (15 * 2 ^ 36 * unsigned_abs p.violation) (unsigned_abs p.target_den) (some_of p.target_den design.target_den.low)
+    (omega (arith, size_of p.target_den (2 ^ 20) design.target_den.low design.target_den.high, some_of p.violation design.violation.low))
 
 pub threshold_targets_law : ThresholdTargetsLaw
 threshold_targets_law p cost c b r h = record {
-  enough = shares_enough c.step_exponent r 0 cost c.steps (violation_target (targets_of p)) (step_target (targets_of p)) (rest_target (targets_of p))
-      step_some h.steps (omega (arith, h.errors)) (shares_fit (unsigned_abs p.violation) (unsigned_abs p.target_den) den);
-  within = record {
-    violation = as_targets b.violation _ (unsigned_abs p.target_den) (unsigned_abs p.violation) h.bounds.violation
-        (whole_target _ (unsigned_abs p.violation) (unsigned_abs p.target_den) (omega arith));
-    rows = λ i l. as_targets (at b.row_violations i) _ (unsigned_abs p.target_den) (unsigned_abs p.violation)
-        (h.bounds.row_violations i (subst (λ (n : ℕ). i < n) h.bounds.row_count l)) (whole_target _ (unsigned_abs p.violation) (unsigned_abs p.target_den) (omega arith));
-    gap = as_targets b.gap _ (unsigned_abs p.target_den) (unsigned_abs p.gap) h.bounds.gap
-        (whole_target _ (unsigned_abs p.gap) (unsigned_abs p.target_den) (omega (arith, h.errors)));
-  };
+  enough = shares_enough c.step_exponent r cost c.steps (violation_target (targets_of p)) (step_target (targets_of p)) (rest_target (targets_of p))
+      (rw h.steps (le-mul-ceil_div (2 ^ (c.step_exponent + 41) * r) (step_target (targets_of p)) (step_some p h.design))) (omega (arith, h.errors))
+      (shares_fit (unsigned_abs p.violation) (unsigned_abs p.target_den) (some_of p.target_den h.design.target_den.low));
+  within = above_targets p h.design c b r cost _ (λ e. ceil_div (violation_target (targets_of p)) 2 + ceil_div (2 ^ (e + 40) * r) c.steps + ceil_div cost (2 * r))
+      h.bounds (omega (arith, h.errors));
 }
-  where
-    den : 1 ≤ unsigned_abs p.target_den
-    den = some_of p.target_den h.design.target_den.low
-
-    step_some : 1 ≤ step_target (targets_of p)
-    step_some = quotient_some (15 * 2 ^ 36 * unsigned_abs p.violation) (unsigned_abs p.target_den) den
-        (omega (arith, size_of p.target_den (2 ^ 20) h.design.target_den.low h.design.target_den.high, some_of p.violation h.design.violation.low))

@@ -48,27 +48,33 @@ pub record IsSupported (p : DesignParts) (h : Form) (e : StepErrors) (c : Number
       HasErrors (design_of p) h r c xi k e
   pub repairs : HasRepairs (design_of p) r threshold
 
--- over / over_denominator is at least the threshold, and at least 2^(s+1) r / K + E / r, which steps and errors leave, where these cost at most E
-pub record IsCover (c : Numbers) (r threshold cost : ℕ) (over over_denominator : ℤ) : Type 0 where
+-- over / over_denominator is at least the threshold, and at least 2^(s+1) r / k + E / r, which k steps with exponents up to s and errors leave, where
+-- these cost at most E
+pub record IsCoverOf (k s r threshold cost : ℕ) (over over_denominator : ℤ) : Type 0 where
   pub positive : pos 0 <ℤ over_denominator
   pub nonneg : pos 0 ≤ℤ over
   pub above : (pos threshold *ℤ over_denominator) ≤ℤ (over *ℤ pos (2 ^ 40))
-  pub run : ((pos (2 ^ 41) *ℤ pos (2 ^ c.step_exponent) *ℤ square (pos r) +ℤ pos c.steps *ℤ pos cost) *ℤ over_denominator) ≤ℤ
-      (pos (2 ^ 40) *ℤ pos c.steps *ℤ pos r *ℤ over)
+  pub run : ((pos (2 ^ 41) *ℤ pos (2 ^ s) *ℤ square (pos r) +ℤ pos k *ℤ pos cost) *ℤ over_denominator) ≤ℤ (pos (2 ^ 40) *ℤ pos k *ℤ pos r *ℤ over)
 
--- row i is exceeded by at most half of that and 2^s_i r / K + E / (2 r)
-abbrev pub ExceedsRow : Design → Numbers → (r cost : ℕ) → (xi : ℕ → ℤ) → (q : ℤ) → (u : ℕ → ℤ) → (over over_denominator : ℤ) → ℕ → Type 0
-ExceedsRow d c r cost xi q u over over_denominator i =
-    (pos (2 ^ 41) *ℤ pos c.steps *ℤ pos r *ℤ over_denominator *ℤ residual d q xi u i) ≤ℤ
-    ((pos (2 ^ 40) *ℤ pos c.steps *ℤ pos r *ℤ over +ℤ
-    (pos (2 ^ 41) *ℤ pos (2 ^ exponent_of c i) *ℤ square (pos r) +ℤ pos c.steps *ℤ pos cost) *ℤ over_denominator) *ℤ (pos (residual_scale d) *ℤ q))
+abbrev pub IsCover : Numbers → (r threshold cost : ℕ) → (over over_denominator : ℤ) → Type 0
+IsCover c = IsCoverOf c.steps c.step_exponent
+
+-- row i is exceeded by at most half of that and 2^s_i r / k + E / (2 r)
+abbrev pub ExceedsRow : Design → (k : ℕ) → (exponent : ℕ → ℕ) → (r cost : ℕ) → (xi : ℕ → ℤ) → (q : ℤ) → (u : ℕ → ℤ) → (over over_denominator : ℤ) → ℕ → Type 0
+ExceedsRow d k exponent r cost xi q u over over_denominator i =
+    (pos (2 ^ 41) *ℤ pos k *ℤ pos r *ℤ over_denominator *ℤ residual d q xi u i) ≤ℤ
+    ((pos (2 ^ 40) *ℤ pos k *ℤ pos r *ℤ over +ℤ
+    (pos (2 ^ 41) *ℤ pos (2 ^ exponent i) *ℤ square (pos r) +ℤ pos k *ℤ pos cost) *ℤ over_denominator) *ℤ (pos (residual_scale d) *ℤ q))
 
 -- what the averaged plan keeps at a state
-pub record KeepsCover (d : Design) (c : Numbers) (r cost : ℕ) (xi : ℕ → ℤ) (q : ℤ) (u : ℕ → ℤ) (over over_denominator : ℤ) : Type 0 where
+pub record KeepsCoverOf (d : Design) (k : ℕ) (exponent : ℕ → ℕ) (r cost : ℕ) (xi : ℕ → ℤ) (q : ℤ) (u : ℕ → ℤ) (over over_denominator : ℤ) : Type 0 where
   pub violation : ExceedsNoMore d xi q u over over_denominator
-  pub rows : (i : ℕ) → i < rows d → ExceedsRow d c r cost xi q u over over_denominator i
+  pub rows : (i : ℕ) → i < rows d → ExceedsRow d k exponent r cost xi q u over over_denominator i
   pub costs : CostsNoMoreThanFeasible d xi q u (pos cost)
   pub repair : HasRepair d xi q u (pos r *ℤ over) over_denominator
+
+abbrev pub KeepsCover : Design → Numbers → (r cost : ℕ) → (xi : ℕ → ℤ) → (q : ℤ) → (u : ℕ → ℤ) → (over over_denominator : ℤ) → Type 0
+KeepsCover d c = KeepsCoverOf d c.steps (exponent_of c)
 
 abbrev pub CoverLaw : Type 0
 CoverLaw = (p : DesignParts) (h : Form) (e : StepErrors) (c : Numbers) (r threshold : ℕ) → IsSupported p h e c r threshold →
@@ -78,8 +84,11 @@ CoverLaw = (p : DesignParts) (h : Form) (e : StepErrors) (c : Numbers) (r thresh
 
 -- ---- bounds within a threshold
 -- steps and errors leave at most threshold / 2^40
+abbrev pub IsEnoughOf : (k s r threshold cost : ℕ) → Type 0
+IsEnoughOf k s r threshold cost = 2 ^ (s + 41) * r * r + k * cost ≤ k * r * threshold
+
 abbrev pub IsEnough : Numbers → (r threshold cost : ℕ) → Type 0
-IsEnough c r threshold cost = 2 ^ (c.step_exponent + 41) * r * r + c.steps * cost ≤ c.steps * r * threshold
+IsEnough c = IsEnoughOf c.steps c.step_exponent
 
 -- so a controller keeps the whole promise of such bounds, at every state of the box
 pub record IsBackedAbove (p : DesignParts) (h : Form) (e : StepErrors) (c : Numbers) (b : Printed) (r threshold : ℕ) : Type 0 where

@@ -6,3 +6,6 @@ pub mod PlanErrors
 pub mod MeanErrors
 -- ---- a run
 pub mod FastDesignRuns
+-- ---- the promise
+pub mod FastPromise
+mod FastBoundsWorked

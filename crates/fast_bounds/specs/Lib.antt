@@ -1,2 +1,3 @@
 pub mod CarriedErrors
 pub mod FastDesign
+pub mod FastCertified

@@ -1,4 +1,5 @@
 // The errors of the accelerated machine's steps on a design, and the bound of its runs.
+ghost use Rattle.fast_bounds.specs.FastCertified.{FastCertifiedLaw, FastLeanLaw};
 ghost use Rattle.fast_bounds.specs.FastDesign.{PlanErrorsLaw, FastCarriedLaw, FastDesignRunLaw, FastStatedRunLaw};
 
 /// The plan that a machine makes from a state of its design's box at any multipliers in 0 .. 2 r is within the plan bound, its gradient and residuals are
@@ -21,4 +22,17 @@ pub fn fast_design_run_law()
 /// It has that bound by the stated errors.
 pub fn fast_stated_run_law()
     ensures { FastStatedRunLaw }
+{}
+
+/// A controller of it whose numbers are derived from a form of a design, and whose errors at each grid state and step are at most those that its bounds count,
+/// keeps the whole promise of these bounds, at every state of the box: where repairs are known for all plans, or for those that exceed some row by more than
+/// a threshold, which is at least what steps and errors leave.
+pub fn fast_certified_law()
+    ensures { FastCertifiedLaw }
+{}
+
+/// A controller of it that is made for a design, a policy and reference plans keeps the whole promise of its bounds, whatever these plans are; and the bounds
+/// meet the design's targets.
+pub fn fast_lean_law()
+    ensures { FastLeanLaw }
 {}

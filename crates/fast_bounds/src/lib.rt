@@ -3,4 +3,7 @@
 
 mod laws;
 
-pub use laws::{fast_carried_law, fast_design_run_law, fast_stated_run_law, plan_errors_law};
+pub use laws::{
+    fast_carried_law, fast_certified_law, fast_design_run_law, fast_lean_law, fast_stated_run_law,
+    plan_errors_law,
+};

@@ -3,6 +3,7 @@ use Rattle.std.specs.Prelude.{◌≡◌, ◌≢◌, ◌⊎◌, ℕ, ◌<◌, ◌
 use Rattle.io_edge.specs.Faults.{GrowsByPart}
 use Rattle.mat_int.specs.Matrix.{Matrix}
 use Rattle.qp_model.specs.machine.Controller.{Numbers}
+use Rattle.plan_lines.specs.Inside.{AreHeld, IsFirstOut}
 use Rattle.plan_lines.specs.Lines.{plan_lines}
 use Rattle.command_line.specs.Answers.{IsCaused}
 use Rattle.command_line.specs.Script.{Act, printing_act}
@@ -46,8 +47,10 @@ pub record LinesShow (Inside : Type 0) (lines : Lines) (s : Status) (old new : L
   pub other : s ≢ Done → s ≢ WriteFault 0 → s ≢ Memory → new ≡ old
 
 -- the first state that isn't is told, or the lines are printed; a line may be where there is a state
-abbrev pub lines_act : (Outside : Status → Type 0) (Inside : Type 0) (states : Matrix) (lines : Lines) → Act
-lines_act Outside Inside states lines = printing_act (λ s. Outside s ⊎ ((s ≡ Done) × Inside)) (Inside × (0 < length states.rows)) (LinesShow Inside lines)
+abbrev pub lines_act : (Held : ℕ → Type 0) (Out : (e coordinate : ℕ) → Type 0) (states : Matrix) (lines : Lines) → Act
+lines_act Held Out states lines =
+    printing_act (λ s. IsFirstOut Held Out (length states.rows) s ⊎ ((s ≡ Done) × AreHeld Held (length states.rows))) (AreHeld Held (length states.rows) × (0 < length states.rows))
+    (LinesShow (AreHeld Held (length states.rows)) lines)
 
 -- ---- what is printed where the files hold a controller and states
 -- all is done, but for want of memory and faults, and the output, by what it had and has, gets these lines: all of them, a part that isn't all where a print failed, or

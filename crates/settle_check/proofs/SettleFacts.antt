@@ -106,7 +106,6 @@ pub states_are : (l : ClosedLoop) (p : CertificateParts) → l.low.now ≡ p.sti
 states_are l p e f = rw (e, f) refl
 
 module _ (l : ClosedLoop) (s : Certificate) (e : states_box l ≡ s.still) where
-
   room_is : (from : Box) (turns : ℕ) → TubeHasRoom l from turns → EndsHaveRoom (plant l) (machine l) s.still (shifts_box l) from turns
   room_is from turns = subst (λ (z : Box). EndsHaveRoom (plant l) (machine l) z (shifts_box l) from turns) e
 

@@ -5,7 +5,7 @@ use std::test::Fail;
 use trials_worked_controllers::controller;
 
 /// The lines of the worked source.
-pub static LINES: [&str; 42] = [
+pub static LINES: [&str; 45] = [
     "#include \"first.h\"",
     "",
     "typedef char first_shifts_round_down[((-INT64_C(3)) >> 1) == (-INT64_C(2)) ? 1 : -1];",
@@ -26,16 +26,19 @@ pub static LINES: [&str; 42] = [
     "        int32_t d0 = (int32_t)((int64_t)l0 - (int64_t)l1);",
     "        int32_t u0 = (int32_t)(INT64_C(0) - (((int64_t)a0 + (INT64_C(256) * (int64_t)d0) + (INT64_C(256) * (int64_t)l2)) >> 11));",
     "        s0 = (int32_t)((int64_t)s0 + (int64_t)u0);",
-    "        int64_t g0 = (int64_t)(INT64_C(0) + (INT64_C(1024) * (int64_t)u0));",
-    "        int32_t t0 = (int32_t)((int64_t)l0 + (((int64_t)r0 + (int64_t)g0) >> 10));",
+    "        int64_t g0 = (int64_t)(INT64_C(0) + (INT64_C(1) * (int64_t)u0));",
+    "        int32_t y0 = (int32_t)((((int64_t)r0) >> 10) + (int64_t)g0);",
+    "        int32_t t0 = (int32_t)((int64_t)l0 + (int64_t)y0);",
     "        if (t0 < 0) { t0 = 0; }",
     "        if (t0 > INT64_C(32768)) { t0 = (int32_t)(INT64_C(32768)); }",
     "        l0 = (int32_t)((int64_t)t0);",
-    "        int32_t t1 = (int32_t)((int64_t)l1 + (((int64_t)r1 - (int64_t)g0) >> 10));",
+    "        int32_t y1 = (int32_t)((((int64_t)r1) >> 10) - (int64_t)g0);",
+    "        int32_t t1 = (int32_t)((int64_t)l1 + (int64_t)y1);",
     "        if (t1 < 0) { t1 = 0; }",
     "        if (t1 > INT64_C(32768)) { t1 = (int32_t)(INT64_C(32768)); }",
     "        l1 = (int32_t)((int64_t)t1);",
-    "        int32_t t2 = (int32_t)((int64_t)l2 + (((int64_t)r2 + (INT64_C(1024) * (int64_t)u0)) >> 10));",
+    "        int32_t y2 = (int32_t)((((int64_t)r2) >> 10) + (INT64_C(1) * (int64_t)u0));",
+    "        int32_t t2 = (int32_t)((int64_t)l2 + (int64_t)y2);",
     "        if (t2 < 0) { t2 = 0; }",
     "        if (t2 > INT64_C(32768)) { t2 = (int32_t)(INT64_C(32768)); }",
     "        l2 = (int32_t)((int64_t)t2);",

@@ -1,6 +1,6 @@
 // `stay` on a design of one state whose next state has a limit from both sides. The expected numbers are those of a model in exact fractions.
 use command_line::{Command, Status, command_of};
-use command_stay::stay;
+use command_make::stay;
 use io_edge::Words;
 use std::alloc::Global;
 use std::test::Fail;

@@ -1,12 +1,10 @@
 use Rattle.std.proofs.Common.{◌++◌, ◌∙◌, ℕ, Bool, pos, [], ◌∷◌, if◌then◌else◌, List, length, ap, refl, sym, codes, string_bytes}
-use Rattle.integer_algebra.specs.Sums.{at}
-use Rattle.mat_int.specs.Matrix.{row_of}
 use Rattle.qp_model.specs.machine.Controller.{numbers}
 use Rattle.c_program.specs.Syntax.{variable}
 use Rattle.c_program.specs.Syntax.Family.{Entry, Gradient}
 use Rattle.c_program.specs.Syntax.Expression.{Constant}
 use Rattle.c_program.specs.Syntax.Statement.{Declare}
-use Rattle.c_program.specs.Of.{entry_top, plus_plan}
+use Rattle.c_program.specs.Of.{entry_top, plan_factor, plus_plan}
 use Rattle.c_program.specs.Terms.{block_text}
 use Rattle.c_program.proofs.Texts.{zero_text, sum_line}
 use Rattle.c_program.proofs.rows.push_gradient.Goals as goal
@@ -14,7 +12,7 @@ use Rattle.c_program.proofs.rows.push_gradient.Goals as goal
 pub returns : goal.returns
 returns c =
     let n = numbers c.args.from.now.c.now in
-    sum_line n (variable Gradient c.args.i) (Constant (pos 0)) (at (row_of n.plan_rows c.args.i)) (entry_top n) (variable Entry) (length n.offsets)
+    sum_line n (variable Gradient c.args.i) (Constant (pos 0)) (plan_factor n c.args.i) (entry_top n) (variable Entry) (length n.offsets)
     (codes "        ") (codes "int64_t") (string_bytes c.args.text.now) (string_bytes c.push_declared.new.text) (string_bytes c.push_str.new.self) (string_bytes c.push_plan_row.new.text)
     (string_bytes c.push_end.new.text) refl c.in_ok-push_declared.ensures
     (c.in_ok-push_str.ensures.bytes ∙ ap (λ (t : List ℕ). string_bytes c.push_declared.new.text ++ t) zero_text)

@@ -2,18 +2,22 @@ use Rattle.std.proofs.Common.{◌≡◌, ◌++◌, ◌∙◌, ℕ, List, length,
 use Rattle.mat_int.specs.Matrix.{row_of}
 use Rattle.qp_model.specs.machine.Controller.{numbers}
 use Rattle.qp_model.specs.machine.AbsoluteSums.{plan_magnitudes}
+use Rattle.c_program.specs.Of.{row_bits}
 use Rattle.overflow_check.proofs.Sizes.{length-plan_reach}
 use Rattle.c_program.proofs.Rooms.{row_room, products_fit}
-use Rattle.c_program.proofs.Texts.{row_same}
+use Rattle.c_program.proofs.Texts.{lowered_same}
 use Rattle.c_program.proofs.rows.push_plan_row.Goals as goal
 
-pub push_row-requires-clause-long : goal.push_row-requires-clause-long
-push_row-requires-clause-long c =
+pub push_lowered_row-requires-clause-small : goal.push_lowered_row-requires-clause-small
+push_lowered_row-requires-clause-small c = omega (arith, c.row_bits_at-bits.ensures.few, c.args.from.now.sound.form.sized.fraction_bits.1)
+
+pub push_lowered_row-requires-clause-long : goal.push_lowered_row-requires-clause-long
+push_lowered_row-requires-clause-long c =
     let n = numbers c.args.from.now.c.now in
     rw c.args.from.now.plan_tops (omega (arith, c.row.ensures.len, c.args.from.now.sound.form.sized.shaped.plan_rows.cols, c.args.from.now.sound.form.sized.shaped.offsets, length-plan_reach n))
 
-pub push_row-requires-clause-room : goal.push_row-requires-clause-room
-push_row-requires-clause-room c =
+pub push_lowered_row-requires-clause-room : goal.push_lowered_row-requires-clause-room
+push_lowered_row-requires-clause-room c =
     let n = numbers c.args.from.now.c.now in
     let long : length c.row.result.now ≡ length c.args.from.now.plan.now =
     rw c.args.from.now.plan_tops (omega (arith, c.row.ensures.len, c.args.from.now.sound.form.sized.shaped.plan_rows.cols, c.args.from.now.sound.form.sized.shaped.offsets, length-plan_reach n)) in
@@ -22,6 +26,7 @@ push_row-requires-clause-room c =
 pub returns : goal.returns
 returns c =
     let n = numbers c.args.from.now.c.now in
-    c.in_ok-push_row.ensures ∙ ap (λ (t : List ℕ). string_bytes c.args.text.now ++ t)
-    (row_same _ (row_of n.plan_rows c.args.i) _ (plan_magnitudes n) (λ k. codes "u" ++ decimal k) (length n.offsets) c.row.ensures.value c.args.from.now.plan_tops
+    c.in_ok-push_lowered_row.ensures ∙ ap (λ (t : List ℕ). string_bytes c.args.text.now ++ t)
+    (lowered_same _ (row_of n.plan_rows c.args.i) _ (row_bits n c.args.i) _ (plan_magnitudes n) (λ k. codes "u" ++ decimal k) (length n.offsets) c.row.ensures.value c.row_bits_at-bits.ensures.value
+    c.args.from.now.plan_tops
     (omega (arith, c.row.ensures.len, c.args.from.now.sound.form.sized.shaped.plan_rows.cols, c.args.from.now.sound.form.sized.shaped.offsets)))

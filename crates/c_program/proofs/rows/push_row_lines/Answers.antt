@@ -1,11 +1,15 @@
-use Rattle.std.proofs.Common.{codes, string_bytes}
+use Rattle.std.proofs.Common.{◌++◌, codes, string_bytes}
 use Rattle.qp_model.specs.machine.Controller.{numbers}
-use Rattle.c_program.specs.Of.{gradient_statements, move_statements}
+use Rattle.c_program.specs.Of.{gradient_statements, row_sum_statements, move_statements}
 use Rattle.c_program.proofs.Texts.{blocks_more}
 use Rattle.c_program.proofs.rows.push_row_lines.Goals as goal
 
 pub returns : goal.returns
 returns c =
     let n = numbers c.args.from.now.c.now in
-    blocks_more n (codes "        ") (gradient_statements n c.args.i) (move_statements n c.args.i) (string_bytes c.args.text.now) (string_bytes c.push_gradient_where.new.text) (string_bytes c.push_move.new.text)
-    c.in_ok-push_gradient_where.ensures c.in_ok-push_move.ensures
+    let old = string_bytes c.args.text.now in
+    let gradient = gradient_statements n c.args.i in
+    let sum = row_sum_statements n c.args.i in
+    blocks_more n (codes "        ") (gradient ++ sum) (move_statements n c.args.i) old (string_bytes c.push_row_sum.new.text) (string_bytes c.push_move.new.text)
+    (blocks_more n (codes "        ") gradient sum old (string_bytes c.push_gradient_where.new.text) (string_bytes c.push_row_sum.new.text) c.in_ok-push_gradient_where.ensures c.in_ok-push_row_sum.ensures)
+    c.in_ok-push_move.ensures

@@ -1,20 +1,22 @@
-use Rattle.command_generate.proofs.TwoTexts.{after_both, before_both}
-use Rattle.command_c.specs.Compiled.{IsCompiled, IsSourceCut, IsHeaderCut}
-use Rattle.command_c.specs.Reading.{compile_calls, compile_reaches}
-use Rattle.command_c.proofs.Leaving.{compile_made}
-use Rattle.command_c.proofs.Row.{compile_does}
+use Rattle.std.proofs.Common.{arith}
+use Rattle.command_line.proofs.Following.{stopped, went_on, acted, follows}
+use Rattle.command_line.proofs.TwoTexts.{two_done}
+use Rattle.command_c.specs.Compiled.{compile_work}
+use Rattle.command_c.proofs.Written.{compile_sound}
 use Rattle.command_c.proofs.command.write_c.Goals as goal
 
-pub returns-in-Ok : goal.returns-in-Ok
-returns-in-Ok g c =
-    let wrote = rw (c.at.ensures, c.at-in-Ok.ensures) at c.write_texts.ensures in
-    compile_does g.S.Store c.args.words.now c.args.store.now c.write_texts.new.store c.write_texts.result
-    (after_both _ compile_reaches _ _ _ _ _ _ _ _ _ (compile_made c.args.words.now c.requires _ _ _ c.in-Ok.ensures.texts) _ _ _ _ _ _ _ _ _
-    c.in-Ok.ensures.held c.in-Ok.ensures.reads c.in-Ok.ensures.writes wrote.only wrote.done wrote.first_cut wrote.second_cut wrote.first_failed wrote.second_failed wrote.reads wrote.writes)
+pub write_texts-requires : goal.write_texts-requires
+write_texts-requires g c = record { first = omega (arith, c.requires.count); second = omega (arith, c.requires.count); apart = c.requires.header_source }
 
 pub returns-in-Err : goal.returns-in-Err
 returns-in-Err g c =
-    let words = c.args.words.now in
-    compile_does g.S.Store words c.args.store.now c.texts_for.new.store c.in-Err.status
-    (before_both compile_calls compile_reaches 3 4 (IsCompiled words) (IsSourceCut words) (IsHeaderCut words) words _
-    _ _ _ _ _ c.in-Err.status c.in-Err.ensures.ends c.in-Err.ensures.held c.in-Err.ensures.reads c.in-Err.ensures.writes)
+    let is = rw c.at.ensures at c.in-Err.ensures in
+    follows compile_work compile_sound (stopped (record { held = is.held; reads = is.reads; writes = is.writes }) is.ends)
+
+pub returns-in-Ok : goal.returns-in-Ok
+returns-in-Ok g c =
+    let is = rw c.at.ensures at c.in-Ok.ensures in
+    let made = rw c.at-in-Ok.ensures at c.program_texts-made.ensures in
+    follows compile_work compile_sound
+    (went_on (record { held = is.held; reads = is.reads; writes = is.writes }) is.right
+    (acted (two_done (λ file one. one) c.program_texts-made.result (λ t. t.first.items) (λ t. t.second.items) made.texts made.called made.unmade c.write_texts.ensures.written c.write_texts.ensures.unmade)))

@@ -5,7 +5,6 @@ use Rattle.qp_model.specs.bounds.Printed.{printed}
 use Rattle.command_line.specs.Answers.{IsAnswer}
 use Rattle.command_line.specs.declared.status.Status.{Status}
 use Rattle.command_line.specs.declared.status.Status.TheVariants.{Done}
-use Rattle.command_generate.proofs.Making.{refused_no_read, refused_no_write}
 use Rattle.command_demo.specs.Demo.{DemoCalls}
 use Rattle.design_maker.specs.Texts.{states_text}
 use Rattle.command_demo.proofs.Inside.{inside, shown}
@@ -45,12 +44,12 @@ returns-in-Err g c =
     let inputs = c.args.inputs.now in
     let plans = plans_of inputs.policy in
     let s = c.in-Err.status in
-    let refused = c.in-Err.ensures.refused in
+    let none = c.in-Err.ensures.unmade in
     record {
-      called = λ number made caused. refused_is number inputs.design plans s made.made made.one refused caused;
-      prints = λ number made. quiet_told number s (g.O.Sink.got c.args.out.now) c.in-Err.ensures.not_done (λ is. refused_no_write inputs.design plans s refused 0 is);
+      called = λ number made caused. refused_is number inputs.design plans s made.made made.one none caused;
+      prints = λ number made. quiet_told number s (g.O.Sink.got c.args.out.now) none.done (none.write 0);
       quiet = λ done memory fault. refl;
-      no_read = λ file is. refused_no_read inputs.design plans s refused file is;
-      write_fault = λ number made file is. absurd (refused_no_write inputs.design plans s refused file is);
+      no_read = λ file is. none.read file is;
+      write_fault = λ number made file is. absurd (none.write file is);
       no_fewer = le_refl (g.O.Sink.faults c.args.out.now);
     }

@@ -1,23 +1,44 @@
-use Rattle.command_generate.specs.Generate.{GenerateCalls, GenerateReaches, IsGenerated, IsControllerCut, IsReportCut}
-use Rattle.command_generate.proofs.TwoTexts.{after_both, before_both}
-use Rattle.command_generate.proofs.Written.{generate_made}
-use Rattle.command_generate.proofs.Row.{generate_does}
+use Rattle.std.proofs.Common.{arith}
+use Rattle.command_line.specs.Does.{DoesInStore}
+use Rattle.command_line.proofs.Following.{stopped, went_on, acted, follows}
+use Rattle.command_line.proofs.TwoTexts.{two_done}
+use Rattle.command_generate.specs.Generate.{generate_work, generate_deeds}
+use Rattle.command_generate.proofs.Written.{generate_sound, generated}
 use Rattle.command_generate.proofs.command.generate.Goals as goal
 
-pub returns-in-Ok : goal.returns-in-Ok
-returns-in-Ok g c =
-    let wrote = rw (c.at.ensures, c.at-in-Ok.ensures) at c.write_texts.ensures in
-    let does =
-    generate_does g.S.Store c.args.words.now c.args.store.now c.write_texts.new.store c.write_texts.result
-    (after_both _ (λ k. GenerateReaches (k 1)) _ _ _ _ _ _ _ _ _ (generate_made c.args.words.now c.requires _ _ _ c.in-Ok.ensures.texts c.in-Ok.ensures.called) _ _ _ _ _ _ _ _ _
-    c.in-Ok.ensures.held c.in-Ok.ensures.reads c.in-Ok.ensures.writes wrote.only wrote.done wrote.first_cut wrote.second_cut wrote.first_failed wrote.second_failed wrote.reads wrote.writes) in
-    record { generated = does.leaves.generated; does = does }
-
+-- the design's file ends it
 pub returns-in-Err : goal.returns-in-Err
 returns-in-Err g c =
     let words = c.args.words.now in
-    let does =
-    generate_does g.S.Store words c.args.store.now c.texts_for.new.store c.in-Err.status
-    (before_both (λ k. GenerateCalls (k 1) (k 2)) (λ k. GenerateReaches (k 1)) 3 4 (IsGenerated words) (IsControllerCut words) (IsReportCut words) words _
-    _ _ _ _ _ c.in-Err.status c.in-Err.ensures.ends c.in-Err.ensures.held c.in-Err.ensures.reads c.in-Err.ensures.writes) in
-    record { generated = does.leaves.generated; does = does }
+    let is = rw c.at.ensures at c.in-Err.ensures in
+    let does : DoesInStore g.S.Store words generate_deeds c.args.store.now c.read_design_file.new.store c.in-Err.ended =
+    follows generate_work generate_sound (stopped (record { held = is.held; reads = is.reads; writes = is.writes }) is.ends) in
+    record { generated = λ done. generated words _ _ _ done does.leaves; does = does }
+
+-- the policy's does
+pub returns : goal.returns
+returns g c =
+    let words = c.args.words.now in
+    let first = rw c.at.ensures at c.in-Ok.ensures in
+    let is = rw c.at-2.ensures at c.in-Err-read_policy_file.ensures in
+    let does : DoesInStore g.S.Store words generate_deeds c.args.store.now c.read_policy_file.new.store c.in-Err-read_policy_file.status =
+    follows generate_work generate_sound
+    (went_on (record { held = first.held; reads = first.reads; writes = first.writes }) first.right (stopped (record { held = is.held; reads = is.reads; writes = is.writes }) is.ends)) in
+    record { generated = λ done. generated words _ _ _ done does.leaves; does = does }
+
+-- both are right
+pub returns-in-Ok-read_policy_file : goal.returns-in-Ok-read_policy_file
+returns-in-Ok-read_policy_file g c =
+    let words = c.args.words.now in
+    let first = rw c.at.ensures at c.in-Ok.ensures in
+    let is = rw c.at-2.ensures at c.in-Ok-read_policy_file.ensures in
+    let made = rw c.at-in-Ok-read_policy_file.ensures at c.texts_of-made.ensures in
+    let does : DoesInStore g.S.Store words generate_deeds c.args.store.now c.write_texts.new.store c.write_texts.result =
+    follows generate_work generate_sound
+    (went_on (record { held = first.held; reads = first.reads; writes = first.writes }) first.right
+    (went_on (record { held = is.held; reads = is.reads; writes = is.writes }) is.right
+    (acted (two_done (λ file one. one) c.texts_of-made.result (λ t. t.first.items) (λ t. t.second.items) made.texts made.called made.unmade c.write_texts.ensures.written c.write_texts.ensures.unmade)))) in
+    record { generated = λ done. generated words _ _ _ done does.leaves; does = does }
+
+pub write_texts-requires : goal.write_texts-requires
+write_texts-requires g c = record { first = omega (arith, c.requires.count); second = omega (arith, c.requires.count); apart = c.requires.report_controller }

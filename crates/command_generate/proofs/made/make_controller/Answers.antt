@@ -1,16 +1,26 @@
-use Rattle.std.proofs.Common.{refl, sym, ◌∙◌}
+use Rattle.std.proofs.Common.{refl}
+use Rattle.qp_model.specs.problem.Parts.{design_of}
 use Rattle.qp_model.specs.problem.Policy.{plans_of}
 use Rattle.qp_model.specs.bounds.Printed.{printed}
-use Rattle.command_generate.proofs.Making.{done_called, refused_called, refusal_not_done}
+use Rattle.design_engine.specs.Targets.{targets_of}
+use Rattle.design_engine.specs.Refusals.{HasCause, PassesAll}
+use Rattle.command_generate.proofs.Making.{no_cause, done_called, refused_called}
+use Rattle.command_generate.proofs.Passing.{built_passes}
 use Rattle.command_generate.proofs.made.make_controller.Goals as goal
 
 pub returns-in-Ok-clause-called : goal.returns-in-Ok-clause-called
 returns-in-Ok-clause-called c =
-    done_called c.args.design.now (plans_of c.args.policy.now) _ c.in-Ok.made c.in-Ok.made.controller (printed c.in-Ok.made.bounds) refl c.in-Ok.ensures.every_refusal c.in-Ok.ensures.built
+    let p = c.args.design.now in
+    let plans = plans_of c.args.policy.now in
+    let made = c.in-Ok.made in
+    let Cause = HasCause (design_of p) (targets_of p) plans in
+    let All = PassesAll (design_of p) (targets_of p) plans in
+    done_called Cause All (λ never. never) _ c.in-Ok.ensures.every_refusal made refl
+    (built_passes p plans made.controller (printed made.bounds) (no_cause Cause All (λ never. never) _ c.in-Ok.ensures.every_refusal made refl) c.in-Ok.ensures.built)
 
-pub returns-in-Err-clause-refused : goal.returns-in-Err-clause-refused
-returns-in-Err-clause-refused c =
-    refused_called c.args.design.now (plans_of c.args.policy.now) _ c.in-Err.refusal c.from.result refl c.from.ensures c.in-Err.ensures.refused c.in-Err.ensures.every_refusal c.in-Err.ensures.accepted
-
-pub returns-in-Err-clause-not_done : goal.returns-in-Err-clause-not_done
-returns-in-Err-clause-not_done c = λ is. refusal_not_done c.in-Err.refusal (sym c.from.ensures ∙ is)
+pub returns-in-Err-clause-unmade : goal.returns-in-Err-clause-unmade
+returns-in-Err-clause-unmade c =
+    let p = c.args.design.now in
+    let plans = plans_of c.args.policy.now in
+    refused_called (HasCause (design_of p) (targets_of p) plans) (PassesAll (design_of p) (targets_of p) plans) (λ never. never) _ c.in-Err.ensures.every_refusal c.in-Err.ensures.accepted
+    c.in-Err.refusal c.from.result refl c.from.ensures c.in-Err.ensures.refused

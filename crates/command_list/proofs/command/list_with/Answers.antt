@@ -1,4 +1,4 @@
-use Rattle.std.proofs.Common.{◌≡◌, inl, inr, ℕ, subst, sym, refl, le_refl}
+use Rattle.std.proofs.Common.{inl, inr, ℕ, subst, sym, refl, le_refl}
 use Rattle.io_edge.specs.Faults.{Files, Rose, IsWritten, IsCutShort}
 use Rattle.mac_listing.proofs.Sizes.{text_short}
 use Rattle.command_line.specs.Words.{word_of}

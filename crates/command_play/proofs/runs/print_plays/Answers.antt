@@ -1,4 +1,4 @@
-use Rattle.std.proofs.Common.{◌≡◌, ◌⊎◌, inl, List, ℕ, refl, subst, ap}
+use Rattle.std.proofs.Common.{◌≡◌, ◌⊎◌, inl, refl, subst, ap}
 use Rattle.std.specs.Prelude.{IfSome, IsSomeAnd}
 use Rattle.mac_listing.specs.Listing.{Instructions}
 use Rattle.mac_machine.specs.Playing.{Playing}

@@ -5,9 +5,13 @@ use Rattle.command_line.specs.declared.words.Command.{Command}
 use Rattle.command_line.specs.declared.words.Command.TheVariants.{Generate, Stay, Play, Lean, LeanStay, Split, Serve, C, Settle}
 use Rattle.command_line.proofs.OneCommand.{for_each}
 use Rattle.command_line.proofs.Doing.{none_falls}
+use Rattle.command_c.proofs.Written.{compiled}
+use Rattle.command_generate.proofs.Written.{generated}
+use Rattle.command_make.proofs.Written.{stay_left, lean_left, lean_stay_left}
 use Rattle.command_play.proofs.Solved.{plays_as_solved}
 use Rattle.command_serve.proofs.Held.{serves_held}
 use Rattle.command_settle.proofs.Settled.{settled}
+use Rattle.command_split.proofs.Written.{split_left}
 use Rattle.command_run.specs.Table.{deeds_of}
 use Rattle.command_run.proofs.command.run.Goals as goal
 
@@ -16,6 +20,7 @@ pub returns-in-Some : goal.returns-in-Some
 returns-in-Some g c =
     let words = c.args.words.now in
     let held = g.S.Store.held c.args.store.now in
+    let left = g.S.Store.held c.answer.new.store in
     let got = g.O.Sink.got c.args.out.now in
     let got_now = g.O.Sink.got c.answer.new.out in
     let s = c.answer.result in
@@ -24,14 +29,14 @@ returns-in-Some g c =
     let does = c.answer.ensures in
     let each = for_each words command is (λ d. Does g.S.Store g.O.Sink words (deeds_of d) c.args.store.now c.answer.new.store c.args.out.now c.answer.new.out s) does in
     record {
-      generated = λ that. (each Generate that).leaves.generated;
-      stayed = λ disturbed that. (each (Stay disturbed) that).leaves.stayed;
-      leaned = λ that. (each Lean that).leaves.written;
-      kept = λ disturbed that. (each (LeanStay disturbed) that).leaves.stayed;
-      split = λ that. (each Split that).leaves.written;
+      generated = λ that is. generated words s held left is (each Generate that).leaves;
+      stayed = λ disturbed that is. stay_left disturbed words s held left is (each (Stay disturbed) that).leaves;
+      leaned = λ that is. lean_left words s held left is (each Lean that).leaves;
+      kept = λ disturbed that is. lean_stay_left disturbed words s held left is (each (LeanStay disturbed) that).leaves;
+      split = λ that is. split_left words s held left is (each Split that).leaves;
       served = λ that. let served = each Serve that in serves_held words held s got got_now served.called served.shows;
       played = λ that. let played = each Play that in plays_as_solved words held s got got_now played.called played.shows;
-      compiled = λ that. (each C that).leaves.compiled;
+      compiled = λ that is. compiled words s held left is (each C that).leaves;
       settled = λ disturbed that. let told = each (Settle disturbed) that in settled disturbed words held s got got_now told.called told.shows;
       usage = (λ e. absurd (does.telling.usage e), λ u. absurd (u command is));
       unused = λ u. absurd (u command is);

@@ -1,9 +1,11 @@
-use Rattle.std.proofs.Common.{ℕ, ap, sym, subst, ◌∙◌}
+use Rattle.std.proofs.Common.{◌≡◌, ℕ, ℤ, List, ap, sym, subst, ◌∙◌}
 use Rattle.qp_model.specs.problem.Parts.{design_of}
 use Rattle.qp_model.specs.machine.Controller.{Numbers}
 use Rattle.qp_model.specs.declared.design_parts.DesignParts.{DesignParts}
-use Rattle.settle_check.specs.Still.{box_of, IsPartOf}
-use Rattle.settle_check.specs.Certificates.{state_box, IsCertificateFor}
+use Rattle.settle_check.specs.Still.{Box, box_of, IsPartOf}
+use Rattle.settle_check.specs.Certificates.{state_box, IsCertificateFor, IsBoxOf}
+use Rattle.settle_check.specs.Settling.{told_rows, cost_box}
+use Rattle.settle_check.specs.declared.certificate.StateBox.{StateBox}
 use Rattle.settle_check.specs.CertificateText.{certificate_numbers}
 use Rattle.command_settle.proofs.Calling.{passing, failing}
 use Rattle.command_settle.proofs.check.box_settled.Goals as goal
@@ -23,6 +25,18 @@ check_settling-requires c =
       shift_high = rw c.row-2.ensures.value (c.requires.range.high.long ∙ sym states);
     }
 
+-- where rows of the cost lie, by equal files
+abbrev AreCosts : DesignParts → Numbers → (low high : List ℤ) → Box → ℕ → StateBox → Type 0
+AreCosts p n low high z turns b = IsBoxOf (told_rows (design_of p) turns) (cost_box (design_of p) n z (box_of low high) turns) b
+
+costs_same : (p q : DesignParts) (n m : Numbers) (l h low high : List ℤ) (z : Box) (turns : ℕ) (b : StateBox) → p ≡ q → n ≡ m → l ≡ low → h ≡ high →
+    AreCosts p n l h z turns b → AreCosts q m low high z turns b
+costs_same p q n m l h low high z turns b e f g k are =
+    subst (λ (x : List ℤ). AreCosts q m low x z turns b) k
+    (subst (λ (x : List ℤ). AreCosts q m x h z turns b) g
+    (subst (λ (x : Numbers). AreCosts q x l h z turns b) f
+    (subst (λ (x : DesignParts). AreCosts x n l h z turns b) e are)))
+
 pub returns-in-Ok : goal.returns-in-Ok
 returns-in-Ok c =
     let d = design_of c.args.design.now in
@@ -31,7 +45,8 @@ returns-in-Ok c =
     let told = rw (c.parts-d.ensures.value, c.parts-c.ensures.value, c.row.ensures.value, c.row-2.ensures.value) at c.in-Ok.ensures in
     record {
       rest = told.rest;
-      costs = told.costs;
+      costs = costs_same _ _ _ _ _ _ _ _ (state_box c.args.certificate.now.still) c.args.certificate.now.after c.in-Ok.settled.costs c.parts-d.ensures.value c.parts-c.ensures.value
+          c.row.ensures.value c.row-2.ensures.value c.in-Ok.ensures.costs;
       settles = told.settled;
       passes = told.found;
       answer = passing d n f c.args.range.now told.found told.first;

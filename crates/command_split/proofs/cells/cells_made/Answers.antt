@@ -8,6 +8,6 @@ pub returns-in-Ok-clause-called : goal.returns-in-Ok-clause-called
 returns-in-Ok-clause-called c =
     done_called c.args.design.now c.args.cuts.now (map plans_of c.args.policies.now) c.in-Ok.made.controllers.items (map printed c.in-Ok.made.bounds.items) c.in-Ok.ensures.made
 
-pub returns-in-Err-clause-refused : goal.returns-in-Err-clause-refused
-returns-in-Err-clause-refused c =
+pub returns-in-Err-clause-unmade : goal.returns-in-Err-clause-unmade
+returns-in-Err-clause-unmade c =
     refused_called c.args.design.now c.args.cuts.now (map plans_of c.args.policies.now) c.in-Err.refused c.cell_status.result c.cell_status.ensures c.in-Err.ensures.refused

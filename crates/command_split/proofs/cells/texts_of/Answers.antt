@@ -1,10 +1,12 @@
 use Rattle.std.proofs.Common.{map, sym, ◌∙◌, rules}
+use Rattle.std.proofs.lemmas.Result.{IfErr-weaker, IfOk-weaker}
 use Rattle.std.proofs.lemmas.List.Folds.{flat_map-map}
 use Rattle.qp_model.specs.problem.Parts.{IsDesign}
 use Rattle.qp_model.specs.problem.Policy.{plans_of}
 use Rattle.qp_model.specs.bounds.Printed.{printed}
 use Rattle.bound_report.specs.Report.{report_text}
-use Rattle.command_split.proofs.Reports.{of_both}
+use Rattle.command_line.proofs.Results.{err_same}
+use Rattle.command_line.proofs.TwoTexts.{both_ok, unmade_memory}
 use Rattle.command_split.proofs.Serving.{are_alike}
 use Rattle.command_split.proofs.cells.texts_of.Goals as goal
 
@@ -16,7 +18,7 @@ pub returns-clause-texts : goal.returns-clause-texts
 returns-clause-texts c =
     let design : IsDesign c.args.design.now = search rules in
     let made = c.in_ok-made.made in
-    of_both c.texts_made.result _ _ _
+    both_ok c.texts_made.result c.texts_made.ensures.cells c.texts_made.ensures.reports
     (λ t text report. record {
       design = design;
       cut = c.requires.cuts;
@@ -25,6 +27,13 @@ returns-clause-texts c =
       made = c.in_ok-made.ensures.made;
       is_text = text;
       is_report = report ∙ sym (flat_map-map report_text printed made.bounds.items);
-      answer = c.in_ok-made.ensures.called;
     })
-    c.texts_made.ensures.cells c.texts_made.ensures.reports
+
+pub returns-clause-called : goal.returns-clause-called
+returns-clause-called c = IfOk-weaker c.texts_made.result _ _ (λ t are. c.in_ok-made.ensures.called) c.texts_made.ensures.cells
+
+pub returns-clause-unmade : goal.returns-clause-unmade
+returns-clause-unmade c = IfErr-weaker c.texts_made.result _ _ (λ e is. unmade_memory _ e is) c.texts_made.ensures.memory
+
+pub returns-in_err-made : goal.returns-in_err-made
+returns-in_err-made c = rw (err_same _ _ c.from_residual.ensures.1) (record { texts = tt; called = tt; unmade = c.in_err-made.ensures.unmade })

@@ -1,20 +1,27 @@
-use Rattle.command_generate.proofs.TwoTexts.{after_both, before_both}
-use Rattle.command_split.specs.Split.{IsSplitWritten, IsCellsCut, IsCellsReportCut}
-use Rattle.command_split.specs.Reading.{split_calls, split_reaches}
-use Rattle.command_split.proofs.Written.{split_made}
-use Rattle.command_split.proofs.Row.{split_does}
+use Rattle.command_line.proofs.Following.{stopped, went_on, follows}
+use Rattle.command_split.specs.Split.{split_work}
+use Rattle.command_split.proofs.Written.{split_sound}
 use Rattle.command_split.proofs.command.split.Goals as goal
 
-pub returns-in-Ok : goal.returns-in-Ok
-returns-in-Ok g c =
-    let wrote = rw (c.at.ensures, c.at-in-Ok.ensures) at c.write_texts.ensures in
-    split_does g.S.Store c.args.words.now c.args.store.now c.write_texts.new.store c.write_texts.result
-    (after_both _ split_reaches _ _ _ _ _ _ _ _ _ (split_made c.args.words.now c.requires _ _ _ c.in-Ok.ensures.texts) _ _ _ _ _ _ _ _ _
-    c.in-Ok.ensures.held c.in-Ok.ensures.reads c.in-Ok.ensures.writes wrote.only wrote.done wrote.first_cut wrote.second_cut wrote.first_failed wrote.second_failed wrote.reads wrote.writes)
-
+-- the design's file ends it
 pub returns-in-Err : goal.returns-in-Err
 returns-in-Err g c =
-    let words = c.args.words.now in
-    split_does g.S.Store words c.args.store.now c.texts_for.new.store c.in-Err.status
-    (before_both split_calls split_reaches 4 5 (IsSplitWritten words) (IsCellsCut words) (IsCellsReportCut words) words _
-    _ _ _ _ _ c.in-Err.status c.in-Err.ensures.ends c.in-Err.ensures.held c.in-Err.ensures.reads c.in-Err.ensures.writes)
+    let is = rw c.at.ensures at c.in-Err.ensures in
+    follows split_work split_sound (stopped (record { held = is.held; reads = is.reads; writes = is.writes }) is.ends)
+
+-- the file of cuts does
+pub returns : goal.returns
+returns g c =
+    let first = rw c.at.ensures at c.in-Ok.ensures in
+    let is = rw c.at-2.ensures at c.in-Err-read_cuts_file.ensures in
+    follows split_work split_sound
+    (went_on (record { held = first.held; reads = first.reads; writes = first.writes }) first.right (stopped (record { held = is.held; reads = is.reads; writes = is.writes }) is.ends))
+
+-- both are right
+pub returns-in-Ok-read_cuts_file : goal.returns-in-Ok-read_cuts_file
+returns-in-Ok-read_cuts_file g c =
+    let first = rw c.at.ensures at c.in-Ok.ensures in
+    let is = rw c.at-2.ensures at c.in-Ok-read_cuts_file.ensures in
+    follows split_work split_sound
+    (went_on (record { held = first.held; reads = first.reads; writes = first.writes }) first.right
+    (went_on (record { held = is.held; reads = is.reads; writes = is.writes }) is.right c.after_cuts.ensures))

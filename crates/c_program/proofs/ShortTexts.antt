@@ -1,0 +1,225 @@
+-- Each number that the text of a controller's program shows is below 2^64.
+use Rattle.std.proofs.Common.{◌≡◌, ℕ, zero, suc, ◌+◌, ◌-◌, ◌*◌, ◌^◌, ◌<◌, ◌≤◌, ◌==◌, ltb, Bool, true, if◌then◌else◌, get_or, ℤ, pos, ◌*ℤ◌, List, [], ◌∷◌, ◌++◌, length, map, sym, subst, arith}
+use Rattle.std.specs.Prelude.{All}
+use Rattle.std.specs.List.{range_with_len}
+use Rattle.std.specs.Int.{w32, trailing_zeros}
+use Rattle.std.proofs.lemmas.Int.{ints}
+use Rattle.std.proofs.lemmas.Bool.{cond_both, ltb-true, lt-ltb}
+use Rattle.std.proofs.lemmas.Nat.{mul-le}
+use Rattle.std.proofs.lemmas.List.Elements.{All-nil, All-cons, All-head, All-tail, All-append, All-map, All-get_or, All-from_get_or}
+use Rattle.std.proofs.lemmas.List.FromFn.{length-range_with_len, get_or-range_with_len, length-map-range_with_len, get_or-map-range_with_len}
+use Rattle.integer_algebra.specs.Sums.{at}
+use Rattle.mat_int.specs.Matrix.{row_of}
+use Rattle.qp_model.specs.problem.Limits.{most_states, most_stages}
+use Rattle.qp_model.specs.problem.Range.{IsNumerator}
+use Rattle.qp_model.specs.machine.Controller.{Numbers}
+use Rattle.qp_model.specs.machine.Machine.{IsAdmissible, averaged_plan, top_of}
+use Rattle.qp_model.specs.machine.AbsoluteSums.{IsController}
+use Rattle.c_program.specs.Syntax.{Variable, variable, Kind, Expression, Statement, groups}
+use Rattle.c_program.specs.Syntax.Family.{Loaded, RowBase, Multiplier, Entry, RowSum, Moved, Sum, Output}
+use Rattle.c_program.specs.Syntax.Expression.{Constant, Value, Plus, Minus, Times, Quotient, Remainder, Shifted}
+use Rattle.c_program.specs.Syntax.Statement.{Declare, Assign, AtLeastZero, AtMost}
+use Rattle.c_program.specs.Meaning.{Environment, IsDefined, variable_of, done, IsDone, AreDone, handed, AreAveraged}
+use Rattle.c_program.specs.Needed.{left_in}
+use Rattle.c_program.specs.Of.{state_top, multiplier_top, entry_top, row_bits, plan_factor, lowered_base, plus_plan, partner, is_first, is_second, loaded_statements, entry_base_statements, row_base_statements, zero_statements, before_of, difference_statements, gain_of, gain_variable, entry_statements, sum_statements, gradient_statements, row_expression, row_sum_statements, moved_expression, move_statements, row_statements, repetition_body, average_expression, shifted_average, divided_average, is_needed, program_of}
+use Rattle.c_program.specs.Laws.{HasShortNumbers, HasShortOperands, ShortTextLaw}
+use Rattle.c_program.proofs.Runs.{groups_none, groups_more}
+use Rattle.c_program.proofs.Pairs.{pair_there, later_there}
+use Rattle.c_program.proofs.LeftIn.{ReadsNeeded}
+use Rattle.c_program.proofs.ProgramNeeds.{products_need, lowered_needs}
+use Rattle.c_program.proofs.ProgramLaw.{solves}
+
+-- ---- what C defines has short constants
+abbrev small : Variable → Bool
+small v = ltb v.number (2 ^ 64)
+
+small_at : (n k : ℕ) → k < n → n < 2 ^ 64 → ltb k (2 ^ 64) ≡ true
+small_at n k l h = lt-ltb k (2 ^ 64) (omega (arith, l, h))
+
+defined_short : (e : Environment) (a : Expression) → IsDefined e a → ReadsNeeded small a → HasShortNumbers a
+defined_short e (Constant z) d r = omega (arith, d)
+defined_short e (Value v) d r = ltb-true v.number (2 ^ 64) r
+defined_short e (Plus a b) d r = (defined_short e a d.0 r.0, defined_short e b d.1 r.1)
+defined_short e (Minus a b) d r = (defined_short e a d.0 r.0, defined_short e b d.1 r.1)
+defined_short e (Times a b) d r = (defined_short e a d.0 r.0, defined_short e b d.1 r.1)
+defined_short e (Quotient a k) d r = (defined_short e a d.0 r, omega (arith, d.2))
+defined_short e (Remainder a k) d r = (defined_short e a d.0 r, omega (arith, d.2))
+defined_short e (Shifted a k) d r = (defined_short e a d.0 r, omega (arith, d.1))
+
+abbrev IsSmall : Statement → Type 0
+IsSmall (Declare v a) = (v.number < 2 ^ 64) × ReadsNeeded small a
+IsSmall (Assign v a) = (v.number < 2 ^ 64) × ReadsNeeded small a
+IsSmall (AtLeastZero v) = v.number < 2 ^ 64
+IsSmall (AtMost v top) = v.number < 2 ^ 64
+
+short_statement : (kind : Variable → Kind) (e : Environment) (s : Statement) → IsDone kind e s → IsSmall s → HasShortOperands s
+short_statement kind e (Declare v a) d r = (r.0, defined_short e a d.operands r.1)
+short_statement kind e (Assign v a) d r = (r.0, defined_short e a d.operands r.1)
+short_statement kind e (AtLeastZero v) d r = r
+short_statement kind e (AtMost v top) d r = (r, omega (arith, d.operands))
+
+short_done : (kind : Variable → Kind) (e : Environment) (ss : List Statement) → AreDone kind e ss → All IsSmall ss → All HasShortOperands ss
+unfolding AreDone
+short_done kind e [] d r = All-nil HasShortOperands
+short_done kind e (s ∷ ss) d r =
+    All-cons HasShortOperands s ss (short_statement kind e s d.0 (All-head IsSmall s ss r)) (short_done kind (done e s) ss d.1 (All-tail IsSmall s ss r))
+
+-- ---- lists of statements
+one : (s : Statement) → IsSmall s → All IsSmall (s ∷ [])
+one s h = All-cons IsSmall s [] h (All-nil IsSmall)
+
+where_first : (b : Bool) (s : Statement) → (b ≡ true → IsSmall s) → All IsSmall (if b then s ∷ [] else [])
+where_first b s h = cond_both b (s ∷ []) [] (All IsSmall) (λ t. one s (h t)) (λ f. All-nil IsSmall)
+
+in_groups : (f : ℕ → List Statement) (n : ℕ) → ((i : ℕ) → i < n → All IsSmall (f i)) → All IsSmall (groups f n)
+in_groups f zero h = subst (All IsSmall) (sym (groups_none f)) (All-nil IsSmall)
+in_groups f (suc n) h =
+    subst (All IsSmall) (sym (groups_more f n)) (All-append IsSmall (groups f n) (f n) (in_groups f n (λ i l. h i (omega (arith, l)))) (h n (omega arith)))
+
+in_part : (needed : Variable → Bool) (ss : List Statement) → All IsSmall ss → All IsSmall (left_in needed ss)
+in_part needed [] h = h
+in_part needed (s ∷ ss) h =
+    let rest = in_part needed ss (All-tail IsSmall s ss h) in
+    cond_both (needed (variable_of s)) (s ∷ left_in needed ss) (left_in needed ss) (All IsSmall) (λ t. All-cons IsSmall s (left_in needed ss) (All-head IsSmall s ss h) rest) (λ f. rest)
+
+-- ---- a controller's statements
+record AreFew (c : Numbers) : Type 0 where
+  states : c.states < 2 ^ 64
+  entries : length c.offsets < 2 ^ 64
+  rows : length c.bounds < 2 ^ 64
+
+before_small : (c : Numbers) → AreFew c → All IsSmall (before_of c)
+before_small c w =
+    let n = groups (loaded_statements c) c.states in
+    let a = groups (entry_base_statements c) (length c.offsets) in
+    let r = groups (row_base_statements c) (length c.bounds) in
+    let l = groups (zero_statements Multiplier) (length c.bounds) in
+    let s = groups (zero_statements Sum) (length c.offsets) in
+    let A = λ (xs ys : List Statement). All-append IsSmall xs ys in
+    A (n ++ a ++ r ++ l) s
+    (A (n ++ a ++ r) l
+    (A (n ++ a) r
+    (A n a (in_groups (loaded_statements c) c.states (λ k m. one _ (omega (arith, m, w.states), (tt, small_at c.states k m w.states))))
+    (in_groups (entry_base_statements c) (length c.offsets) (λ j m. one _ (
+      omega (arith, m, w.entries),
+      products_need small (Constant _) (λ k. at (row_of c.state_gains j) k *ℤ pos (2 ^ c.step_exponent)) (state_top c) (variable Loaded) c.states tt (λ k h some. small_at c.states k h w.states),
+    ))))
+    (in_groups (row_base_statements c) (length c.bounds) (λ i m. one _ (
+      omega (arith, m, w.rows),
+      products_need small (Constant _) (at (row_of c.state_rows i)) (state_top c) (variable Loaded) c.states tt (λ k h some. small_at c.states k h w.states),
+    ))))
+    (in_groups (zero_statements Multiplier) (length c.bounds) (λ i m. one _ (omega (arith, m, w.rows), tt))))
+    (in_groups (zero_statements Sum) (length c.offsets) (λ j m. one _ (omega (arith, m, w.entries), tt)))
+
+plan_small : (c : Numbers) (i : ℕ) (a : Expression) → AreFew c → ReadsNeeded small a → ReadsNeeded small (plus_plan c i a)
+plan_small c i a w r = products_need small a (plan_factor c i) (entry_top c) (variable Entry) (length c.offsets) r (λ j h some. small_at (length c.offsets) j h w.entries)
+
+difference_small : (c : Numbers) (i : ℕ) → AreFew c → i < length c.bounds → All IsSmall (difference_statements c i)
+difference_small c i w l =
+    where_first (is_first c i) _ (λ t. (omega (arith, l, w.rows), (small_at (length c.bounds) i l w.rows, small_at (length c.bounds) (partner c i) (pair_there c i t).inside w.rows)))
+
+row_expression_small : (c : Numbers) (i : ℕ) → AreFew c → i < length c.bounds → ReadsNeeded small (row_expression c i)
+row_expression_small c i w l =
+    let R = λ (a : Expression). ReadsNeeded small a in
+    let own = small_at (length c.bounds) i l w.rows in
+    let base = lowered_needs small (variable RowBase i) (row_bits c i) own in
+    cond_both (is_first c i) _ _ R (λ t. (base, own)) (λ f. cond_both (is_second c i) _ _ R
+    (λ t. (base, small_at (length c.bounds) (partner c i) (omega (arith, (later_there c i l t).pair.order, l)) w.rows)) (λ g. plan_small c i (lowered_base c i) w base))
+
+row_small : (c : Numbers) (i : ℕ) → AreFew c → i < length c.bounds → All IsSmall (row_statements c i)
+row_small c i w l =
+    let own = small_at (length c.bounds) i l w.rows in
+    let number : i < 2 ^ 64 = omega (arith, l, w.rows) in
+    let t = variable Moved i in
+    let last = Assign (variable Multiplier i) (Value t) ∷ [] in
+    let most = AtMost t (top_of c i) ∷ last in
+    let least = AtLeastZero t ∷ most in
+    All-append IsSmall (gradient_statements c i ++ row_sum_statements c i) (move_statements c i)
+    (All-append IsSmall (gradient_statements c i) (row_sum_statements c i)
+    (where_first (is_first c i) _ (λ t. (number, plan_small c i (Constant (pos 0)) w tt)))
+    (one _ (number, row_expression_small c i w l)))
+    (All-cons IsSmall (Declare t (moved_expression c i)) least (number, (own, lowered_needs small (variable RowSum i) (c.fraction_bits - row_bits c i) own))
+    (All-cons IsSmall (AtLeastZero t) most number (All-cons IsSmall (AtMost t (top_of c i)) last number (one (Assign (variable Multiplier i) (Value t)) (number, own)))))
+
+body_small : (c : Numbers) → AreFew c → All IsSmall (repetition_body c)
+body_small c w =
+    let d = groups (difference_statements c) (length c.bounds) in
+    let u = groups (entry_statements c) (length c.offsets) in
+    let s = groups sum_statements (length c.offsets) in
+    let r = groups (row_statements c) (length c.bounds) in
+    All-append IsSmall (d ++ u ++ s) r
+    (All-append IsSmall (d ++ u) s
+    (All-append IsSmall d u (in_groups (difference_statements c) (length c.bounds) (λ i l. difference_small c i w l))
+    (in_groups (entry_statements c) (length c.offsets) (λ j l. one _ (
+      omega (arith, l, w.entries),
+      (
+        tt,
+        products_need small _ (gain_of c j) (multiplier_top c) (gain_variable c) (length c.bounds) (small_at (length c.offsets) j l w.entries) (λ i h some. small_at (length c.bounds) i h w.rows),
+      ),
+    ))))
+    (in_groups sum_statements (length c.offsets) (λ j l. let own = small_at (length c.offsets) j l w.entries in one _ (omega (arith, l, w.entries), (own, own)))))
+    (in_groups (row_statements c) (length c.bounds) (λ i l. row_small c i w l))
+
+-- ---- the whole
+few : (c : Numbers) → IsController c → AreFew c
+few c sound =
+    let sized = sound.form.sized in
+    let n : most_states c.version ≤ 6 = cond_both (c.version == 1) 4 6 (λ (k : ℕ). k ≤ 6) (λ t. omega arith) (λ f. omega arith) in
+    let s : most_stages c.version ≤ 30 = cond_both (c.version == 1) 20 30 (λ (k : ℕ). k ≤ 30) (λ t. omega arith) (λ f. omega arith) in
+    record {
+      states = omega (arith, sized.states.1, n);
+      entries = omega (arith, sized.shaped.offsets, mul-le c.inputs c.stages 3 30 sized.inputs.1 (omega (arith, sized.stages.1, s)));
+      rows = omega (arith, sized.shaped.bounds, sized.rows.1, s);
+    }
+
+-- a state of the box
+low_corner : (c : Numbers) → IsController c → IsAdmissible c c.low
+low_corner c sound = record {
+  long = sound.form.sized.shaped.low;
+  each = λ i l. record { low = omega (arith, ints); high = sound.form.sized.box i l };
+}
+
+average_small : (c : Numbers) (j : ℕ) → j < 2 ^ 64 → ReadsNeeded small (average_expression c j)
+average_small c j l =
+    let own : ltb j (2 ^ 64) ≡ true = lt-ltb j (2 ^ 64) l in
+    let sum = Value (variable Output j) in
+    let k = trailing_zeros w32 c.steps in
+    cond_both (c.steps == 2 ^ k) (shifted_average sum c.steps k) (divided_average sum c.steps) (ReadsNeeded small) (λ t. (own, tt)) (λ f. ((own, ((tt, own), tt)), (tt, (tt, own))))
+
+averages_short : (c : Numbers) (sums : List ℤ) → c.inputs < 2 ^ 64 → AreAveraged (program_of c) sums → All HasShortNumbers (program_of c).averages
+averages_short c sums w d =
+    let new = average_expression c in
+    let es = map new (range_with_len 0 c.inputs) in
+    All-from_get_or HasShortNumbers es (new 0) (λ j l.
+    let inside : j < c.inputs = omega (arith, l, length-map-range_with_len new 0 c.inputs) in
+    let same = get_or-map-range_with_len new 0 c.inputs j j (new 0) inside (omega arith) in
+    subst HasShortNumbers (sym same)
+    (defined_short (handed sums) (new j) (subst (IsDefined (handed sums)) same (All-get_or (IsDefined (handed sums)) es j (new 0) l d)) (average_small c j (omega (arith, inside, w)))))
+
+outputs_short : (js : List ℕ) → All (λ (j : ℕ). j < 2 ^ 64) js → All (λ (v : Variable). v.number < 2 ^ 64) (map (variable Sum) js)
+outputs_short js h = All-map (λ (v : Variable). v.number < 2 ^ 64) (variable Sum) js h
+
+pub short_text_law : ShortTextLaw
+short_text_law c sound narrow =
+    let sized = sound.form.sized in
+    let w = few c sound in
+    let s = solves c c.low sound narrow (low_corner c sound) in
+    let p = length c.offsets in
+    let inputs : c.inputs < 2 ^ 64 = omega (arith, sized.inputs.1) in
+    let range : All (λ (j : ℕ). j < 2 ^ 64) (range_with_len 0 p) =
+    All-from_get_or (λ (j : ℕ). j < 2 ^ 64) (range_with_len 0 p) 0 (λ j l. range_small p j l w.entries) in
+    record {
+      states = omega (arith, sized.shaped.low, w.states);
+      low = λ i l. omega (arith, All-get_or IsNumerator c.low i (pos 0) l sized.low);
+      high = λ i l. omega (arith, All-get_or IsNumerator c.high i (pos 0) (omega (arith, l, sized.shaped.low, sized.shaped.high)) sized.high);
+      before = short_done _ _ (program_of c).before s.run.before (in_part (is_needed c) (before_of c) (before_small c w));
+      repetitions = omega (arith, sized.steps.1);
+      body = short_done _ _ (program_of c).body (s.run.body 0 (omega (arith, sized.steps.0))) (in_part (is_needed c) (repetition_body c) (body_small c w));
+      sums = omega (arith, length-map-range_with_len (variable Sum) 0 p, w.entries);
+      outputs = outputs_short (range_with_len 0 p) range;
+      inputs = omega (arith, length-map-range_with_len (average_expression c) 0 c.inputs, inputs);
+      averages = averages_short c (averaged_plan c c.low) inputs s.averaged;
+    }
+  where
+    range_small : (p j : ℕ) → j < length (range_with_len 0 p) → p < 2 ^ 64 → get_or (range_with_len 0 p) j 0 < 2 ^ 64
+    range_small p j l h = let inside : j < p = omega (arith, l, length-range_with_len 0 p) in omega (arith, get_or-range_with_len 0 p j 0 inside, inside, h)

@@ -1,0 +1,68 @@
+-- What `c` does by its script, and what it leaves.
+use Rattle.std.proofs.Common.{◌≡◌, inl, inr, ℕ, ◌≤◌, ◌<◌, List, Option, Some, None, refl, arith}
+use Rattle.std.specs.Prelude.{IfSome, IsSomeAnd}
+use Rattle.io_edge.specs.Faults.{Files}
+use Rattle.qp_model.specs.machine.Controller.{Numbers}
+use Rattle.c_program.proofs.ProgramLaw.{program_law}
+use Rattle.command_line.specs.Words.{word_of}
+use Rattle.command_line.specs.Answers.{IsAnswer}
+use Rattle.command_line.specs.Does.{IsTelling}
+use Rattle.command_line.specs.Script.{ends, leaves_at, leaves_of}
+use Rattle.command_line.specs.TwoTexts.{BothStand, Two, IsUnmade}
+use Rattle.command_line.proofs.Doing.{IsRefusal, done_telling}
+use Rattle.command_line.proofs.Gathering.{whole}
+use Rattle.command_line.proofs.Following.{IsSoundWork, left_told}
+use Rattle.command_line.proofs.TwoTexts.{unmade, some_weaker}
+use Rattle.command_line.specs.declared.status.Status.{Status}
+use Rattle.command_line.specs.declared.status.Status.TheVariants.{Done, TooWideForC}
+use Rattle.command_files.proofs.Stopping.{controller_refused}
+use Rattle.command_c.specs.Compiled.{program_width, ProgramCalls, AreProgramTexts, compile_act, compile_work, IsCompiled}
+
+-- ---- what a controller calls for
+wide_refusal : (width : ℕ) (s : Status) → s ≡ TooWideForC width → IsRefusal s
+wide_refusal width s is = record {
+  done = λ e. cc;
+  memory = λ e. cc;
+  read = λ f e. cc;
+  write = λ f e. cc;
+  telling = record { usage = λ e. cc; text = λ at e. cc; controller = λ at e. cc };
+}
+
+program_telling : (c : Numbers) (s : Status) → ProgramCalls c s → IsTelling s
+program_telling c s (inl wide) = (wide_refusal c.width s wide.1).telling
+program_telling c s (inr narrow) = done_telling s narrow.1
+
+pub narrow_answer : (c : Numbers) → c.width ≤ program_width → IsAnswer (ProgramCalls c) Done
+narrow_answer c narrow = record { called = inr (narrow, refl); only = only }
+  where
+    only : (t : Status) → ProgramCalls c t → t ≡ Done
+    only t (inl wide) = absurd (omega (arith, narrow, wide.0))
+    only t (inr it) = it.1
+
+pub wide_unmade : (c : Numbers) → program_width < c.width → IsUnmade (ProgramCalls c) (TooWideForC c.width)
+wide_unmade c wide = unmade (ProgramCalls c) (TooWideForC c.width) (record { called = inl (wide, refl); only = only }) (wide_refusal c.width (TooWideForC c.width) refl)
+  where
+    only : (t : Status) → ProgramCalls c t → t ≡ TooWideForC c.width
+    only t (inl it) = it.1
+    only t (inr narrow) = absurd (omega (arith, wide, narrow.0))
+
+-- ---- its script
+pub compile_sound : IsSoundWork compile_work
+compile_sound = record { sound = (omega arith, controller_refused 1, whole (λ c. ends (compile_act c)), program_telling); first = inl refl }
+
+-- ---- what it left
+pub compiled : (words : List (List ℕ)) (s : Status) (held now : Option Files) → s ≡ Done → leaves_of compile_work.script words s held now → IfSome held (λ files. IsSomeAnd now (IsCompiled words files))
+compiled words s None now is left = tt
+compiled words s (Some files) now is left = go (left_told words s files now compile_work.script left)
+  where
+    go : leaves_at compile_work.script (λ i. files (word_of words i)) words s (Some files) now → IsSomeAnd now (IsCompiled words files)
+    go (inl none) = absurd (none.done is)
+    go (inr (c, right, left_two)) =
+        some_weaker now (λ new. Two (AreProgramTexts (word_of words 2) c) (BothStand files new (word_of words 3) (word_of words 4))) (IsCompiled words files) (λ new two. record {
+          source = two.text;
+          header = two.report;
+          texts = record { numbers = c; right = right; program = program_law c right.right.controller two.are.narrow; is_source = two.are.is_source; is_header = two.are.is_header };
+          source_file = two.true_of.first;
+          header_file = two.true_of.second;
+          others = two.true_of.others;
+        }) (left_two.both is)

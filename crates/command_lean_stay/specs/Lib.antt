@@ -1,4 +1,0 @@
-pub mod Excess
-pub mod LeanStay
-pub mod Reading
-pub mod Deeds

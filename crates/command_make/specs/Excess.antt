@@ -1,0 +1,60 @@
+-- By how much the plans of a controller exceed each row at most, whichever good solutions its gains are: numbers of the design, the policy and the reference
+-- plans where there are any.
+use Rattle.std.specs.Prelude.{ℕ, ℤ, pos, List, Option, Some, None, unsigned_abs}
+use Rattle.qp_model.specs.problem.Design.{Design, rows}
+use Rattle.qp_model.specs.problem.Policy.{Plans}
+use Rattle.qp_model.specs.problem.Runs.{Holds}
+use Rattle.qp_model.specs.bounds.Choices.{multiplier_of, row_violation_bound, lean_row_violation}
+use Rattle.qp_model.specs.machine.Controller.{Numbers}
+use Rattle.qp_model.specs.machine.Machine.{exponent_of}
+use Rattle.qp_model.specs.declared.bounds.Margin.{Margin}
+use Rattle.command_generate.specs.Engine.RowExponents.{exponent_in, AreExponentsOf}
+use Rattle.command_generate.specs.Engine.Targets.{Targets, violation_target}
+use Rattle.command_generate.specs.Engine.Bounds.{stated_cost}
+use Rattle.command_generate.specs.Engine.Aims.{aim_of, steps_of}
+use Rattle.lean_engine.specs.Lean.{bound_of}
+use Rattle.lean_engine.specs.Refusals.{policy_excess, aim_at}
+use Rattle.command_make.specs.Made.{PassesOf}
+
+-- ---- of row i, over 2^40, by the margin, the step exponent s, the fraction bits f and the exponents of the rows
+abbrev pub stated_excess : Design → Targets → Margin → (s f : ℕ) → (exponents : List ℕ) → ℕ → ℤ
+stated_excess d t m s f exponents i =
+    pos (row_violation_bound (exponent_in exponents i) s (multiplier_of m) (steps_of (aim_of t m) s) (stated_cost d (multiplier_of m) f))
+
+-- R of a lean controller, of the margin
+abbrev pub lean_bound_at : Design → Targets → (plans references : Plans) → Margin → ℕ
+lean_bound_at d t plans references m = bound_of t (unsigned_abs m.units) (policy_excess d plans references)
+
+-- the bound of a lean controller's row, with the stated cost of a step's errors in place of what they cost with its gains
+abbrev pub stated_lean_excess : Design → Targets → (plans references : Plans) → Margin → (s f : ℕ) → (exponents : List ℕ) → ℕ → ℤ
+stated_lean_excess d t plans references m s f exponents i =
+    pos (lean_row_violation (exponent_in exponents i) (lean_bound_at d t plans references m) (steps_of (aim_at d t plans references m) s)
+    (stated_cost d (lean_bound_at d t plans references m) f) (violation_target t))
+
+abbrev pub stated_with : Design → Targets → Plans → (reference : Option Plans) → (Margin → (s f : ℕ) → (exponents : List ℕ) → ℕ → ℤ)
+stated_with d t plans None = stated_excess d t
+stated_with d t plans (Some references) = stated_lean_excess d t plans references
+
+-- they pass every test, and these are the numbers of all rows
+pub record AreStated (d : Design) (All : Margin → (s f : ℕ) → Type 0) (of_row : Margin → (s f : ℕ) → (exponents : List ℕ) → ℕ → ℤ) (excess : List ℤ) : Type 0 where
+  pub margin : Margin
+  pub exponent : ℕ
+  pub bits : ℕ
+  pub exponents : List ℕ
+  pub passes : All margin exponent bits
+  pub own : AreExponentsOf d exponent exponents
+  pub holds : Holds excess (rows d) (of_row margin exponent bits exponents)
+
+abbrev pub AreStatedExcesses : Design → Targets → Plans → (reference : Option Plans) → (excess : List ℤ) → Type 0
+AreStatedExcesses d t plans reference excess = AreStated d (PassesOf d t plans reference) (stated_with d t plans reference) excess
+
+-- ---- of a controller that was made, by its numbers, R, what the errors of a step cost and what the violation may be, both over 2^40
+abbrev pub made_excess : Numbers → (r errors : ℤ) → ℕ → ℤ
+made_excess c r errors i = pos (row_violation_bound (exponent_of c i) c.step_exponent (unsigned_abs r) c.steps (unsigned_abs errors))
+
+abbrev pub made_lean_excess : Numbers → (r errors : ℤ) → (target : ℕ) → ℕ → ℤ
+made_lean_excess c r errors target i = pos (lean_row_violation (exponent_of c i) (unsigned_abs r) c.steps (unsigned_abs errors) target)
+
+abbrev pub made_with : Targets → (reference : Option Plans) → Numbers → (r errors : ℤ) → ℕ → ℤ
+made_with t None c r errors i = made_excess c r errors i
+made_with t (Some references) c r errors i = made_lean_excess c r errors (violation_target t) i

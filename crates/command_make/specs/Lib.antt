@@ -1,0 +1,6 @@
+pub mod Made
+pub mod Excess
+pub mod Stay
+pub mod Lean
+pub mod Checking
+pub mod Make

@@ -1,0 +1,103 @@
+-- What the commands do that make a controller of a design, a policy and more: reference plans, faces by which its closed loops stay in the box, and a range of
+-- the disturbances under which they do.
+use Rattle.std.specs.Prelude.{◌≡◌, ◌≢◌, ℕ, ◌<◌, Bool, true, false, List, length, Option, Some, None}
+use Rattle.mat_int.specs.Matrix.{Matrix}
+use Rattle.qp_model.specs.problem.Design.{Design}
+use Rattle.qp_model.specs.problem.Policy.{Plans}
+use Rattle.qp_model.specs.problem.Parts.{design_of}
+use Rattle.qp_model.specs.machine.Controller.{Numbers}
+use Rattle.qp_model.specs.declared.design_parts.DesignParts.{DesignParts}
+use Rattle.qp_model.specs.bounds.Printed.{Printed}
+use Rattle.stay_check.specs.FaceForms.{FaceNumbers}
+use Rattle.command_line.specs.Words.{word_of}
+use Rattle.command_line.specs.Deeds.{Deeds}
+use Rattle.command_line.specs.Script.{Act, Script, ends, reads, Work, deeds_of_work}
+use Rattle.command_line.specs.TwoTexts.{two_texts, two_work}
+use Rattle.command_line.specs.declared.status.Status.{Status}
+use Rattle.command_design_files.specs.Reading.{design_kind, policy_kind}
+use Rattle.command_files.specs.Reading.{faces_kind, range_kind}
+use Rattle.command_generate.specs.Engine.Targets.{Targets, targets_of}
+use Rattle.command_generate.specs.Made.{IsRefusedFor, AreTextsOf}
+use Rattle.command_make.specs.Made.{CauseOf, MakingCallsWith, IsMadeWith}
+use Rattle.command_make.specs.Excess.{AreStatedExcesses}
+use Rattle.command_make.specs.Stay.{FacedCalls, KeepsLoops, no_shifts}
+use Rattle.command_make.specs.declared.command.Asked.{Asked}
+
+-- faces, and the range of the shifts under which they are to hold: its least and its greatest
+pub record Under : Type 0 where
+  pub faces : FaceNumbers
+  pub range : Matrix
+
+-- ---- what is called for, and what is made
+-- a refusal, or each test is passed; with faces they answer then
+abbrev pub CallsUnder : Design → Targets → Plans → (reference : Option Plans) → (under : Option Under) → (Status → Type 0)
+CallsUnder d t plans reference None = MakingCallsWith d t plans reference
+CallsUnder d t plans reference (Some u) = FacedCalls (IsRefusedFor (CauseOf d t plans reference)) (AreStatedExcesses d t plans reference) d u.faces u.range
+
+-- a controller and its bounds; with faces its loops stay in the box
+abbrev pub IsMadeUnder : DesignParts → Plans → (reference : Option Plans) → (under : Option Under) → Numbers → Printed → Type 0
+IsMadeUnder p plans reference None c b = IsMadeWith p plans reference c b
+IsMadeUnder p plans reference (Some u) c b = IsMadeWith p plans reference c b × KeepsLoops p c b u.range
+
+-- ---- the script of a command, by what it asks for and the positions of its files
+-- what is made, by all that was read
+abbrev pub Making : Type 1
+Making = Plans → (reference : Option Plans) → (under : Option Under) → Numbers → Printed → Type 0
+
+module _ (asked : Asked) (d : Design) (t : Targets) (Made : Making) where
+  abbrev pub make_act : Plans → (reference : Option Plans) → (under : Option Under) → Act
+  make_act plans reference under =
+      two_texts (CallsUnder d t plans reference under) (λ words. AreTextsOf (Made plans reference under) (word_of words asked.report)) asked.controller asked.report
+
+  -- the range, where there are disturbances
+  abbrev pub with_range : (disturbed : Bool) → Plans → (reference : Option Plans) → FaceNumbers → Script
+  with_range true plans reference faces = reads asked.range (range_kind d.states) (λ range. ends (make_act plans reference (Some (record { faces = faces; range = range }))))
+  with_range false plans reference faces = ends (make_act plans reference (Some (record { faces = faces; range = no_shifts d.states })))
+
+  -- faces, where it asks for them
+  abbrev pub with_faces : (faced disturbed : Bool) → Plans → (reference : Option Plans) → Script
+  with_faces true disturbed plans reference = reads asked.faces (faces_kind d) (with_range disturbed plans reference)
+  with_faces false disturbed plans reference = ends (make_act plans reference None)
+
+  -- reference plans, where it makes a lean controller
+  abbrev pub with_reference : (lean faced disturbed : Bool) → Plans → Script
+  with_reference true faced disturbed plans = reads 3 (policy_kind d) (λ references. with_faces faced disturbed plans (Some references))
+  with_reference false faced disturbed plans = with_faces faced disturbed plans None
+
+abbrev pub make_after : Asked → DesignParts → Script
+make_after asked p = reads 2 (policy_kind (design_of p)) (with_reference asked (design_of p) (targets_of p) (IsMadeUnder p) asked.lean asked.faced asked.disturbed)
+
+abbrev pub make_work : Asked → Work
+make_work asked = two_work (reads 1 design_kind (make_after asked)) asked.controller asked.report
+
+abbrev pub make_deeds : Asked → Deeds
+make_deeds asked = deeds_of_work (make_work asked)
+
+-- the names of the files that it asks for stand in their order, and that of the report isn't the controller's
+pub record IsAsked (words : List (List ℕ)) (asked : Asked) : Type 0 where
+  pub inputs : 3 < length words
+  pub controller : asked.controller < length words
+  pub report : asked.report < length words
+  pub apart : word_of words asked.report ≢ word_of words asked.controller
+  pub faces : asked.faced ≡ true → asked.faces < length words
+  pub range : asked.faced ≡ true → asked.disturbed ≡ true → asked.range < length words
+  pub faces_order : 3 < asked.faces
+  pub range_order : asked.faces < asked.range
+
+-- ---- the commands, and their rows of the table
+-- `stay`: with the texts of faces and of the range behind the four names of `generate`
+abbrev pub stay_asked : (disturbed : Bool) → Asked
+stay_asked disturbed = record { lean = false; faced = true; disturbed = disturbed; controller = 3; report = 4; faces = 5; range = 6 }
+
+-- `lean`: with reference plans behind the policy, without faces or with them
+abbrev pub lean_asked : (faced disturbed : Bool) → Asked
+lean_asked faced disturbed = record { lean = true; faced = faced; disturbed = disturbed; controller = 4; report = 5; faces = 6; range = 7 }
+
+abbrev pub stay_deeds : (disturbed : Bool) → Deeds
+stay_deeds disturbed = make_deeds (stay_asked disturbed)
+
+abbrev pub lean_deeds : Deeds
+lean_deeds = make_deeds (lean_asked false false)
+
+abbrev pub lean_stay_deeds : (disturbed : Bool) → Deeds
+lean_stay_deeds disturbed = make_deeds (lean_asked true disturbed)

@@ -1,0 +1,63 @@
+// By how much the plans of a controller exceed the rows.
+ghost use Rattle.std.specs.Prelude.{IfOk};
+ghost use Rattle.qp_model.specs.problem.Runs.{Holds};
+ghost use Rattle.command_generate.specs.Engine.Targets.{targets_of, violation_target};
+ghost use Rattle.command_make.specs.Checking.{AreSmall};
+ghost use Rattle.command_make.specs.Excess.{made_excess, made_lean_excess, made_with};
+ghost use Rattle.command_make.specs.Made.{reference_of};
+
+use command_generate::{Made, row_violations};
+use lean_engine::violation_target;
+use qp_model::{Design, Policy};
+use std::alloc::{AllocError, Global};
+
+// By how much each row is exceeded at most, over `2^40`, whichever good solutions the controller's gains are.
+fn plain_excess(alloc: Global, made: &Made) -> Result<Vec<i128>, AllocError>
+    requires { AreSmall made.now.bounds.multiplier made.now.eps }
+    ensures { IfOk result (λ v. Holds v.items made.now.controller.rows (made_excess made.now.controller made.now.bounds.multiplier made.now.eps)) }
+{
+    let c = made.controller.parts();
+    row_violations(
+        alloc,
+        &c.exps,
+        c.s,
+        made.bounds.multiplier,
+        c.steps,
+        made.eps,
+    )
+}
+
+// The same of a lean controller.
+fn lean_excess(alloc: Global, design: &Design, made: &Made) -> Result<Vec<i128>, AllocError>
+    requires { AreSmall made.now.bounds.multiplier made.now.eps }
+    ensures { IfOk result (λ v. Holds v.items made.now.controller.rows
+        (made_lean_excess made.now.controller made.now.bounds.multiplier made.now.eps (violation_target (targets_of design.now)))) }
+{
+    let c = made.controller.parts();
+    let target = violation_target(design.parts());
+    lean_engine::row_violations(
+        alloc,
+        &c.exps,
+        made.bounds.multiplier,
+        c.steps,
+        made.eps,
+        target,
+    )
+}
+
+/// The one or the other, by whether there are reference plans.
+pub fn row_excess(
+    alloc: Global,
+    design: &Design,
+    reference: &Option<Policy>,
+    made: &Made,
+) -> Result<Vec<i128>, AllocError>
+    requires { AreSmall made.now.bounds.multiplier made.now.eps }
+    ensures { IfOk result (λ v. Holds v.items made.now.controller.rows
+        (made_with (targets_of design.now) (reference_of reference.now) made.now.controller made.now.bounds.multiplier made.now.eps)) }
+{
+    match reference {
+        Some(_) => lean_excess(alloc, design, made),
+        None => plain_excess(alloc, made),
+    }
+}
