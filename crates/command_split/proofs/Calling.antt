@@ -42,7 +42,6 @@ cell_refusal cell refusal s is = record {
   memory = λ e. cc;
   read = λ f e. cc;
   write = λ f e. cc;
-  outside = λ n t k e. cc;
   telling = record { usage = λ e. cc; text = λ f e. cc; controller = λ f e. cc };
 }
 
