@@ -496,7 +496,7 @@ def search(model: Model, most: float = MOST_STEPS, seconds: float = 60.0, genera
 def others_words(model: Model, keys: dict) -> str:
     """What isn't the model's of cost and stages, as a page of the design has to say."""
     others = [f"its {key}" for key in ("cost", "stages") if keys.get(key) != model.text.get(key)]
-    return f"; {TIMELY} {' and '.join(others)} {'are' if len(others) > 1 else 'is'} not what was asked for" if others else ""
+    return f"; {TIMELY} {' and '.join(others)} {'is' if others == ['its cost'] else 'are'} not what was asked for" if others else ""
 
 
 def main() -> int:

@@ -6,11 +6,11 @@
 The files *.edit beside it hold the changes, one file a module of docs/THEOREM.md: a line `file:` with the module's path from the top, and for each change a line `name:` and then pairs of a line `old:`, a text that
 stands in the module exactly once, and a line `new:`, what stands there in its place. Other lines are read by people alone. NAME is a module, as `Cost`, or a change, as `Cost.term.without_the_lift`.
 
-What is asked are lines alone, those of the crate `trials_definitions` that stand on the changed module's crate and on crates below it; no body and no other lemma, which may refuse more. COUNT (24) changes are tried in
-one check, each in modules of its own: the changed one, those that cite it, and the lines that cite these. Of each the first refused line is told. The last line counts the changes; the status is 1 where no line refused
-one.
+What is asked are lines alone, those of `trials_definitions`, and of commands those of the crates of their trials, that stand on the changed module's crate and on crates below it; no body and no other
+lemma, which may refuse more. COUNT (24) changes are tried in one check, each in modules of its own: the changed one, those that cite it, and the lines that cite these. Of each the first refused line
+is told. The last line counts the changes; the status is 1 where no line refused one.
 
-Needs `rt` on the path. Where its gate keeps what passed, the libraries below are those that `rt ci trials_definitions` kept on this machine; else they are proved first, in the copy. It takes a quarter of an hour
+Needs `rt` on the path. Where its gate keeps what passed, the libraries below are those that `rt ci` of these trials kept on this machine; else they are proved first, in the copy. It takes a quarter of an hour
 of the processor and the time of these proofs, and writes nothing into the repository.
 """
 import argparse
@@ -27,7 +27,9 @@ import tempfile
 
 HERE = pathlib.Path(__file__).resolve().parent
 TOP = HERE.parents[1]
-TRIALS = "trials_definitions"
+TRIALS = ("trials_definitions", "trials_split", "trials_stay")
+# the start of a line's module in any of them
+IN_TRIALS = rf"Rattle\.(?:{'|'.join(TRIALS)})\.proofs\."
 # so many changes share a check of their lines
 BATCH = 24
 
@@ -111,7 +113,7 @@ class Work:
             elif self.kept.give(it, False, self.kept.key(it)):
                 self.kept.is_built(it)
             else:
-                sys.exit(f"the library {it.name} isn't kept on this machine: run 'rt ci {TRIALS}' first")
+                sys.exit(f"the library {it.name} isn't kept on this machine: run 'rt ci {' '.join(TRIALS)}' first")
             self.given.add(it.name)
 
     def prove(self, crate) -> None:
@@ -136,13 +138,18 @@ class Work:
             return subprocess.run([*self.rt.rtlib.guarded(), self.rt.rtlib.RATTLE, *words], **how)
 
     def trials(self, name: str) -> list[pathlib.Path]:
-        """The files of the trials that stand on no other crate than this one and those below it, and on no other file that does."""
+        """The files of the trials that stand on no other crate than this one and those below it, and on no other file that does: those that cite this crate, and what these need."""
         known = {name, "std", *(below.name for below in self.crates[name].below())}
-        files = sorted(it for it in pathlib.Path(self.crates[TRIALS].folder, "proofs").glob("*.antt") if it.stem != "Lib")
-        used = {it: re.findall(rf"^use Rattle\.(?:{TRIALS}\.proofs\.)?(\w+)", it.read_text(encoding="utf-8"), re.MULTILINE) for it in files}
+        files = sorted(it for trials in TRIALS for it in pathlib.Path(self.crates[trials].folder, "proofs").glob("*.antt") if it.stem != "Lib")
+        used = {it: re.findall(rf"^use (?:{IN_TRIALS}|Rattle\.)(\w+)", it.read_text(encoding="utf-8"), re.MULTILINE) for it in files}
         while left := [it for it in files if not known.union(file.stem for file in files).issuperset(used[it])]:
             files = [it for it in files if it not in left]
-        return files
+        wanted = {name}
+        while more := {it.stem for it in files if wanted.intersection(used[it])} - wanted:
+            wanted |= more
+        while more := {other for it in files if it.stem in wanted for other in used[it]} - wanted:
+            wanted |= more
+        return [it for it in files if it.stem in wanted]
 
     def lines_kept(self, name: str) -> pathlib.Path:
         """What is kept of a check of the lines as they stand, which all must hold."""
@@ -161,7 +168,7 @@ def leave_lines(folder: pathlib.Path, name: str, trials: list[pathlib.Path], mor
     shutil.rmtree(folder / "proofs")
     (folder / "proofs").mkdir()
     for it in trials:
-        text = it.read_text(encoding="utf-8").replace(f"Rattle.{TRIALS}.proofs.", f"Rattle.{name}.proofs.")
+        text = re.sub(IN_TRIALS, f"Rattle.{name}.proofs.", it.read_text(encoding="utf-8"))
         (folder / "proofs" / it.name).write_text(text, encoding="utf-8")
     named = [it.read_text(encoding="utf-8") for part in ("specs", "proofs") for it in (folder / part).rglob("*.antt")]
     types = sorted({it for text in named for it in re.findall(rf"Rattle\.{name}\.specs\.declared\.(\w+)\.", text)})
@@ -190,7 +197,7 @@ class Variants:
         self.specs = {f"Rattle.{name}.specs.{'.'.join(it.relative_to(folder / 'specs').with_suffix('').parts)}": it for it in sorted((folder / "specs").rglob("*.antt"))}
         self.lines = {f"Rattle.{name}.proofs.{it.stem}": it for it in work.trials(name)}
         texts = {**self.specs, **self.lines}
-        self.texts = {it: file.read_text(encoding="utf-8").replace(f"Rattle.{TRIALS}.proofs.", f"Rattle.{name}.proofs.") for it, file in texts.items()}
+        self.texts = {it: re.sub(IN_TRIALS, f"Rattle.{name}.proofs.", file.read_text(encoding="utf-8")) for it, file in texts.items()}
         self.cited = {it: {other for other in texts if re.search(rf"^use {re.escape(other)}(?!\w)", text, re.MULTILINE)} for it, text in self.texts.items()}
 
     def concerned(self, module: str) -> list[str]:
@@ -267,7 +274,7 @@ def main() -> int:
             for part in (mine[it : it + options.batch] for it in range(0, len(mine), options.batch)):
                 for change, errors in zip(part, variants.refusals(part)):
                     first = errors[0] if errors else ""
-                    refused, nothing = refused + first.startswith(f"{TRIALS}/"), nothing + (not first)
+                    refused, nothing = refused + first.startswith(tuple(f"{it}/" for it in TRIALS)), nothing + (not first)
                     print(f"{change.name}: {'refused: ' + first[:200] if first else 'REFUSED BY NO LINE'}", flush=True)
     print(f"{len(changes)} changes: {refused} refused by a line, {nothing} by none")
     return 1 if nothing else 0

@@ -1,8 +1,10 @@
 """The commands of commands.txt: how many words may follow each, and which of its words name files that it writes."""
 import os
+import sysconfig
 
-# a link to the page at the top, whose text an installed package has in its place
-TABLE = os.path.join(os.path.dirname(__file__), "commands.txt")
+# at the top of the checkout, or among the data of an installed package
+_PLACES = [os.path.join(os.path.dirname(__file__), "..", ".."), os.path.join(sysconfig.get_path("data"), "share", "nuddrwyn")]
+TABLE = next(filter(os.path.exists, (os.path.join(place, "commands.txt") for place in _PLACES)))
 
 with open(TABLE, encoding="utf-8") as lines:
     ARGUMENTS = {line.split()[0]: line.split()[1:] for line in lines if not line.startswith("#")}

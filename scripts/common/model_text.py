@@ -3,7 +3,7 @@ import json
 from typing import Any
 
 # why a model has another cost or other stages than were asked for, in its first line
-TIMELY = "so that a run ends in time"
+TIMELY = "so that it can be run in time"
 
 
 def value_text(value: Any) -> str:

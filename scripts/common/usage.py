@@ -1,8 +1,10 @@
 """The program's commands, as commands.txt has them: what is not proved counts their arguments, and tells what they write, by that page."""
 import os
+import sysconfig
 
-# a link to the page at the top, whose text an installed package has in its place
-TABLE = os.path.join(os.path.dirname(__file__), "commands.txt")
+# at the top of the checkout, or among the data of an installed package
+_PLACES = (os.path.join(os.path.dirname(__file__), "..", ".."), os.path.join(sysconfig.get_path("data"), "share", "nuddrwyn"))
+TABLE = next(filter(os.path.exists, (os.path.join(place, "commands.txt") for place in _PLACES)))
 
 
 def table() -> dict[str, list[str]]:

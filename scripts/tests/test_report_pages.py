@@ -40,8 +40,8 @@ class Pages(unittest.TestCase):
     def test_another_cost(self):
         head = "# a model whose loops never leave the box, by ./mpc staying"
         self.assertNotIn("asked for", self.warned(fitted_toml=head + "\n"))
-        told = self.warned(fitted_toml=head + "; so that a run ends in time its cost and its stages are not what was asked for\n")
-        self.assertIn("So that a run ends in time its cost and its stages are not what was asked for: what is promised of the cost is promised of this one.", told)
+        told = self.warned(fitted_toml=head + "; so that it can be run in time its cost and its stages are not what was asked for\n")
+        self.assertIn("So that it can be run in time its cost and its stages are not what was asked for: what is promised of the cost is promised of this one.", told)
 
     def test_promises_by_row(self):
         # 8850854903808 over 2^40 of 16, in units of 2 N

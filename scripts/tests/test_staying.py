@@ -189,12 +189,12 @@ class Search(unittest.TestCase):
         self.assertGreater(slow.share, 1)
         self.assertLess(slow.steps, staying.MOST_STEPS)
         self.assertLess(quick.share, staying.ENOUGH)
-        self.assertIn("so that a run ends in time", staying.words_of(model, quick))
+        self.assertIn("so that it can be run in time", staying.words_of(model, quick))
         # and where it ends in time, but takes more steps than it may
         self.assertLess(made(1.0, False, slow.steps / 2).timely(choice).steps, slow.steps / 2)
         text = staying.with_limits(model, quick)
         self.assertNotEqual((text["cost"], text.get("stages")), (model.text["cost"], 4))
-        self.assertRegex(staying.others_words(model, text), "^; so that a run ends in time its (cost|stages|cost and its stages) (is|are) not what was asked for$")
+        self.assertRegex(staying.others_words(model, text), "^; so that it can be run in time its (cost|stages|cost and its stages) (is|are) not what was asked for$")
         self.assertEqual(staying.others_words(model, staying.with_limits(model, slow)), "")
         # what the faces rest on is the same
         self.assertEqual((text["box"], text["limit"]), (staying.with_limits(model, slow)["box"], model.text["limit"]))

@@ -1,0 +1,36 @@
+-- What `stay` says of a loop, with and without disturbances in the file with the name 6.
+use Rattle.std.proofs.Common.{◌≡◌, ℕ, true, false, ℤ, List, [], ◌∷◌, refl}
+use Rattle.io_edge.specs.Faults.{Files}
+use Rattle.integer_algebra.specs.Sums.{at}
+use Rattle.mat_int.specs.Matrix.{row_of, zero_matrix}
+use Rattle.qp_model.specs.problem.Parts.{design_of}
+use Rattle.qp_model.specs.machine.Controller.{Numbers}
+use Rattle.qp_model.specs.machine.Machine.{IsAdmissible}
+use Rattle.qp_model.specs.machine.Successor.{state_after}
+use Rattle.qp_model.specs.bounds.Printed.{Printed}
+use Rattle.qp_model.specs.declared.design_parts.DesignParts.{DesignParts}
+use Rattle.stay_check.specs.LoopStay.{state_under, AreShiftsUpTo, IsKeptAt}
+use Rattle.command_line.specs.Answers.{FileHolds}
+use Rattle.command_files.specs.Texts.{RangeRight}
+use Rattle.command_make.specs.Stay.{LoopsStay}
+
+abbrev named : List (List ℕ)
+named = [] ∷ (1 ∷ []) ∷ (2 ∷ []) ∷ (3 ∷ []) ∷ (4 ∷ []) ∷ (5 ∷ []) ∷ (6 ∷ []) ∷ []
+
+range_in_the_sixth : (files : Files) (p : DesignParts) (c : Numbers) (b : Printed) (it : LoopsStay true 6 named files p c b) →
+    FileHolds 4194304 (RangeRight (design_of p).states it.range) (files (6 ∷ []))
+range_in_the_sixth files p c b it = it.is_range
+
+no_range : (files : Files) (p : DesignParts) (c : Numbers) (b : Printed) (it : LoopsStay false 6 named files p c b) → it.range ≡ zero_matrix 2 (design_of p).states
+no_range files p c b it = it.is_range
+
+-- the first record of the range is the least shift, and the second the greatest
+under_every_shift : (files : Files) (p : DesignParts) (c : Numbers) (b : Printed) (it : LoopsStay true 6 named files p c b) →
+    (start : List ℤ) → IsAdmissible c start → (shifts : ℕ → ℕ → ℤ) → (turns : ℕ) → AreShiftsUpTo (design_of p) (at (row_of it.range 0)) (at (row_of it.range 1)) shifts turns →
+    IsKeptAt (design_of p) c b (state_under (design_of p) c start shifts turns)
+under_every_shift files p c b it = it.stays
+
+-- without disturbances, as `loop` runs it
+as_loop_runs : (files : Files) (p : DesignParts) (c : Numbers) (b : Printed) (it : LoopsStay false 6 named files p c b) →
+    (start : List ℤ) → IsAdmissible c start → (turns : ℕ) → IsKeptAt (design_of p) c b (state_after (design_of p) c start turns)
+as_loop_runs files p c b it = it.undisturbed refl
