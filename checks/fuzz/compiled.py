@@ -47,6 +47,11 @@ def shifted(a, k):
     return f"(({a[0]}) >> {k})", False
 
 
+def lowered(name, k):
+    """A variable's value over 2^k, rounded down."""
+    return shifted(value(name), k) if k else value(name)
+
+
 class Program:
     """The statements of a controller's program, each with the narrowest type that holds its variable."""
 
@@ -58,6 +63,8 @@ class Program:
         self.partners = [next((k for k in range(c.m) if self.are_opposite(k, i)), c.m) for i in range(c.m)]
         self.is_second = [k < i and self.partners[k] == i for i, k in enumerate(self.partners)]
         self.is_first = [i < k < c.m and self.partners[k] == i for i, k in enumerate(self.partners)]
+        # the greatest power of two, of at most 2^f, that divides all factors of a row
+        self.shared = [max(k for k in range(c.f + 1) if all(factor % (1 << k) == 0 for factor in c.g_mat[i])) for i in range(c.m)]
         # a row whose multiplier moves no plan entry, and a coordinate of the state that moves none of what is left, are left out
         self.rows = [i for i in range(c.m) if self.tops[i] and any(row[i] for row in c.w_mat)]
         of_rows = [c.e_mat[i] for i in self.rows]
@@ -103,12 +110,13 @@ class Program:
             yield self.declared(self.kind(self.sum_tops[j]), f"s{j}", constant(0))
 
     def of_plan(self, a, i):
-        return self.with_products(a, self.c.g_mat[i], self.entry_tops, [f"u{j}" for j in range(self.c.nu)])
+        return self.with_products(a, [factor >> self.shared[i] for factor in self.c.g_mat[i]], self.entry_tops, [f"u{j}" for j in range(self.c.nu)])
 
     def row(self, i):
+        base = lowered(f"r{i}", self.shared[i])
         if self.is_first[i]:
-            return plus(value(f"r{i}"), value(f"g{i}"))
-        return minus(value(f"r{i}"), value(f"g{self.partners[i]}")) if self.is_second[i] else self.of_plan(value(f"r{i}"), i)
+            return plus(base, value(f"g{i}"))
+        return minus(base, value(f"g{self.partners[i]}")) if self.is_second[i] else self.of_plan(base, i)
 
     def body(self):
         c = self.c
@@ -125,8 +133,9 @@ class Program:
         for i in self.rows:
             if self.is_first[i]:
                 yield self.declared("int64_t", f"g{i}", self.of_plan(constant(0), i))
-            kind, top = self.kind(self.row_tops[i]), constant(self.tops[i])
-            yield self.declared(kind, f"t{i}", plus(value(f"l{i}"), shifted(self.row(i), c.f)))
+            kind, top, rest = self.kind(self.row_tops[i]), constant(self.tops[i]), c.f - self.shared[i]
+            yield self.declared(self.kind(self.row_tops[i] << rest), f"y{i}", self.row(i))
+            yield self.declared(kind, f"t{i}", plus(value(f"l{i}"), lowered(f"y{i}", rest)))
             yield f"if (t{i} < 0) {{ t{i} = 0; }}"
             yield f"if (t{i} > {top[0]}) {{ {self.assigned(kind, f't{i}', top)} }}"
             yield self.assigned(self.kind(self.tops[i]), f"l{i}", value(f"t{i}"))
