@@ -1,0 +1,2 @@
+mod ListedWorked
+mod PlayedWorked
