@@ -3,6 +3,7 @@ use Rattle.std.proofs.Common.{◌≡◌, ℕ, ◌<◌, List, [], ◌∷◌, leng
 use Rattle.io_edge.specs.Faults.{Files}
 use Rattle.mat_int.specs.Matrix.{Matrix, row_of}
 use Rattle.qp_model.specs.machine.Controller.{Numbers}
+use Rattle.qp_model.specs.machine.AbsoluteSums.{IsController}
 use Rattle.qp_model.specs.machine.Machine.{IsAdmissible}
 use Rattle.mac_listing.specs.Listing.{listing_of}
 use Rattle.mac_machine.specs.Machine.{NeverTraps}
@@ -50,6 +51,11 @@ from_the_states listing states c m it = it.states_right
 
 from_states_inside : (listing states : Option (List ℕ)) (c : Numbers) (m : Matrix) → HoldsListed listing states c m → (e : ℕ) → e < length m.rows → IsAdmissible c (row_of m e)
 from_states_inside listing states c m it = it.inside
+
+-- no more is asked
+where_these_hold : (listing states : Option (List ℕ)) (c : Numbers) (m : Matrix) → IsController c → FileHolds 4194304 (ListingRight (listing_of c)) listing →
+    FileHolds 4194304 (StatesRight c.states m) states → ((e : ℕ) → e < length m.rows → IsAdmissible c (row_of m e)) → HoldsListed listing states c m
+where_these_hold listing states c m sound text rows inside = record { sound = sound; listing_right = text; states_right = rows; inside = inside }
 
 -- the first file holds the listing, the second the states
 of_its_two_files : (files : Files) (s : Status) (before now : Option (List ℕ)) → PlaysAsSolved named (Some files) s before now →
