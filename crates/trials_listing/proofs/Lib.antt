@@ -1,0 +1,3 @@
+mod ListedWorked
+mod PlayedWorked
+mod SolvedWorked
