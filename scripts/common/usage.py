@@ -2,9 +2,11 @@
 import os
 import sysconfig
 
-# at the top of the checkout, or among the data of an installed package
-_PLACES = (os.path.join(os.path.dirname(__file__), "..", ".."), os.path.join(sysconfig.get_path("data"), "share", "nuddrwyn"))
-TABLE = next(filter(os.path.exists, (os.path.join(place, "commands.txt") for place in _PLACES)))
+# at the top of the checkout; or among the data of an installed package, which pip's --target puts beside it
+_PACKAGES = os.path.dirname(os.path.dirname(os.path.dirname(os.path.realpath(__file__))))
+_DATA = [os.path.join(base, "share", "nuddrwyn") for base in (_PACKAGES, sysconfig.get_path("data"))]
+_TABLES = [os.path.join(place, "commands.txt") for place in (_PACKAGES, *_DATA)]
+TABLE = next(filter(os.path.exists, _TABLES), _TABLES[0])
 
 
 def table() -> dict[str, list[str]]:

@@ -51,7 +51,7 @@ class Packages(unittest.TestCase):
         copy, installed = os.path.join(folder, "copy"), os.path.join(folder, "installed")
         for part in ("scripts", "checks/fuzz"):
             shutil.copytree(ROOT / part, os.path.join(copy, part), symlinks=False, ignore=shutil.ignore_patterns("__pycache__", "tests"))
-        for name in ("pyproject.toml", "README.md"):
+        for name in ("pyproject.toml", "README.md", "commands.txt"):
             shutil.copy(ROOT / name, copy)
         words = [sys.executable, "-m", "pip", "install", "--quiet", "--no-build-isolation", "--no-index", "--no-deps", "--target", installed, copy]
         got = subprocess.run(words, capture_output=True, text=True, env=os.environ | {"PIP_ROOT_USER_ACTION": "ignore"})
