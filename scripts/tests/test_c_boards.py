@@ -4,6 +4,7 @@ import random
 import re
 import shutil
 import subprocess
+import sys
 import tempfile
 import unittest
 
@@ -55,7 +56,7 @@ class Boards(unittest.TestCase):
     def test_the_motors_loop_as_its_page_says(self):
         """The loop on the board prints what `loop` prints, and the page has its figures; cycles are those of one compiler, so they may differ by a tenth."""
         page = os.path.join(TOP, "examples", "motor", "board")
-        printed = subprocess.run([os.path.join(page, "run.py"), PROGRAM], capture_output=True, text=True, check=True).stdout
+        printed = subprocess.run([sys.executable, "-m", "examples.motor.board.run", PROGRAM], cwd=TOP, capture_output=True, text=True, check=True).stdout
         with open(os.path.join(page, "README.md"), encoding="utf-8") as file:
             said = re.findall(r"^    (\d.*)$", file.read(), re.M)
         numbers = lambda text: [float(v.replace(",", "")) for v in re.findall(r"[\d,.]*\d", text)]
