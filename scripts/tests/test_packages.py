@@ -86,7 +86,7 @@ class Style(unittest.TestCase):
         wide = list(ruff["lint"]["per-file-ignores"])
         longer = [path for path in python_files() if not any(path.relative_to(ROOT).match(it) for it in wide)]
         self.passes(sys.executable, "-m", "pycodestyle", f"--max-line-length={ruff['line-length']}", "--select=E501", *map(str, longer))
-        self.passes(sys.executable, "-m", "pycodestyle", "--select=E401,E70,E711,E712,E713,E714,E721,E722,E9,W6", *map(str, python_files()))
+        self.passes(sys.executable, "-m", "pycodestyle", "--select=E401,E701,E702,E703,E711,E712,E713,E714,E721,E722,E901,E902,W605", *map(str, python_files()))
 
 
 if __name__ == "__main__":
