@@ -33,7 +33,7 @@ use Rattle.design_engine.proofs.PromiseLaws.{sound, repairs_above}
 use Rattle.lean_engine.specs.Lean.{bound_of, lean_aim}
 use Rattle.lean_engine.proofs.LeanFacts.{bound_some}
 use Rattle.lean_engine.proofs.LeanLaws.{corners}
-use Rattle.fast_machine.specs.FastMachine.{fast_denominator, fast_plan}
+use Rattle.overflow_check.specs.FastMachine.{fast_denominator, fast_plan}
 use Rattle.fast_machine.specs.FastValues.{FastRunFits}
 use Rattle.fast_machine.proofs.FastBelow.{values_law}
 use Rattle.fast_machine.proofs.FastSums.{one_weight}

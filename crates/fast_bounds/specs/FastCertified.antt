@@ -27,8 +27,8 @@ use Rattle.design_engine.specs.Targets.{Targets, targets_of, violation_target, I
 use Rattle.design_engine.specs.Threshold.{HasRepairs, IsEnoughOf}
 use Rattle.design_engine.specs.declared.aimed.Aim.{Aim}
 use Rattle.lean_engine.specs.Lean.{bound_of, lean_aim}
-use Rattle.fast_machine.specs.FastMachine.{fast_denominator, fast_plan}
-use Rattle.fast_machine.specs.FastController.{IsFastController, greatest_fast_sum}
+use Rattle.overflow_check.specs.FastMachine.{fast_denominator, fast_plan}
+use Rattle.overflow_check.specs.FastController.{IsFastController, greatest_fast_sum}
 use Rattle.fast_machine.specs.FastValues.{FastRunFits}
 use Rattle.fast_bounds.specs.CarriedErrors.{with_means, cost_of_run, run_sums_of}
 use Rattle.fast_bounds.specs.FastDesign.{HasFastRunErrors}

@@ -19,8 +19,8 @@ use Rattle.qp_model.specs.bounds.RealErrors.{real_errors}
 use Rattle.qp_model.specs.declared.design_parts.DesignParts.{DesignParts}
 use Rattle.step_error.specs.Laws.{slant}
 use Rattle.step_error.specs.MachineLaws.{machine_scale, row_radius, BoundsPlan}
-use Rattle.fast_machine.specs.FastMachine.{fast_denominator, fast_plan}
-use Rattle.fast_machine.specs.FastController.{IsFastController}
+use Rattle.overflow_check.specs.FastMachine.{fast_denominator, fast_plan}
+use Rattle.overflow_check.specs.FastController.{IsFastController}
 use Rattle.fast_machine.specs.FastErrors.{made_after}
 use Rattle.fast_bounds.specs.CarriedErrors.{with_means, cost_of_run, run_sums_of}
 

@@ -19,8 +19,8 @@ use Rattle.qp_model.proofs.AbsoluteLaws.{le_times_pow, abs-neg, abs-shifted, abs
 use Rattle.qp_model.proofs.MagnitudeLaws.{entry_parts_le, entry_sum_le, top_le_clamp, get_or-le-greatest}
 use Rattle.overflow_check.proofs.SumLaws.{own_le, dual_le, planned_le, row_parts_le, row_le}
 use Rattle.overflow_check.proofs.ValuesMet.{fits_width}
-use Rattle.fast_machine.specs.FastMachine.{FastIterate, step_weight, all_weights, fast_top, mean_at, means_of, moved_multiplier, fast_step, fast_after}
-use Rattle.fast_machine.specs.FastController.{reached_magnitude}
+use Rattle.overflow_check.specs.FastMachine.{FastIterate, step_weight, all_weights, fast_top, mean_at, means_of, moved_multiplier, fast_step, fast_after}
+use Rattle.overflow_check.specs.FastController.{reached_magnitude}
 use Rattle.fast_machine.specs.FastReady.{LiesUpTo, IsFastReady}
 use Rattle.fast_machine.specs.FastValues.{mean_values, moved_values, FastStepFits, FastValuesLaw}
 use Rattle.fast_machine.proofs.WeightSums.{more_weights}

@@ -7,8 +7,8 @@ use Rattle.qp_model.specs.machine.Machine.{IsAdmissible, loaded}
 use Rattle.qp_model.specs.machine.AbsoluteSums.{state_magnitudes}
 use Rattle.qp_model.specs.machine.Within.{AreWithin}
 use Rattle.overflow_check.proofs.Sizes.{length-state_reach}
-use Rattle.fast_machine.specs.FastMachine.{FastIterate, fast_lists, fast_step, fast_after}
-use Rattle.fast_machine.specs.FastController.{with_last_version, IsFastController}
+use Rattle.overflow_check.specs.FastMachine.{FastIterate, fast_lists, fast_step, fast_after}
+use Rattle.overflow_check.specs.FastController.{with_last_version, IsFastController}
 use Rattle.fast_machine.specs.FastReady.{IsFastReady}
 use Rattle.fast_machine.specs.FastProgress.{fast_held_in, IsFastReached}
 use Rattle.fast_machine.specs.declared.kernel.FastKernel.TheInside.{Inside}

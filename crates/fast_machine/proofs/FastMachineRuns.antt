@@ -15,7 +15,7 @@ use Rattle.qp_model.specs.machine.Machine.{loaded, lowering_of, plan_entry, plan
 use Rattle.qp_model.proofs.MagnitudeLaws.{zeros_at}
 use Rattle.fast_method.specs.Fast.{weight, weights, weighted, IsFastRun, run_errors, FastRunBound}
 use Rattle.fast_method.proofs.FastRunLaws.{run_law}
-use Rattle.fast_machine.specs.FastMachine.{step_weight, all_weights, means_of, fast_after}
+use Rattle.overflow_check.specs.FastMachine.{step_weight, all_weights, means_of, fast_after}
 use Rattle.fast_machine.specs.FastErrors.{fast_scale, made_after, plan_factor, fast_plan_over, fast_residuals_over, fast_multipliers_over, step_scale, HasFastErrors, IsFastRunOf, fast_average_over, BoundsAverage, FastPlanBound, FastAverageLaw, FastMachineRunLaw, FastMachineEvenLaw, FastCostLaw}
 use Rattle.fast_machine.proofs.FastRuns.{added_item}
 use Rattle.fast_machine.proofs.FastSteps.{nothing_times, one_more_term, weight_is, weights_are, multiplier_first, machine_step}

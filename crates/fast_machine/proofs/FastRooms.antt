@@ -17,8 +17,8 @@ use Rattle.qp_model.specs.machine.Within.{AreWithin}
 use Rattle.qp_model.proofs.AbsoluteLaws.{le_times_pow, abs-shifted, abs-floor_le, abs-own_le, abs-scaled_le, abs-row_le}
 use Rattle.qp_model.proofs.MagnitudeLaws.{entry_parts_le}
 use Rattle.overflow_check.proofs.SumLaws.{own_le, dual_le, planned_le, row_parts_le, row_le}
-use Rattle.fast_machine.specs.FastMachine.{step_weight, all_weights, fast_top, mean_at, moved_multipliers}
-use Rattle.fast_machine.specs.FastController.{IsFastController}
+use Rattle.overflow_check.specs.FastMachine.{step_weight, all_weights, fast_top, mean_at, moved_multipliers}
+use Rattle.overflow_check.specs.FastController.{IsFastController}
 use Rattle.fast_machine.specs.FastReady.{LiesUpTo, AreFastMultipliers, AreFastSums}
 use Rattle.fast_machine.proofs.WeightSums.{more_weights}
 use Rattle.fast_machine.proofs.FastRuns.{top_le, mean_item, means_within, moved_long, multiplier_kept}

@@ -18,8 +18,8 @@ use Rattle.qp_model.specs.machine.AbsoluteSums.{state_magnitudes, clamp_magnitud
 use Rattle.qp_model.specs.machine.Within.{AreWithin}
 use Rattle.qp_model.proofs.AbsoluteLaws.{abs-floor_le, abs-clamped_le, floor_nonneg, floor-times_le}
 use Rattle.qp_model.proofs.MagnitudeLaws.{AreUpToTops, zeros_at, raised_within, plan_within, state_within}
-use Rattle.fast_machine.specs.FastMachine.{FastIterate, step_weight, all_weights, mean_divisor, fast_start, fast_top, mean_at, means_of, moved_multiplier, moved_multipliers, added_times, fast_step, fast_after}
-use Rattle.fast_machine.specs.FastController.{IsFastController}
+use Rattle.overflow_check.specs.FastMachine.{FastIterate, step_weight, all_weights, mean_divisor, fast_start, fast_top, mean_at, means_of, moved_multiplier, moved_multipliers, added_times, fast_step, fast_after}
+use Rattle.overflow_check.specs.FastController.{IsFastController}
 use Rattle.fast_machine.specs.FastReady.{LiesUpTo, AreFastMultipliers, IsFastReady, FastReadyLaw}
 use Rattle.fast_machine.proofs.WeightSums.{more_weights, divisor_twice}
 

@@ -15,8 +15,8 @@ use Rattle.overflow_check.proofs.Greatest.{greatest-append, le-greatest}
 use Rattle.overflow_check.proofs.SumLaws.{row_le}
 use Rattle.mat_int.specs.Row.{list_dot}
 use Rattle.mat_int.specs.Matrix.{row_of}
-use Rattle.fast_machine.specs.FastMachine.{step_weight, all_weights, fast_top}
-use Rattle.fast_machine.specs.FastController.{moved_magnitude, reached_magnitude, fast_sum_magnitude, greatest_fast_sum}
+use Rattle.overflow_check.specs.FastMachine.{step_weight, all_weights, fast_top}
+use Rattle.overflow_check.specs.FastController.{moved_magnitude, reached_magnitude, fast_sum_magnitude, greatest_fast_sum}
 use Rattle.fast_machine.specs.FastReady.{LiesUpTo}
 use Rattle.fast_machine.proofs.WeightSums.{more_weights}
 use Rattle.fast_machine.proofs.FastRuns.{top_le}

@@ -2,8 +2,8 @@
 use Rattle.std.proofs.Common.{◌≡◌, List, [], ◌∷◌, ℤ, pos, negsuc, map, refl}
 use Rattle.mat_int.specs.Matrix.{Matrix}
 use Rattle.qp_model.specs.machine.Controller.{Numbers}
-use Rattle.fast_machine.specs.FastMachine.{step_weight, all_weights, mean_divisor, fast_top, fast_after, fast_run, fast_denominator, fast_plan}
-use Rattle.fast_machine.specs.FastController.{greatest_fast_sum, reached_magnitude}
+use Rattle.overflow_check.specs.FastMachine.{step_weight, all_weights, mean_divisor, fast_top, fast_after, fast_run, fast_denominator, fast_plan}
+use Rattle.overflow_check.specs.FastController.{greatest_fast_sum, reached_magnitude}
 
 abbrev one_row : List ℤ → Matrix
 one_row row = record { cols = 3; rows = row ∷ [] }

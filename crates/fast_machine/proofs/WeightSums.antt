@@ -1,7 +1,7 @@
 -- The weights of the machine's steps.
 use Rattle.std.proofs.Common.{◌≡◌, ℕ, zero, suc, ◌+◌, ◌*◌, ◌/◌, ◌<◌, arith, refl, ◌∙◌, ap}
 use Rattle.std.proofs.Math.Nat.{mul-div_cancel}
-use Rattle.fast_machine.specs.FastMachine.{step_weight, all_weights, mean_divisor, WeightSumLaw}
+use Rattle.overflow_check.specs.FastMachine.{step_weight, all_weights, mean_divisor, WeightSumLaw}
 
 -- by the weights one by one
 abbrev summed : ℕ → ℕ

@@ -10,8 +10,8 @@ use Rattle.qp_model.specs.method.Dual.{InBox, Program, row_residual, IsFeasibleP
 use Rattle.qp_model.specs.machine.Controller.{Numbers}
 use Rattle.qp_model.specs.machine.Machine.{IsAdmissible, loaded, exponent_of, lowering_of, row_sum}
 use Rattle.fast_method.specs.Fast.{weight, weights, weighted, IsFastStep, run_errors, HasEvenErrors}
-use Rattle.fast_machine.specs.FastMachine.{FastIterate, all_weights, fast_after, fast_plan}
-use Rattle.fast_machine.specs.FastController.{IsFastController}
+use Rattle.overflow_check.specs.FastMachine.{FastIterate, all_weights, fast_after, fast_plan}
+use Rattle.overflow_check.specs.FastController.{IsFastController}
 
 -- ---- the numbers of step k of a run from a grid state, over the denominator
 abbrev pub fast_scale : Numbers → ℤ → ℤ

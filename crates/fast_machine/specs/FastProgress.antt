@@ -3,8 +3,8 @@ use Rattle.std.specs.Prelude.{◌≡◌, ℕ, ◌≤◌, ℤ, List}
 use Rattle.qp_model.specs.machine.Controller.{Numbers, numbers}
 use Rattle.qp_model.specs.machine.AbsoluteSums.{state_magnitudes}
 use Rattle.qp_model.specs.machine.Within.{AreWithin}
-use Rattle.fast_machine.specs.FastMachine.{FastIterate, fast_after}
-use Rattle.fast_machine.specs.FastController.{IsFastController}
+use Rattle.overflow_check.specs.FastMachine.{FastIterate, fast_after}
+use Rattle.overflow_check.specs.FastController.{IsFastController}
 use Rattle.fast_machine.specs.declared.kernel.FastKernel.TheInside.{Inside}
 
 -- the state is over 2^fraction_bits

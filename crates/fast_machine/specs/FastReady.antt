@@ -5,8 +5,8 @@ use Rattle.qp_model.specs.machine.Controller.{Numbers}
 use Rattle.qp_model.specs.machine.AbsoluteSums.{state_magnitudes, plan_magnitudes}
 use Rattle.qp_model.specs.machine.Machine.{IsAdmissible, loaded}
 use Rattle.qp_model.specs.machine.Within.{AreWithin}
-use Rattle.fast_machine.specs.FastMachine.{FastIterate, all_weights, fast_top, fast_after}
-use Rattle.fast_machine.specs.FastController.{IsFastController}
+use Rattle.overflow_check.specs.FastMachine.{FastIterate, all_weights, fast_top, fast_after}
+use Rattle.overflow_check.specs.FastController.{IsFastController}
 
 -- at least 0 and at most so much
 pub record LiesUpTo (most : ℕ) (x : ℤ) : Type 0 where

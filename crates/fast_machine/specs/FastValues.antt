@@ -7,8 +7,8 @@ use Rattle.mat_int.specs.Matrix.{row_of}
 use Rattle.qp_model.specs.machine.Controller.{Numbers}
 use Rattle.qp_model.specs.machine.Machine.{IsAdmissible, loaded, row_sum}
 use Rattle.qp_model.specs.machine.ValuesMet.{products, partial_sums, entry_values, FitsWidth}
-use Rattle.fast_machine.specs.FastMachine.{FastIterate, step_weight, fast_top, mean_at, means_of, moved_multiplier, fast_step, fast_after}
-use Rattle.fast_machine.specs.FastController.{IsFastController}
+use Rattle.overflow_check.specs.FastMachine.{FastIterate, step_weight, fast_top, mean_at, means_of, moved_multiplier, fast_step, fast_after}
+use Rattle.overflow_check.specs.FastController.{IsFastController}
 
 -- the values that mean i of step k is made of
 abbrev pub mean_values : Numbers → ℕ → FastIterate → ℕ → List ℤ

@@ -1,5 +1,3 @@
-pub mod FastMachine
-pub mod FastController
 pub mod FastReady
 pub mod FastValues
 pub mod FastErrors

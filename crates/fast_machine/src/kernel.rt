@@ -3,8 +3,8 @@ ghost use Rattle.std.specs.Prelude.{◌≡◌, ◌<◌, ◌≤◌, ◌+◌, ◌^
 ghost use Rattle.integer_algebra.specs.Sums.{at};
 ghost use Rattle.qp_model.specs.machine.Controller.{numbers, plan_length};
 ghost use Rattle.qp_model.specs.machine.Machine.{IsAdmissible, loaded};
-ghost use Rattle.fast_machine.specs.FastMachine.{fast_step, fast_run};
-ghost use Rattle.fast_machine.specs.FastController.{IsFastController};
+ghost use Rattle.overflow_check.specs.FastMachine.{fast_step, fast_run};
+ghost use Rattle.overflow_check.specs.FastController.{IsFastController};
 
 use crate::step::{clear, load_state, make_step};
 use qp_model::ControllerParts;

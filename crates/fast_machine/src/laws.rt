@@ -1,5 +1,5 @@
 // What is said of the machine's weights, of its runs and of what they promise.
-ghost use Rattle.fast_machine.specs.FastMachine.{WeightSumLaw};
+ghost use Rattle.overflow_check.specs.FastMachine.{WeightSumLaw};
 ghost use Rattle.fast_machine.specs.FastReady.{FastReadyLaw};
 ghost use Rattle.fast_machine.specs.FastValues.{FastValuesLaw};
 ghost use Rattle.fast_machine.specs.FastErrors.{FastMachineStepLaw, FastAverageLaw, FastMachineRunLaw, FastMachineEvenLaw, FastCostLaw};

@@ -2,8 +2,8 @@
 ghost use Rattle.std.specs.Prelude.{◌≡◌, ◌≤◌, ◌<◌, ◌+◌, ◌*◌, ◌^◌, pos, ◌≤ℤ◌, ◌+ℤ◌, ◌*ℤ◌, ◌-ℤ◌, neg_ℤ, unsigned_abs};
 ghost use Rattle.std.specs.Int.{int_max, int_min};
 ghost use Rattle.integer_algebra.specs.Division.{floor_of};
-ghost use Rattle.fast_machine.specs.FastMachine.{step_weight, mean_divisor};
-ghost use Rattle.fast_machine.specs.FastController.{most_fast_steps};
+ghost use Rattle.overflow_check.specs.FastMachine.{step_weight, mean_divisor};
+ghost use Rattle.overflow_check.specs.FastController.{most_fast_steps};
 
 use frac_scaled::{floor_div, floor_shift, scaled};
 

@@ -6,8 +6,8 @@ ghost use Rattle.qp_model.specs.machine.Controller.{numbers};
 ghost use Rattle.qp_model.specs.machine.Machine.{IsAdmissible, loaded, lowering_of, plan_entry, plan_of, row_sum};
 ghost use Rattle.qp_model.specs.machine.AbsoluteSums.{clamp_magnitudes, plan_magnitudes};
 ghost use Rattle.qp_model.specs.machine.Within.{AreWithin};
-ghost use Rattle.fast_machine.specs.FastMachine.{step_weight, fast_top, mean_at, means_of, moved_multiplier, moved_multipliers, added_times, fast_lists, fast_step};
-ghost use Rattle.fast_machine.specs.FastController.{IsFastController, most_fast_steps};
+ghost use Rattle.overflow_check.specs.FastMachine.{step_weight, fast_top, mean_at, means_of, moved_multiplier, moved_multipliers, added_times, fast_lists, fast_step};
+ghost use Rattle.overflow_check.specs.FastController.{IsFastController, most_fast_steps};
 ghost use Rattle.fast_machine.specs.FastReady.{LiesUpTo, AreFastMultipliers, AreFastSums, IsFastReady, IsFastSetting};
 
 use crate::number::{added_times, entry_from, mean_from, moved_from, residual_from};

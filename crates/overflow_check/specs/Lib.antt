@@ -2,3 +2,5 @@ pub mod Greatest
 pub mod Width
 pub mod Laws
 pub mod SubSums
+pub mod FastMachine
+pub mod FastController

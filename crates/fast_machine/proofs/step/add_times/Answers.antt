@@ -3,7 +3,7 @@ use Rattle.std.specs.Int.{w128}
 use Rattle.std.proofs.lemmas.Int.{to_z-of_z}
 use Rattle.std.proofs.lemmas.List.Edits.{fill_by_more}
 use Rattle.std.proofs.lemmas.List.FromFn.{fill_by_all}
-use Rattle.fast_machine.specs.FastMachine.{step_weight}
+use Rattle.overflow_check.specs.FastMachine.{step_weight}
 use Rattle.fast_machine.proofs.step.add_times.Goals as goal
 
 pub added_times-requires-clause-room : goal.added_times-requires-clause-room

@@ -1,5 +1,5 @@
 use Rattle.std.proofs.Common.{◌≡◌, ℕ, ◌<◌, ◌≤◌, ◌+ℤ◌, ◌*ℤ◌, get_or, pos}
-use Rattle.fast_machine.specs.FastMachine.{step_weight}
+use Rattle.overflow_check.specs.FastMachine.{step_weight}
 use Rattle.fast_machine.proofs.step.add_times.Given as goal
 
 abbrev pub invariant-loop-j : goal.invariant-loop-j

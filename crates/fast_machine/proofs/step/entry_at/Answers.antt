@@ -5,7 +5,7 @@ use Rattle.std.proofs.lemmas.List.{get_or_read}
 use Rattle.integer_algebra.specs.Sums.{at}
 use Rattle.qp_model.specs.machine.Controller.{numbers}
 use Rattle.overflow_check.proofs.Sizes.{length-state_reach}
-use Rattle.fast_machine.specs.FastController.{with_last_version}
+use Rattle.overflow_check.specs.FastController.{with_last_version}
 use Rattle.fast_machine.proofs.FastRooms.{own_room, dual_room, entry_room}
 use Rattle.fast_machine.proofs.step.entry_at.Goals as goal
 

@@ -7,7 +7,7 @@ use Rattle.qp_model.specs.machine.Controller.{numbers}
 use Rattle.qp_model.specs.machine.Machine.{lowering_of}
 use Rattle.qp_model.specs.machine.AbsoluteSums.{clamp_magnitudes}
 use Rattle.qp_model.specs.machine.Within.{AreWithin}
-use Rattle.fast_machine.specs.FastMachine.{mean_at, means_of}
+use Rattle.overflow_check.specs.FastMachine.{mean_at, means_of}
 use Rattle.fast_machine.proofs.FastRuns.{means_long, mean_item, means_within}
 use Rattle.fast_machine.proofs.step.make_means.Goals as goal
 

@@ -1,7 +1,7 @@
 use Rattle.std.proofs.Common.{◌≡◌, ℕ, ◌<◌, ◌^◌, ◌*ℤ◌, get_or, pos}
 use Rattle.qp_model.specs.machine.Controller.{numbers}
 use Rattle.qp_model.specs.machine.Machine.{lowering_of}
-use Rattle.fast_machine.specs.FastMachine.{mean_at}
+use Rattle.overflow_check.specs.FastMachine.{mean_at}
 use Rattle.fast_machine.proofs.step.make_means.Given as goal
 
 abbrev pub invariant-loop-i : goal.invariant-loop-i

@@ -4,7 +4,7 @@ use Rattle.std.proofs.lemmas.Int.{to_z-of_z}
 use Rattle.std.proofs.lemmas.List.Edits.{fill_by_more}
 use Rattle.std.proofs.lemmas.List.FromFn.{fill_by_all}
 use Rattle.qp_model.specs.machine.Controller.{numbers}
-use Rattle.fast_machine.specs.FastMachine.{step_weight, moved_multiplier}
+use Rattle.overflow_check.specs.FastMachine.{step_weight, moved_multiplier}
 use Rattle.fast_machine.proofs.step.move_multipliers.Goals as goal
 
 pub multiplier_at-requires-clause-old : goal.multiplier_at-requires-clause-old

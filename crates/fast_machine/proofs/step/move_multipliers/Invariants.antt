@@ -1,6 +1,6 @@
 use Rattle.std.proofs.Common.{◌≡◌, ℕ, ◌<◌, ◌≤◌, get_or, pos}
 use Rattle.qp_model.specs.machine.Controller.{numbers}
-use Rattle.fast_machine.specs.FastMachine.{step_weight, moved_multiplier}
+use Rattle.overflow_check.specs.FastMachine.{step_weight, moved_multiplier}
 use Rattle.fast_machine.proofs.step.move_multipliers.Given as goal
 
 abbrev pub invariant-loop-i : goal.invariant-loop-i

@@ -3,7 +3,7 @@ use Rattle.std.specs.Int.{w128}
 use Rattle.std.proofs.lemmas.Int.{to_z-of_z}
 use Rattle.std.proofs.lemmas.List.{get_or_read}
 use Rattle.integer_algebra.specs.Sums.{at}
-use Rattle.fast_machine.specs.FastMachine.{FastIterate}
+use Rattle.overflow_check.specs.FastMachine.{FastIterate}
 use Rattle.fast_machine.specs.FastProgress.{FastProgress, fast_made_of}
 use Rattle.fast_machine.proofs.FastHeld.{ready}
 use Rattle.fast_machine.proofs.kernel.FastKernel.multiplier.Goals as goal

@@ -1,6 +1,6 @@
 use Rattle.std.proofs.Common.{◌≡◌, ◌+◌, ◌<◌, ap, sym, subst, ◌∙◌, arith, refl}
 use Rattle.qp_model.specs.machine.Controller.{numbers}
-use Rattle.fast_machine.specs.FastMachine.{fast_lists, fast_step, fast_after}
+use Rattle.overflow_check.specs.FastMachine.{fast_lists, fast_step, fast_after}
 use Rattle.fast_machine.specs.FastProgress.{FastProgress, fast_made_of, fast_progress_of}
 use Rattle.fast_machine.proofs.FastRuns.{fast_after_suc}
 use Rattle.fast_machine.proofs.FastHeld.{ready, stepped, replaced}

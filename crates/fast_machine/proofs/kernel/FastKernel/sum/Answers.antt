@@ -4,7 +4,7 @@ use Rattle.std.proofs.lemmas.Int.{to_z-of_z}
 use Rattle.std.proofs.lemmas.List.{get_or_read}
 use Rattle.integer_algebra.specs.Sums.{at}
 use Rattle.qp_model.specs.machine.Controller.{plan_length}
-use Rattle.fast_machine.specs.FastMachine.{FastIterate}
+use Rattle.overflow_check.specs.FastMachine.{FastIterate}
 use Rattle.fast_machine.specs.FastProgress.{FastProgress, fast_made_of}
 use Rattle.fast_machine.proofs.FastHeld.{ready}
 use Rattle.fast_machine.proofs.kernel.FastKernel.sum.Goals as goal

@@ -6,7 +6,7 @@ use Rattle.qp_model.specs.problem.Limits.{last_version}
 use Rattle.qp_model.specs.problem.Range.{LiesIn}
 use Rattle.qp_model.specs.machine.Controller.{Numbers, plan_length, IsSized}
 use Rattle.qp_model.specs.machine.AbsoluteSums.{state_magnitudes, entry_absolute_sum, plan_magnitudes, row_absolute_sum, greatest_of}
-use Rattle.fast_machine.specs.FastMachine.{all_weights}
+use Rattle.overflow_check.specs.FastMachine.{all_weights}
 
 -- ---- shapes and ranges
 -- the version of the texts of these controllers
