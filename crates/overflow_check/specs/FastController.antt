@@ -17,9 +17,12 @@ fast_version = 3
 abbrev pub most_fast_steps : ℕ
 most_fast_steps = 65534
 
--- the same numbers as those of version 2, whose words are fewer
+-- the same numbers as those of another version of the plain machine, whose words are fewer
+abbrev pub as_version : ℕ → Numbers → Numbers
+as_version version c = record c { version = version; words = c.states + c.rows + 2 * plan_length c }
+
 abbrev pub with_last_version : Numbers → Numbers
-with_last_version c = record c { version = last_version; words = c.states + c.rows + 2 * plan_length c }
+with_last_version c = as_version last_version c
 
 -- the shapes and ranges, but for the width: those of version 2, for fewer steps; the words hold a state, three lists of multipliers, a plan and sums
 pub record IsFastSized (c : Numbers) : Type 0 where

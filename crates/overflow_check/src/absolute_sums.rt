@@ -4,8 +4,11 @@ ghost use Rattle.std.specs.Option.{SomeIff};
 ghost use Rattle.integer_algebra.specs.Division.{ceil_div};
 ghost use Rattle.qp_model.specs.machine.Controller.{numbers, IsSized};
 ghost use Rattle.qp_model.specs.machine.AbsoluteSums.{IsController, weighted_abs_sum, state_magnitudes, clamp_magnitudes, entry_absolute_sum, plan_magnitudes, row_absolute_sum, next_magnitude, greatest_of, greatest_sum};
-ghost use Rattle.overflow_check.specs.Greatest.{greatest_entry_sum, greatest_row_sum, greatest_next_magnitude, greatest_run_sum};
+ghost use Rattle.overflow_check.specs.FastController.{with_last_version};
+ghost use Rattle.overflow_check.specs.Machines as machines;
+ghost use Rattle.overflow_check.specs.Machines.{IsSizedFor, weights_for, greatest_entry_sum, greatest_row_sum, greatest_weighed};
 
+use crate::machine::Machine;
 use qp_model::{ControllerParts, MOST_INPUTS, MOST_ROWS, MOST_STAGES, MOST_STATES};
 
 /// The most plan entries.
@@ -51,7 +54,7 @@ fn weighted_abs_sum(row: &[i128], magnitudes: &[u128]) -> Option<u128>
 
 // How far a state of the box lies from 0 in each coordinate; the list ends in zeros.
 fn state_magnitudes(c: &ControllerParts) -> [u128; MOST_STATES]
-    requires { IsSized (numbers c.now) }
+    requires { IsSized (with_last_version (numbers c.now)) }
     ensures { take c.now.n result ≡ state_magnitudes (numbers c.now) }
 {
     let mut magnitudes = [0; MOST_STATES];
@@ -63,7 +66,7 @@ fn state_magnitudes(c: &ControllerParts) -> [u128; MOST_STATES]
 
 // How far the multipliers lie from 0.
 fn clamp_magnitudes(c: &ControllerParts) -> [u128; MOST_ROWS]
-    requires { IsSized (numbers c.now) }
+    requires { IsSized (with_last_version (numbers c.now)) }
     ensures { take c.now.m result ≡ clamp_magnitudes (numbers c.now) }
 {
     [c.clamp.unsigned_abs(); MOST_ROWS]
@@ -97,7 +100,7 @@ fn entry_absolute_sum(
     clamps: &[u128],
     j: usize,
 ) -> Option<u128>
-    requires sized { IsSized (numbers c.now) }
+    requires sized { IsSized (with_last_version (numbers c.now)) }
     requires states { states.now ≡ state_magnitudes (numbers c.now) }
     requires clamps { clamps.now ≡ clamp_magnitudes (numbers c.now) }
     requires in_range { j < length c.now.t.items }
@@ -118,7 +121,7 @@ struct PlanMagnitudes {
 // The list ends in zeros.
 #[tactic(auto, using(crate::proofs::Greatest::greatest_steps))]
 fn plan_magnitudes(c: &ControllerParts, states: &[u128], clamps: &[u128]) -> Option<PlanMagnitudes>
-    requires sized { IsSized (numbers c.now) }
+    requires sized { IsSized (with_last_version (numbers c.now)) }
     requires states { states.now ≡ state_magnitudes (numbers c.now) }
     requires clamps { clamps.now ≡ clamp_magnitudes (numbers c.now) }
     ensures wide { IfNone result (¬ (greatest_entry_sum (numbers c.now) ≤ 2 ^ 126)) }
@@ -140,7 +143,7 @@ fn plan_magnitudes(c: &ControllerParts, states: &[u128], clamps: &[u128]) -> Opt
 
 // The absolute sum of row `i`.
 fn row_absolute_sum(c: &ControllerParts, states: &[u128], plan: &[u128], i: usize) -> Option<u128>
-    requires sized { IsSized (numbers c.now) }
+    requires sized { IsSized (with_last_version (numbers c.now)) }
     requires states { states.now ≡ state_magnitudes (numbers c.now) }
     requires plan { plan.now ≡ plan_magnitudes (numbers c.now) }
     requires in_range { i < length c.now.bound.items }
@@ -151,32 +154,17 @@ fn row_absolute_sum(c: &ControllerParts, states: &[u128], plan: &[u128], i: usiz
     row_from(planned, own, c.bound[i].unsigned_abs(), c.f)
 }
 
-// The greatest of the rows' sums and of the multipliers before they are clamped.
+// The greatest of the rows' sums.
 #[tactic(auto, using(crate::proofs::Greatest::greatest_steps))]
 fn greatest_row(c: &ControllerParts, states: &[u128], plan: &[u128]) -> Option<u128>
-    requires sized { IsSized (numbers c.now) }
+    requires sized { IsSized (with_last_version (numbers c.now)) }
     requires states { states.now ≡ state_magnitudes (numbers c.now) }
     requires plan { plan.now ≡ plan_magnitudes (numbers c.now) }
-    ensures { SomeIff result (greatest_row_sum (numbers c.now) ≤ 2 ^ 126) (max (greatest_row_sum (numbers c.now)) (greatest_next_magnitude (numbers c.now))) }
+    ensures { SomeIff result (greatest_row_sum (numbers c.now) ≤ 2 ^ 126) (greatest_row_sum (numbers c.now)) }
 {
     let mut greatest = 0;
     for i in 0..c.bound.len() {
-        let sum = row_absolute_sum(c, states, plan, i)?;
-        let next = c.clamp.unsigned_abs() + ceil_shift(sum, c.f);
-        greatest = sum.max(next).max(greatest);
-    }
-    Some(greatest)
-}
-
-// The greatest of the sums of a run.
-#[tactic(auto, using(crate::proofs::Greatest::greatest_steps))]
-fn greatest_run_sum(c: &ControllerParts, plan: &[u128]) -> Option<u128>
-    requires { plan.now ≡ plan_magnitudes (numbers c.now) }
-    ensures { SomeIff result (greatest_run_sum (numbers c.now) < 2 ^ 128) (greatest_run_sum (numbers c.now)) }
-{
-    let mut greatest = 0;
-    for magnitudes in plan {
-        greatest = u128::from(c.steps).checked_mul(*magnitudes)?.max(greatest);
+        greatest = row_absolute_sum(c, states, plan, i)?.max(greatest);
     }
     Some(greatest)
 }
@@ -193,6 +181,55 @@ fn greatest_of(numbers: &[u128]) -> u128
     greatest
 }
 
+// What a machine weighs the multipliers and plans of a run by.
+#[derive(Clone, Copy)]
+struct Weights {
+    // The greatest multiplier of any row.
+    top: u128,
+    // The greatest weight of a step.
+    step: u128,
+    // The weights of all steps together.
+    all: u128,
+    // Those that multipliers are summed by.
+    held: u128,
+}
+
+fn weights_of(c: &ControllerParts, machine: Machine) -> Weights
+    requires { IsSizedFor machine (numbers c.now) }
+    ensures { result ≡ weights_for machine (numbers c.now) }
+{
+    let clamp = c.clamp.unsigned_abs();
+    let steps = u128::from(c.steps);
+    match machine {
+        Machine::Plain => Weights {
+            top: clamp,
+            step: 1,
+            all: steps,
+            held: 0,
+        },
+        Machine::Accelerated => {
+            let all = steps * (steps + 3) / 2;
+            Weights {
+                top: 2 * clamp,
+                step: steps + 1,
+                all,
+                held: all,
+            }
+        }
+    }
+}
+
+// What a run adds up by its weights, from the greatest of the rows' sums and of the plan's entries.
+fn weighed(w: Weights, row: u128, plan: u128, f: u32) -> Option<u128>
+    requires small { row ≤ 2 ^ 126 }
+    requires bits { f ≤ 48 }
+    ensures { SomeIff result (machines.weighed w row plan f ≤ 2 ^ 126) (machines.weighed w row plan f) }
+{
+    let next = w.step.checked_mul(ceil_shift(row, f))?.checked_add(w.top)?;
+    let held = w.top.checked_mul(w.held)?;
+    limited(next.max(held).max(w.all.checked_mul(plan)?))
+}
+
 // The greatest absolute sum, and how far the plan's entries lie from 0 at most.
 #[derive(Clone, Copy)]
 struct Greatest {
@@ -200,43 +237,55 @@ struct Greatest {
     plan: u128,
 }
 
-// From the greatest absolute values of states and multipliers. None where the sum is above 2^126.
-fn greatest_within(c: &ControllerParts, states: &[u128], clamps: &[u128]) -> Option<Greatest>
-    requires sized { IsSized (numbers c.now) }
+// From the greatest absolute values of states and multipliers, and weights. None where the sum is above 2^126.
+fn greatest_within(
+    c: &ControllerParts,
+    w: Weights,
+    states: &[u128],
+    clamps: &[u128],
+) -> Option<Greatest>
+    requires sized { IsSized (with_last_version (numbers c.now)) }
     requires states { states.now ≡ state_magnitudes (numbers c.now) }
     requires clamps { clamps.now ≡ clamp_magnitudes (numbers c.now) }
-    ensures { SomeIff result (greatest_sum (numbers c.now) ≤ 2 ^ 126)
-        (record { sum = greatest_sum (numbers c.now); plan = greatest_of (plan_magnitudes (numbers c.now)) }) }
+    ensures { SomeIff result (greatest_weighed w (numbers c.now) ≤ 2 ^ 126)
+        (record { sum = greatest_weighed w (numbers c.now); plan = greatest_of (plan_magnitudes (numbers c.now)) }) }
 {
-    let plan = plan_magnitudes(c, states, clamps)?;
-    let magnitudes = &plan.magnitudes[..c.t.len()];
-    let rows = greatest_row(c, states, magnitudes)?;
-    let sums = greatest_run_sum(c, magnitudes)?;
-    let greatest = greatest_of(states).max(plan.greatest).max(rows).max(sums);
-    Some(Greatest {
-        sum: limited(greatest)?,
-        plan: greatest_of(magnitudes),
-    })
+    let entries = plan_magnitudes(c, states, clamps)?;
+    let magnitudes = &entries.magnitudes[..c.t.len()];
+    let row = greatest_row(c, states, magnitudes)?;
+    let plan = greatest_of(magnitudes);
+    let run = weighed(w, row, plan, c.f)?;
+    let sum = limited(greatest_of(states).max(entries.greatest).max(row).max(run))?;
+    Some(Greatest { sum, plan })
 }
 
-// Those of a controller.
-fn greatest_numbers(parts: &ControllerParts) -> Option<Greatest>
-    requires { IsSized (numbers parts.now) }
-    ensures { SomeIff result (greatest_sum (numbers parts.now) ≤ 2 ^ 126)
-        (record { sum = greatest_sum (numbers parts.now); plan = greatest_of (plan_magnitudes (numbers parts.now)) }) }
+// Those of a controller of this machine.
+fn greatest_numbers(parts: &ControllerParts, machine: Machine) -> Option<Greatest>
+    requires { IsSizedFor machine (numbers parts.now) }
+    ensures { SomeIff result (machines.greatest_for machine (numbers parts.now) ≤ 2 ^ 126)
+        (record { sum = machines.greatest_for machine (numbers parts.now); plan = greatest_of (plan_magnitudes (numbers parts.now)) }) }
 {
     let states = state_magnitudes(parts);
     let clamps = clamp_magnitudes(parts);
-    greatest_within(parts, &states[..parts.n], &clamps[..parts.m])
+    let weights = weights_of(parts, machine);
+    greatest_within(parts, weights, &states[..parts.n], &clamps[..parts.m])
 }
 
-/// The greatest absolute sum: no value that the machine meets in a run from a state of the box is above it. None where
+/// The greatest absolute sum: no value that this machine meets in a run from a state of the box is above it. None where
 /// it is above `2^126`.
+pub fn greatest_for(parts: &ControllerParts, machine: Machine) -> Option<i128>
+    requires { IsSizedFor machine (numbers parts.now) }
+    ensures { SomeIff result (machines.greatest_for machine (numbers parts.now) ≤ 2 ^ 126) (pos (machines.greatest_for machine (numbers parts.now))) }
+{
+    Some(greatest_numbers(parts, machine)?.sum as i128)
+}
+
+/// That of the plain machine.
 pub fn greatest_sum(parts: &ControllerParts) -> Option<i128>
     requires { IsSized (numbers parts.now) }
     ensures { SomeIff result (greatest_sum (numbers parts.now) ≤ 2 ^ 126) (pos (greatest_sum (numbers parts.now))) }
 {
-    Some(greatest_numbers(parts)?.sum as i128)
+    greatest_for(parts, Machine::Plain)
 }
 
 /// How far the plan's entries lie from 0 at most in a run from a state of the box, over `2^f`. None where the greatest absolute
@@ -245,7 +294,7 @@ pub fn plan_sum(parts: &ControllerParts) -> Option<i128>
     requires { IsSized (numbers parts.now) }
     ensures { SomeIff result (greatest_sum (numbers parts.now) ≤ 2 ^ 126) (pos (greatest_of (plan_magnitudes (numbers parts.now)))) }
 {
-    Some(greatest_numbers(parts)?.plan as i128)
+    Some(greatest_numbers(parts, Machine::Plain)?.plan as i128)
 }
 
 /// How far plan entry `j` lies from 0 at most in a run from a state of the box, over `2^f`.

@@ -1,12 +1,15 @@
 // Controllers whose values stay within their width.
 ghost use Rattle.std.specs.Prelude.{◌≡◌, ◌↔◌, ◌≤◌, ◌^◌, Some, None, IsTrue, IsOk, IfOk, OnOk, IsSome, IfSome};
 ghost use Rattle.qp_model.specs.machine.Controller.{numbers, IsInForm, IsSized};
-ghost use Rattle.qp_model.specs.machine.AbsoluteSums.{IsController, greatest_sum as greatest};
+ghost use Rattle.qp_model.specs.machine.AbsoluteSums.{IsController, greatest_sum};
+ghost use Rattle.overflow_check.specs.FastController.{IsFastSized, IsFastInForm, IsFastController, greatest_fast_sum};
+ghost use Rattle.overflow_check.specs.Machines.{IsInFormFor, IsControllerFor};
 ghost use Rattle.overflow_check.specs.Width.{IsWidth};
 
-use crate::absolute_sums::{greatest_sum, two_to};
+use crate::absolute_sums::{greatest_for, two_to};
 use crate::form::is_in_form;
-use crate::word_width::width;
+use crate::machine::Machine;
+use crate::word_width::width_for;
 use qp_model::ControllerParts;
 use std::marker::Model;
 use thiserror::Error;
@@ -28,27 +31,33 @@ pub struct Controller {
     parts: ControllerParts,
 }
 
+/// Numbers of a controller of the accelerated machine, none of whose values leaves its width in a run from a state of its box.
+#[derive(Drop)]
+pub struct FastController {
+    parts: ControllerParts,
+}
+
 // Whether no value of these numbers leaves its width: their greatest absolute sum is at most `2^(w-1) - 1` and at most `2^126`.
-fn is_safe(parts: &ControllerParts) -> bool
-    requires { IsInForm (numbers parts.now) }
-    ensures { IsTrue result ↔ IsController (numbers parts.now) }
+fn is_safe(parts: &ControllerParts, machine: Machine) -> bool
+    requires { IsInFormFor machine (numbers parts.now) }
+    ensures { IsTrue result ↔ IsControllerFor machine (numbers parts.now) }
 {
-    match greatest_sum(parts) {
+    match greatest_for(parts, machine) {
         Some(greatest) => greatest.unsigned_abs() < two_to(parts.w - 1),
         None => false,
     }
 }
 
-// Why numbers are no controller. None where they are one.
-fn fault_of(parts: &ControllerParts) -> Option<BadParts>
-    ensures sound { (result ≡ None) ↔ IsController (numbers parts.now) }
-    ensures form { (result ≡ Some BadParts.Form) ↔ (¬ IsInForm (numbers parts.now)) }
-    ensures wide { (result ≡ Some BadParts.Unsafe) ↔ (IsInForm (numbers parts.now) × (¬ IsController (numbers parts.now))) }
+// Why numbers are no controller of this machine. None where they are one.
+fn fault_of(parts: &ControllerParts, machine: Machine) -> Option<BadParts>
+    ensures sound { (result ≡ None) ↔ IsControllerFor machine (numbers parts.now) }
+    ensures form { (result ≡ Some BadParts.Form) ↔ (¬ IsInFormFor machine (numbers parts.now)) }
+    ensures wide { (result ≡ Some BadParts.Unsafe) ↔ (IsInFormFor machine (numbers parts.now) × (¬ IsControllerFor machine (numbers parts.now))) }
 {
-    if !is_in_form(parts) {
+    if !is_in_form(parts, machine) {
         return Some(BadParts::Form);
     }
-    if is_safe(parts) {
+    if is_safe(parts, machine) {
         None
     } else {
         Some(BadParts::Unsafe)
@@ -75,7 +84,7 @@ impl Controller {
         ensures form { (result ≡ Err BadParts.Form) ↔ (¬ IsInForm (numbers parts)) }
         ensures wide { (result ≡ Err BadParts.Unsafe) ↔ (IsInForm (numbers parts) × (¬ IsController (numbers parts))) }
     {
-        match fault_of(&parts) {
+        match fault_of(&parts, Machine::Plain) {
             Some(fault) => Err(fault),
             None => Ok(Controller { parts }),
         }
@@ -86,10 +95,10 @@ impl Controller {
     pub fn with_least_width(parts: ControllerParts) -> Option<Controller>
         requires { IsSized (numbers parts) }
         ensures kept { IfSome result (λ c. c ≡ record (numbers parts) { width = c.width }) }
-        ensures width { IfSome result (λ c. IsWidth (greatest (numbers parts)) c.width) }
-        ensures found { IsSome result ↔ (greatest (numbers parts) ≤ 2 ^ 126) }
+        ensures width { IfSome result (λ c. IsWidth (greatest_sum (numbers parts)) c.width) }
+        ensures found { IsSome result ↔ (greatest_sum (numbers parts) ≤ 2 ^ 126) }
     {
-        match width(&parts) {
+        match width_for(&parts, Machine::Plain) {
             Some(w) => Some(Controller {
                 parts: ControllerParts { w, ..parts },
             }),
@@ -101,6 +110,57 @@ impl Controller {
     pub fn parts(&self) -> &ControllerParts
         ensures value { numbers result.now ≡ self.now }
         ensures sound { IsController (numbers result.now) }
+    {
+        &self.parts
+    }
+}
+
+impl Model for FastController {
+    ghost use Rattle.qp_model.specs.machine.Controller.{Numbers, numbers};
+    ghost use Rattle.overflow_check.specs.FastController.{IsFastController};
+
+    ghost Value = { Numbers };
+
+    ghost view = { λ c. numbers c.parts };
+
+    ghost invariant = { λ c. IsFastController (numbers c.parts) };
+}
+
+impl FastController {
+    /// The controller of the accelerated machine of these numbers. `Form` where a shape or a range is broken, else `Unsafe` where the greatest
+    /// absolute sum is above `2^(w-1) - 1` or above `2^126`. The numbers are dropped on a refusal.
+    pub fn from_parts(parts: ControllerParts) -> Result<FastController, BadParts>
+        ensures kept { IfOk result (λ c. c ≡ numbers parts) }
+        ensures ok { IsOk result ↔ IsFastController (numbers parts) }
+        ensures form { (result ≡ Err BadParts.Form) ↔ (¬ IsFastInForm (numbers parts)) }
+        ensures wide { (result ≡ Err BadParts.Unsafe) ↔ (IsFastInForm (numbers parts) × (¬ IsFastController (numbers parts))) }
+    {
+        match fault_of(&parts, Machine::Accelerated) {
+            Some(fault) => Err(fault),
+            None => Ok(FastController { parts }),
+        }
+    }
+
+    /// The controller of these numbers with the least width, in place of theirs, that their absolute sums let pass: so nothing is left to be refused, and the
+    /// sums are made once. None where the greatest is above `2^126`.
+    pub fn with_least_width(parts: ControllerParts) -> Option<FastController>
+        requires { IsFastSized (numbers parts) }
+        ensures kept { IfSome result (λ c. c ≡ record (numbers parts) { width = c.width }) }
+        ensures width { IfSome result (λ c. IsWidth (greatest_fast_sum (numbers parts)) c.width) }
+        ensures found { IsSome result ↔ (greatest_fast_sum (numbers parts) ≤ 2 ^ 126) }
+    {
+        match width_for(&parts, Machine::Accelerated) {
+            Some(w) => Some(FastController {
+                parts: ControllerParts { w, ..parts },
+            }),
+            None => None,
+        }
+    }
+
+    /// Its numbers, which are those of a controller.
+    pub fn parts(&self) -> &ControllerParts
+        ensures value { numbers result.now ≡ self.now }
+        ensures sound { IsFastController (numbers result.now) }
     {
         &self.parts
     }

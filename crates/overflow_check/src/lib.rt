@@ -5,11 +5,14 @@ mod absolute_sums;
 mod controller;
 mod form;
 mod laws;
+mod machine;
 mod word_width;
 
 pub use absolute_sums::{
-    greatest_sum, next_magnitude, plan_entry_magnitude, plan_sum, state_magnitude,
+    greatest_for, greatest_sum, next_magnitude, plan_entry_magnitude, plan_sum, state_magnitude,
 };
-pub use controller::{BadParts, Controller};
+pub use controller::{BadParts, Controller, FastController};
+pub use form::{FAST_VERSION, MOST_FAST_STEPS};
 pub use laws::{sub_sums_law, values_law};
-pub use word_width::width;
+pub use machine::Machine;
+pub use word_width::{width, width_for};
