@@ -11,7 +11,7 @@ use Rattle.qp_model.specs.machine.Machine.{row_sum}
 use Rattle.qp_model.specs.machine.AbsoluteSums.{state_magnitudes, entry_absolute_sum, plan_magnitudes, row_absolute_sum, greatest_of}
 use Rattle.qp_model.specs.machine.Within.{AreWithin}
 use Rattle.qp_model.proofs.AbsoluteLaws.{abs-row_le, abs-floor_le_ceil, ceil_div_mono}
-use Rattle.overflow_check.proofs.Greatest.{greatest-append, le-greatest}
+use Rattle.overflow_check.proofs.Greatest.{fast-parts, le-greatest}
 use Rattle.overflow_check.proofs.SumLaws.{row_le}
 use Rattle.mat_int.specs.Row.{list_dot}
 use Rattle.mat_int.specs.Matrix.{row_of}
@@ -29,12 +29,6 @@ pub record FastSumsFit (c : Numbers) (top : ℕ) : Type 0 where
   pub rows : (i : ℕ) → i < length c.bounds → row_absolute_sum c i ≤ top
   pub moved : (i : ℕ) → i < length c.bounds → moved_magnitude c i ≤ top
   pub sums : (j : ℕ) → j < length c.offsets → fast_sum_magnitude c j ≤ top
-
-fast-parts : (c : Numbers) → greatest_fast_sum c ≡
-    max (max (max (max (max (reached_magnitude c) (greatest_of (state_magnitudes c))) (greatest_of (map (entry_absolute_sum c) (range_with_len 0 (length c.offsets)))))
-    (greatest_of (map (row_absolute_sum c) (range_with_len 0 (length c.bounds))))) (greatest_of (map (moved_magnitude c) (range_with_len 0 (length c.bounds)))))
-    (greatest_of (map (fast_sum_magnitude c) (range_with_len 0 (length c.offsets))))
-fast-parts c = rw (greatest-append, greatest-append, greatest-append, greatest-append) refl
 
 pub fast_sums_fit : (c : Numbers) (top : ℕ) → greatest_fast_sum c ≤ top → FastSumsFit c top
 fast_sums_fit c top h = record {

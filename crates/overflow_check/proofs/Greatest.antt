@@ -5,6 +5,7 @@ use Rattle.std.proofs.lemmas.List.FromFn.{map-range_with_len_more}
 use Rattle.qp_model.specs.machine.Controller.{Numbers}
 use Rattle.qp_model.specs.machine.AbsoluteSums.{weighted_abs_sum, state_magnitudes, entry_absolute_sum, row_absolute_sum, next_magnitude, sum_magnitude, greatest_of, greatest_sum}
 use Rattle.qp_model.proofs.AbsoluteLaws.{le_times_pow}
+use Rattle.overflow_check.specs.FastController.{moved_magnitude, reached_magnitude, fast_sum_magnitude, greatest_fast_sum}
 
 -- ---- sums up to an index
 pub weighted_abs_sum-take_suc : (xs : List ℤ) (ys : List ℕ) (i : ℕ) → i < length xs → i < length ys →
@@ -54,6 +55,14 @@ greatest-append (x ∷ xs) ys = omega (arith, greatest-append xs ys)
 pub greatest-map_more : (f : ℕ → ℕ) (k : ℕ) → greatest_of (map f (range_with_len 0 (k + 1))) ≡ max (greatest_of (map f (range_with_len 0 k))) (f k)
 greatest-map_more f k = rw (map-range_with_len_more f 0 k k (zero-add k), greatest-append) (omega arith)
 
+-- the greatest of more is not less
+pub greatest_mono : (f g : ℕ → ℕ) (n : ℕ) → ((i : ℕ) → i < n → f i ≤ g i) → greatest_of (map f (range_with_len 0 n)) ≤ greatest_of (map g (range_with_len 0 n))
+greatest_mono f g zero h = omega arith
+greatest_mono f g (suc n) h = omega (arith, last f n, last g n, greatest_mono f g n (λ i l. h i (omega arith)), h n (omega arith))
+  where
+    last : (f : ℕ → ℕ) (n : ℕ) → greatest_of (map f (range_with_len 0 (suc n))) ≡ max (greatest_of (map f (range_with_len 0 n))) (f n)
+    last f n = rw add-one at (greatest-map_more f n)
+
 le-greatest_from : (f : ℕ → ℕ) (a n i : ℕ) → i < n → f (a + i) ≤ greatest_of (map f (range_with_len a n))
 le-greatest_from f a zero i h = absurd (omega arith)
 le-greatest_from f a (suc n) zero h = let e : a + 0 ≡ a = omega arith in rw e (omega arith)
@@ -79,3 +88,9 @@ pub greatest-parts : (c : Numbers) → greatest_sum c ≡
     (greatest_of (map (row_absolute_sum c) (range_with_len 0 (length c.bounds))))) (greatest_of (map (next_magnitude c) (range_with_len 0 (length c.bounds)))))
     (greatest_of (map (sum_magnitude c) (range_with_len 0 (length c.offsets))))
 greatest-parts c = rw (greatest-append, greatest-append, greatest-append, greatest-append) refl
+
+pub fast-parts : (c : Numbers) → greatest_fast_sum c ≡
+    max (max (max (max (max (reached_magnitude c) (greatest_of (state_magnitudes c))) (greatest_of (map (entry_absolute_sum c) (range_with_len 0 (length c.offsets)))))
+    (greatest_of (map (row_absolute_sum c) (range_with_len 0 (length c.bounds))))) (greatest_of (map (moved_magnitude c) (range_with_len 0 (length c.bounds)))))
+    (greatest_of (map (fast_sum_magnitude c) (range_with_len 0 (length c.offsets))))
+fast-parts c = rw (greatest-append, greatest-append, greatest-append, greatest-append) refl

@@ -5,8 +5,8 @@ pub mod Greatest
 -- ---- the absolute sums of a controller
 pub mod Sizes
 pub mod SumLaws
--- ---- the least width
-pub mod LeastWidth
+-- ---- either machine
+pub mod Machines
 -- ---- runs within them
 pub mod Runs
 pub mod ValuesMet

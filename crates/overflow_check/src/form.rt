@@ -94,6 +94,13 @@ fn is_shaped(c: &ControllerParts, nu: usize) -> bool
         && c.bound.len() == c.m
 }
 
+// Whether the steps of a run and the clamp lie in their ranges.
+fn are_counts_in_range(c: &ControllerParts) -> bool
+    ensures { IsTrue result ↔ (LiesIn 1 4194304 c.now.steps × (pos 0 ≤ℤ c.now.clamp) × (c.now.clamp ≤ℤ pos (2 ^ 126))) }
+{
+    (1..=4194304).contains(&c.steps) && is_clamp(c.clamp)
+}
+
 // Whether the words are those of a run with so many lists of multipliers.
 fn has_words(c: &ControllerParts, lists: usize) -> bool
     requires sized { IsSized (with_last_version (numbers c.now)) }
@@ -119,10 +126,10 @@ fn has_form(c: &ControllerParts, version: u32) -> bool
     if !are_sizes_in_range(c, version) || !are_bits_in_range(c) {
         return false;
     }
-    if !(1..=4194304).contains(&c.steps) || !is_clamp(c.clamp) {
-        return false;
-    }
-    is_shaped(c, c.p * c.stages) && have_exponents(c, version) && is_box(c)
+    are_counts_in_range(c)
+        && is_shaped(c, c.p * c.stages)
+        && have_exponents(c, version)
+        && is_box(c)
 }
 
 // Whether the shapes and ranges of a controller of this machine hold.

@@ -5,6 +5,7 @@ use Rattle.std.proofs.lemmas.List.FromFn.{fill_by_all}
 use Rattle.integer_algebra.specs.Division.{ceil_div}
 use Rattle.qp_model.specs.machine.Controller.{numbers}
 use Rattle.qp_model.specs.machine.AbsoluteSums.{entry_absolute_sum}
+use Rattle.overflow_check.specs.FastController.{with_last_version}
 use Rattle.overflow_check.proofs.Greatest.{le-greatest, greatest-map_more, greatest_steps}
 use Rattle.overflow_check.proofs.Sizes.{entries_le}
 use Rattle.overflow_check.proofs.absolute_sums.plan_magnitudes.Goals as goal
@@ -17,7 +18,7 @@ returns-in_err-sum-clause-wide c =
 pub loop-j-preserved : goal.loop-j-preserved
 loop-j-preserved c =
     let n = numbers c.args.c.now in
-    let lt : c.loop-j.j < length c.loop-j.magnitudes = omega (arith, entries_le n c.requires.sized) in
+    let lt : c.loop-j.j < length c.loop-j.magnitudes = omega (arith, entries_le (with_last_version n) c.requires.sized) in
     record {
       end = c.loop-j.invariant.end;
       room = length-set c.loop-j.magnitudes c.loop-j.j c.ceil_shift.result ∙ c.loop-j.invariant.room;
@@ -29,7 +30,7 @@ pub returns-clause-magnitudes : goal.returns-clause-magnitudes
 returns-clause-magnitudes c =
     let n = numbers c.args.c.now in
     let nu = length c.args.c.now.t.items in
-    let room : nu ≤ length c.loop-j.magnitudes = omega (arith, entries_le n c.requires.sized) in
+    let room : nu ≤ length c.loop-j.magnitudes = omega (arith, entries_le (with_last_version n) c.requires.sized) in
     fill_by_all (λ k. ceil_div (entry_absolute_sum n k) (2 ^ (n.fraction_bits + n.step_exponent))) (take nu c.loop-j.magnitudes) nu 0 (length-take-le nu c.loop-j.magnitudes room)
     (λ k h. rw (get_or-take nu c.loop-j.magnitudes k 0 h) (c.loop-j.invariant.magnitudes k (omega arith)))
 

@@ -7,6 +7,7 @@ use Rattle.qp_model.specs.machine.Controller.{numbers}
 use Rattle.qp_model.specs.machine.AbsoluteSums.{state_magnitudes}
 use Rattle.qp_model.proofs.VersionLaws.{states_le}
 use Rattle.std.proofs.lemmas.Grind.{common_steps}
+use Rattle.overflow_check.specs.FastController.{with_last_version}
 use Rattle.overflow_check.proofs.Sizes.{numerator_read, reach_below, length-state_reach, get_or-reach_of}
 use Rattle.overflow_check.proofs.absolute_sums.state_magnitudes.Goals as goal
 
@@ -26,7 +27,7 @@ loop-i-preserved c =
     let high_fits : FitsSigned w128 c.index-in-loop-i.result.now = search rules in
     let low : c.index.result.now ≡ get_or c.args.c.now.lo.items i (pos 0) = get_or_read c.args.c.now.lo.items i c.index.result.now (omega (arith, c.requires.shaped.low)) c.index.ensures (pos 0) in
     let high : c.index-in-loop-i.result.now ≡ get_or c.args.c.now.hi.items i (pos 0) = get_or_read c.args.c.now.hi.items i c.index-in-loop-i.result.now (omega (arith, c.requires.shaped.high)) c.index-in-loop-i.ensures (pos 0) in
-    let lt : i < length c.loop-i.magnitudes = omega (arith, states_le (numbers c.args.c.now) c.requires) in
+    let lt : i < length c.loop-i.magnitudes = omega (arith, states_le (with_last_version (numbers c.args.c.now)) c.requires) in
     record {
       room = length-set c.loop-i.magnitudes i (c.max.result * c.two_to.result) ∙ c.loop-i.invariant.room;
       magnitudes = rw (c.max.ensures, c.unsigned_abs.ensures.value, c.unsigned_abs-in-loop-i.ensures.value, c.two_to.ensures, to_z-of_z w128 _ low_fits, to_z-of_z w128 _ high_fits, low, high)
@@ -36,11 +37,11 @@ loop-i-preserved c =
 pub returns : goal.returns
 returns c =
     let n = numbers c.args.c.now in
-    let long : length (take c.args.c.now.n c.loop-i.magnitudes) ≡ c.args.c.now.n = length-take-le c.args.c.now.n c.loop-i.magnitudes (omega (arith, states_le n c.requires)) in
+    let long : length (take c.args.c.now.n c.loop-i.magnitudes) ≡ c.args.c.now.n = length-take-le c.args.c.now.n c.loop-i.magnitudes (omega (arith, states_le (with_last_version n) c.requires)) in
     let same : (i : ℕ) → i < c.args.c.now.n → get_or (take c.args.c.now.n c.loop-i.magnitudes) i 0 ≡ get_or (state_magnitudes n) i 0 = λ i h.
     rw (get_or-take c.args.c.now.n c.loop-i.magnitudes i 0 h, get_or-reach_of (n.fraction_bits - n.grid_bits) n.low n.high i (omega (arith, h, c.requires.shaped.low)) (omega (arith, c.requires.shaped.low, c.requires.shaped.high)))
     (c.loop-i.invariant.magnitudes i (omega (arith, h))) in
-    ext_get_or 0 (take c.args.c.now.n c.loop-i.magnitudes) (state_magnitudes n) (long ∙ sym (length-state_reach n c.requires)) (λ i h. same i (rw long at h))
+    ext_get_or 0 (take c.args.c.now.n c.loop-i.magnitudes) (state_magnitudes n) (long ∙ sym (length-state_reach (with_last_version n) c.requires)) (λ i h. same i (rw long at h))
 
 pub overflow_sub-c : goal.overflow_sub-c
 overflow_sub-c c = grind (arith, common_steps)

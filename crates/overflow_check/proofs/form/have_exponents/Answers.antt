@@ -5,8 +5,8 @@ use Rattle.overflow_check.proofs.form.have_exponents.Goals as goal
 pub returns-then-not-are_exponents : goal.returns-then-not-are_exponents
 returns-then-not-are_exponents c = grind (arith, common_steps)
 
-pub returns-then-c-ne-FIRST_VERSION : goal.returns-then-c-ne-FIRST_VERSION
-returns-then-c-ne-FIRST_VERSION c = grind (arith, common_steps)
+pub returns-then-version-ne-FIRST_VERSION : goal.returns-then-version-ne-FIRST_VERSION
+returns-then-version-ne-FIRST_VERSION c = grind (arith, common_steps)
 
-pub returns-else-c-ne-FIRST_VERSION : goal.returns-else-c-ne-FIRST_VERSION
-returns-else-c-ne-FIRST_VERSION c = grind (arith, common_steps)
+pub returns-else-version-ne-FIRST_VERSION : goal.returns-else-version-ne-FIRST_VERSION
+returns-else-version-ne-FIRST_VERSION c = grind (arith, common_steps)
