@@ -4,37 +4,42 @@ use Rattle.std.specs.Option.{SomeIff}
 use Rattle.std.proofs.lemmas.Bool.{cases_lt}
 use Rattle.std.proofs.lemmas.Int.{ints}
 use Rattle.std.proofs.lemmas.Nat.{mul-le}
+use Rattle.std.proofs.lemmas.Grind.{common_steps}
 use Rattle.std.proofs.lemmas.List.FromFn.{fill_by_all}
 use Rattle.integer_algebra.specs.Sums.{at}
 use Rattle.mat_int.specs.Matrix.{Matrix}
 use Rattle.qp_model.specs.form.Class.{form_of}
 use Rattle.qp_model.specs.declared.design_parts.DesignParts.{DesignParts}
 use Rattle.qp_model.specs.problem.Design.{Design, entries, rows}
-use Rattle.qp_model.specs.problem.Limits.{most_stages, most_rows}
+use Rattle.qp_model.specs.problem.Limits.{text_version, last_version, most_states, most_stages, most_rows}
 use Rattle.qp_model.specs.problem.Parts.{IsDesign, design_of}
 use Rattle.qp_model.specs.problem.Range.{LiesIn}
 use Rattle.qp_model.specs.form.Columns.{column_bound, solve_matrix, solve_column}
 use Rattle.qp_model.specs.bounds.Built.{gain_column}
 use Rattle.qp_model.specs.form.GoodSolution.{IsGood}
-use Rattle.qp_model.specs.machine.Controller.{Numbers, IsSized, IsShaped, HasShape}
-use Rattle.qp_model.specs.machine.AbsoluteSums.{greatest_sum, IsController}
+use Rattle.qp_model.specs.machine.Controller.{Numbers, plan_length, IsSized, HasShape}
 use Rattle.qp_model.proofs.SizeFacts.{some_row}
+use Rattle.qp_model.proofs.VersionLaws.{design_states_le, design_stages_le, design_rows_le}
 use Rattle.overflow_check.specs.Width.{IsWidth}
-use Rattle.overflow_check.proofs.SumLaws.{sums_fit}
+use Rattle.overflow_check.specs.FastController.{as_version}
+use Rattle.overflow_check.specs.Machines.{IsSizedFor, greatest_for, weights_for}
+use Rattle.overflow_check.specs.declared.machine.Machine.{Machine}
+use Rattle.overflow_check.specs.declared.machine.Machine.TheVariants.{Plain, Accelerated}
+use Rattle.overflow_check.proofs.Machines.{by_weights}
 use Rattle.approx_inverse.specs.DescentSize.{EachWithin}
 use Rattle.approx_inverse.specs.Inverse.{HasGainSizes, IsInverseOf, solution_of}
 use Rattle.approx_inverse.specs.declared.inverse.Inverse.{Inverse}
 use Rattle.approx_inverse.proofs.FormLaws.{good_same}
-use Rattle.controller_maker.specs.Widest.{widest, width_size, rounded, listed}
+use Rattle.controller_maker.specs.Widest.{widest, width_size_for, rounded, listed}
 use Rattle.condensed_form.specs.Form.{IsFormOf, held}
 use Rattle.condensed_form.specs.declared.condensed.Condensed.{Condensed}
 use Rattle.approx_inverse.proofs.DesignLaws.{bound_equal}
 use Rattle.controller_maker.proofs.Bounds.{resized}
 use Rattle.controller_maker.proofs.Classes.{entries_are, states_are, rows_are, columns_are}
-use Rattle.controller_maker.specs.Assembled.{AreRowsOf, AreBounds, HasExponents, IsFrame, AreGains, IsAssembled}
+use Rattle.controller_maker.specs.Assembled.{version_for, lists_for, most_steps_for, AreRowsOf, AreBounds, HasExponentsFor, IsFrame, AreGains, IsAssembledFor}
 use Rattle.controller_maker.specs.declared.rounding.Rows.{Rows}
 use Rattle.controller_maker.proofs.Monotone.{IsSmaller, greatest_sum_mono}
-use Rattle.controller_maker.proofs.Tables.{line_long, line_at, under_line, line_under, under_table, table_under, shape_of, abs_le, abs_ge, solution_state, solution_constant, solution_row}
+use Rattle.controller_maker.proofs.Tables.{plan_long, line_long, line_at, under_line, line_under, under_table, table_under, shape_of, abs_le, abs_ge, solution_state, solution_constant, solution_row}
 
 -- ---- the gains
 -- each gain is at most the bound of its column
@@ -55,9 +60,9 @@ within_from d f v is = record {
 
 -- ---- the absolute sums
 -- the numbers of a frame are those of the widest controller
-pub under_widest : (d : Design) (r s : ℕ) (es : List ℕ) (k f : ℕ) (c : Numbers) (v : Inverse) → IsFrame d r s es k f c → AreGains v c → AreWithin d f v →
+pub under_widest : (machine : Machine) (d : Design) (r s : ℕ) (es : List ℕ) (k f : ℕ) (c : Numbers) (v : Inverse) → IsFrame machine d r s es k f c → AreGains v c → AreWithin d f v →
     IsSmaller c (widest d r s k f) d.states (entries d) (rows d)
-under_widest d r s es k f c v fr g w = record {
+under_widest machine d r s es k f c v fr g w = record {
   fraction_bits = fr.fraction_bits;
   grid_bits = fr.grid_bits;
   step_exponent = fr.step_exponent;
@@ -83,9 +88,9 @@ under_widest d r s es k f c v fr g w = record {
     m = rows d
 
 -- those of the widest controller are at most a frame's with the widest gains
-pub widest_under : (d : Design) (r s : ℕ) (es : List ℕ) (k f : ℕ) (c : Numbers) (v : Inverse) → IsFrame d r s es k f c → AreGains v c → AreWidest d f v →
+pub widest_under : (machine : Machine) (d : Design) (r s : ℕ) (es : List ℕ) (k f : ℕ) (c : Numbers) (v : Inverse) → IsFrame machine d r s es k f c → AreGains v c → AreWidest d f v →
     IsSmaller (widest d r s k f) c d.states (entries d) (rows d)
-widest_under d r s es k f c v fr g w = record {
+widest_under machine d r s es k f c v fr g w = record {
   fraction_bits = sym fr.fraction_bits;
   grid_bits = sym fr.grid_bits;
   step_exponent = sym fr.step_exponent;
@@ -111,18 +116,18 @@ widest_under d r s es k f c v fr g w = record {
     m = rows d
 
 -- no good solutions have larger sums
-pub sum_le : (d : Design) (r s : ℕ) (es : List ℕ) (k f : ℕ) (c : Numbers) (v : Inverse) → IsFrame d r s es k f c → AreGains v c → AreWithin d f v → greatest_sum c ≤ width_size d r s k f
-sum_le d r s es k f c v fr g w = greatest_sum_mono c (widest d r s k f) d.states (entries d) (rows d) (under_widest d r s es k f c v fr g w)
+pub sum_le : (machine : Machine) (d : Design) (r s : ℕ) (es : List ℕ) (k f : ℕ) (c : Numbers) (v : Inverse) → 1 ≤ rows d → IsFrame machine d r s es k f c → AreGains v c → AreWithin d f v → greatest_for machine c ≤ width_size_for machine d r s k f
+sum_le machine d r s es k f c v some fr g w = greatest_sum_mono machine c (widest d r s k f) d.states (entries d) (rows d) some (under_widest machine d r s es k f c v fr g w)
 
 -- the widest gains have the quantity itself
-pub sum_ge : (d : Design) (r s : ℕ) (es : List ℕ) (k f : ℕ) (c : Numbers) (v : Inverse) → IsFrame d r s es k f c → AreGains v c → AreWidest d f v → width_size d r s k f ≤ greatest_sum c
-sum_ge d r s es k f c v fr g w = greatest_sum_mono (widest d r s k f) c d.states (entries d) (rows d) (widest_under d r s es k f c v fr g w)
+pub sum_ge : (machine : Machine) (d : Design) (r s : ℕ) (es : List ℕ) (k f : ℕ) (c : Numbers) (v : Inverse) → 1 ≤ rows d → IsFrame machine d r s es k f c → AreGains v c → AreWidest d f v → width_size_for machine d r s k f ≤ greatest_for machine c
+sum_ge machine d r s es k f c v some fr g w = greatest_sum_mono machine (widest d r s k f) c d.states (entries d) (rows d) some (widest_under machine d r s es k f c v fr g w)
 
 pub widest_within : (d : Design) (f : ℕ) (v : Inverse) → AreWidest d f v → AreWithin d f v
 widest_within d f v w = record { sizes = w.sizes; each = λ i j l m. abs_le (solution_of v i j) (pos (column_bound (form_of d) f i)) (w.each i j l m) }
 
-pub widest_sum : (d : Design) (r s : ℕ) (es : List ℕ) (k f : ℕ) (c : Numbers) (v : Inverse) → IsFrame d r s es k f c → AreGains v c → AreWidest d f v → greatest_sum c ≡ width_size d r s k f
-widest_sum d r s es k f c v fr g w = same _ _ (sum_le d r s es k f c v fr g (widest_within d f v w)) (sum_ge d r s es k f c v fr g w)
+pub widest_sum : (machine : Machine) (d : Design) (r s : ℕ) (es : List ℕ) (k f : ℕ) (c : Numbers) (v : Inverse) → 1 ≤ rows d → IsFrame machine d r s es k f c → AreGains v c → AreWidest d f v → greatest_for machine c ≡ width_size_for machine d r s k f
+widest_sum machine d r s es k f c v some fr g w = same _ _ (sum_le machine d r s es k f c v some fr g (widest_within d f v w)) (sum_ge machine d r s es k f c v some fr g w)
   where
     same : (n t : ℕ) → n ≤ t → t ≤ n → n ≡ t
     same n t h k = omega (arith, h, k)
@@ -138,29 +143,30 @@ sized_rows p h = (
   omega (arith, mul-le p.stages (length p.stage_rows.rows) (most_stages p.version) 12 h.stages.1 h.stage_rows.rows.1, h.final_rows.rows.1),
 )
 
-pub sized : (p : DesignParts) (r s : ℕ) (es : List ℕ) (k f : ℕ) (c : Numbers) (v : Inverse) → IsDesign p → IsFrame (design_of p) r s es k f c → AreGains v c →
-    HasGainSizes v (entries (design_of p)) p.states (rows (design_of p)) → LiesIn p.grid 48 f → s ≤ 40 → HasExponents (design_of p) s es → LiesIn 1 (2 ^ 22) k →
-    2 * r * 2 ^ (f + s) ≤ 2 ^ 126 → IsSized c
-sized p r s es k f c v h fr g sizes bits exponent exponents steps room =
-    let version : c.version ≡ p.version = fr.version in
+-- as a controller of a version whose sizes hold the design's, whatever its own version and words
+sized_as : (machine : Machine) (version : ℕ) (p : DesignParts) (r s : ℕ) (es : List ℕ) (k f : ℕ) (c : Numbers) (v : Inverse) → IsDesign p → IsFrame machine (design_of p) r s es k f c → AreGains v c →
+    HasGainSizes v (entries (design_of p)) p.states (rows (design_of p)) → LiesIn p.grid 48 f → s ≤ 40 → HasExponentsFor machine (design_of p) s es → LiesIn 1 (2 ^ 22) k →
+    2 * r * 2 ^ (f + s) ≤ 2 ^ 126 → LiesIn text_version last_version version → LiesIn 1 (most_states version) p.states → LiesIn 1 (most_stages version) p.stages →
+    LiesIn 1 (most_rows version) (rows (design_of p)) → (version ≡ text_version → version_for machine (design_of p) ≡ text_version) → IsSized (as_version version c)
+sized_as machine version p r s es k f c v h fr g sizes bits exponent exponents steps room version_in states_in stages_in rows_in first =
     let nu : entries (design_of p) ≡ c.inputs * c.stages = rw (fr.inputs, fr.stages) (turn p.stages p.inputs) in
     let lo : c.low ≡ p.lo.items = fr.low ∙ sym (box_line p.states p.lo.items h.lo.long) in
     let hi : c.high ≡ p.hi.items = fr.high ∙ sym (box_line p.states p.hi.items h.hi.long) in
     record {
-      version = rw version h.version;
-      states = rw (version, fr.states) h.states;
+      version = version_in;
+      states = rw fr.states states_in;
       inputs = rw fr.inputs h.inputs;
-      stages = rw (version, fr.stages) h.stages;
-      rows = rw (version, fr.limits) (sized_rows p h);
+      stages = rw fr.stages stages_in;
+      rows = rw fr.limits rows_in;
       grid_bits = rw fr.grid_bits h.grid;
       fraction_bits = rw (fr.grid_bits, fr.fraction_bits) bits;
       step_exponent = rw fr.step_exponent exponent;
       exponents = rw (fr.exponents, fr.step_exponent) exponents.high;
-      same_exponents = λ e. rw (fr.limits, fr.step_exponent) (fr.exponents ∙ exponents.first (sym version ∙ e));
+      same_exponents = λ e. rw (fr.limits, fr.step_exponent) (fr.exponents ∙ exponents.first (first e));
       steps = rw fr.steps steps;
       clamp_low = rw fr.clamp (omega (arith, ints));
       clamp_high = rw fr.clamp (at_most _ _ room);
-      words = rw (fr.words, fr.states, fr.limits) (ap (λ (n : ℕ). p.states + rows (design_of p) + 2 * n) nu);
+      words = refl;
       shaped = record {
         exponents = ap (λ (xs : List ℕ). length xs) fr.exponents ∙ exponents.long ∙ sym fr.limits;
         low = ap (λ (xs : List ℤ). length xs) lo ∙ h.lo.long ∙ sym fr.states;
@@ -186,6 +192,31 @@ sized p r s es k f c v h fr g sizes bits exponent exponents steps room =
     shape_to : (m x : Matrix) (a b h w : ℕ) → x ≡ m → a ≡ h → b ≡ w → HasShape m h w → HasShape x a b
     shape_to m x a b h w e g i shape = rw (e, g, i) shape
 
+words_are : (machine : Machine) (d : Design) (r s : ℕ) (es : List ℕ) (k f : ℕ) (c : Numbers) → IsFrame machine d r s es k f c →
+    c.words ≡ c.states + lists_for machine * c.rows + 2 * plan_length c
+words_are machine d r s es k f c fr = counted _ _ _ _ _ _ _ _ fr.words fr.states fr.limits (plan_long d c fr.inputs fr.stages)
+  where
+    counted : (w l a b n x y z : ℕ) → w ≡ x + l * y + 2 * z → a ≡ x → b ≡ y → n ≡ z → w ≡ a + l * b + 2 * n
+    counted w l a b n x y z e f g h = rw (f, g, h) e
+
+pub sized : (machine : Machine) (p : DesignParts) (r s : ℕ) (es : List ℕ) (k f : ℕ) (c : Numbers) (v : Inverse) → IsDesign p → IsFrame machine (design_of p) r s es k f c → AreGains v c →
+    HasGainSizes v (entries (design_of p)) p.states (rows (design_of p)) → LiesIn p.grid 48 f → s ≤ 40 → HasExponentsFor machine (design_of p) s es → LiesIn 1 (most_steps_for machine) k →
+    2 * r * 2 ^ (f + s) ≤ 2 ^ 126 → IsSizedFor machine c
+sized Plain p r s es k f c v h fr g sizes bits exponent exponents steps room =
+    plain c (subst (λ (n : ℕ). IsSized (as_version n c)) (sym fr.version)
+    (sized_as Plain p.version p r s es k f c v h fr g sizes bits exponent exponents steps room h.version h.states h.stages (sized_rows p h) (λ e. e)))
+    (words_are Plain (design_of p) r s es k f c fr)
+  where
+    plain : (c : Numbers) → IsSized (as_version c.version c) → c.words ≡ c.states + 1 * c.rows + 2 * plan_length c → IsSized c
+    plain c own words = grind (arith, common_steps)
+sized Accelerated p r s es k f c v h fr g sizes bits exponent exponents steps room = record {
+  version = fr.version;
+  words = words_are Accelerated (design_of p) r s es k f c fr;
+  steps = rw fr.steps steps;
+  rest = sized_as Accelerated last_version p r s es k f c v h fr g sizes bits exponent exponents (steps.0, omega (arith, steps.1)) room (omega arith, omega arith)
+      (h.states.0, design_states_le p h) (h.stages.0, design_stages_le p h) (some_row p h, design_rows_le p h) (λ e. absurd (omega (arith, e)));
+}
+
 -- ---- the controller
 -- what is promised of it
 gains_same : (c : Numbers) (v : Inverse) → c.states ≡ v.p_mat.cols → AreGains v c → (i j : ℕ) → solution_of v i j ≡ gain_column c i j
@@ -202,9 +233,9 @@ within_at : (d : Design) (f b i : ℕ) (v : Inverse) (c : Numbers) → b ≡ f �
 within_at d f b i v c e small same j l =
     subst (λ (z : ℤ). unsigned_abs z ≤ column_bound (form_of d) b i) (same j) (subst (λ (k : ℕ). unsigned_abs (solution_of v i j) ≤ column_bound (form_of d) k i) (sym e) (small j l))
 
-pub assembled : (d : Design) (r s : ℕ) (es : List ℕ) (k f : ℕ) (c : Numbers) (v : Inverse) (w : ℕ) → IsFrame d r s es k f c → AreGains v c → IsInverseOf (form_of d) f v → IsWidth (greatest_sum c) w →
-    IsAssembled d r s es k f (record c { width = w })
-assembled d r s es k f c v w fr g is wide = record {
+pub assembled : (machine : Machine) (d : Design) (r s : ℕ) (es : List ℕ) (k f : ℕ) (c : Numbers) (v : Inverse) (w : ℕ) → IsFrame machine d r s es k f c → AreGains v c → IsInverseOf (form_of d) f v → IsWidth (greatest_for machine c) w →
+    IsAssembledFor machine d r s es k f (record c { width = w })
+assembled machine d r s es k f c v w fr g is wide = record {
   version = fr.version;
   step_exponent = fr.step_exponent;
   exponents = fr.exponents;
@@ -227,29 +258,34 @@ assembled d r s es k f c v w fr g is wide = record {
   clamp = fr.clamp;
   steps = fr.steps;
   fraction_bits = fr.fraction_bits;
-  width = wide;
+  width = kept machine c w wide;
 }
   where
+    kept : (machine : Machine) (c : Numbers) (w : ℕ) → IsWidth (greatest_for machine c) w → IsWidth (greatest_for machine (record c { width = w })) w
+    kept Plain c w h = h
+    kept Accelerated c w h = h
+
     states : c.states ≡ v.p_mat.cols
     states = fr.states ∙ sym (is.sizes.p_mat.cols ∙ states_are d)
 
 -- where the greatest multiplier alone is above the limit, so is the quantity
-pub wide_clamp : (p : DesignParts) (r s k f : ℕ) → IsDesign p → 2 ^ 126 < 2 * r * 2 ^ (f + s) → 2 ^ 126 < width_size (design_of p) r s k f
-wide_clamp p r s k f h over =
-    let c = widest (design_of p) r s k f in
-    let next = (sums_fit c (width_size (design_of p) r s k f) (le_refl (width_size (design_of p) r s k f))).next 0
-    (omega (arith, line_long (rows (design_of p)) (λ i. rounded (design_of p) f ((form_of (design_of p)).numbers.bound i)), some_row p h)) in
-    close (2 * r * 2 ^ (f + s)) _ (width_size (design_of p) r s k f) next over
+pub wide_clamp : (machine : Machine) (p : DesignParts) (r s k f : ℕ) → IsDesign p → 2 ^ 126 < 2 * r * 2 ^ (f + s) → 2 ^ 126 < width_size_for machine (design_of p) r s k f
+wide_clamp machine p r s k f h over =
+    let d = design_of p in
+    let c = widest d r s k f in
+    let some : 1 ≤ length c.bounds = omega (arith, line_long (rows d) (λ i. rounded d f ((form_of d).numbers.bound i)), some_row p h) in
+    omega (arith, by_weights machine c some, clamp_le machine c, over)
   where
-    close : (clamp rest sum : ℕ) → clamp + rest ≤ sum → 2 ^ 126 < clamp → 2 ^ 126 < sum
-    close clamp rest sum h l = omega arith
+    clamp_le : (machine : Machine) (c : Numbers) → unsigned_abs c.clamp ≤ (weights_for machine c).top
+    clamp_le Plain c = le_refl (unsigned_abs c.clamp)
+    clamp_le Accelerated c = omega arith
 
 -- the frame that code makes
-pub frame_from : (p : DesignParts) (r s : ℕ) (es : List ℕ) (k f : ℕ) (c : Numbers) (rs : Rows) → IsDesign p → AreRowsOf (design_of p) f rs →
-    c.version ≡ (design_of p).version → c.states ≡ p.states → c.inputs ≡ p.inputs → c.stages ≡ p.stages → c.rows ≡ length rs.g_mat.rows → c.fraction_bits ≡ f → c.grid_bits ≡ p.grid → c.step_exponent ≡ s →
-    c.steps ≡ k → c.clamp ≡ pos (2 * r * 2 ^ (f + s)) → c.words ≡ p.states + length rs.g_mat.rows + 2 * rs.g_mat.cols → c.exponents ≡ es → c.low ≡ p.lo.items → c.high ≡ p.hi.items →
-    c.plan_rows ≡ rs.g_mat → c.state_rows ≡ rs.e_mat → c.bounds ≡ rs.bound.items → IsFrame (design_of p) r s es k f c
-frame_from p r s es k f c rs h are version states inputs stages rows_are bits grid exponent steps clamp words exponents low high plan state bound = record {
+pub frame_from : (machine : Machine) (p : DesignParts) (r s : ℕ) (es : List ℕ) (k f : ℕ) (c : Numbers) (rs : Rows) → IsDesign p → AreRowsOf (design_of p) f rs →
+    c.version ≡ version_for machine (design_of p) → c.states ≡ p.states → c.inputs ≡ p.inputs → c.stages ≡ p.stages → c.rows ≡ length rs.g_mat.rows → c.fraction_bits ≡ f → c.grid_bits ≡ p.grid → c.step_exponent ≡ s →
+    c.steps ≡ k → c.clamp ≡ pos (2 * r * 2 ^ (f + s)) → c.words ≡ p.states + lists_for machine * length rs.g_mat.rows + 2 * rs.g_mat.cols → c.exponents ≡ es → c.low ≡ p.lo.items → c.high ≡ p.hi.items →
+    c.plan_rows ≡ rs.g_mat → c.state_rows ≡ rs.e_mat → c.bounds ≡ rs.bound.items → IsFrame machine (design_of p) r s es k f c
+frame_from machine p r s es k f c rs h are version states inputs stages rows_are bits grid exponent steps clamp words exponents low high plan state bound = record {
   version = version;
   states = states;
   inputs = inputs;
@@ -260,7 +296,7 @@ frame_from p r s es k f c rs h are version states inputs stages rows_are bits gr
   step_exponent = exponent;
   steps = steps;
   clamp = clamp;
-  words = words ∙ count p.states _ _ _ _ are.plan.rows are.plan.cols;
+  words = words ∙ count p.states _ _ _ _ _ are.plan.rows are.plan.cols;
   exponents = exponents;
   low = low ∙ box_line p.states p.lo.items h.lo.long;
   high = high ∙ box_line p.states p.hi.items h.hi.long;
@@ -269,8 +305,8 @@ frame_from p r s es k f c rs h are version states inputs stages rows_are bits gr
   bounds = rw bound are.bound;
 }
   where
-    count : (n a b x y : ℕ) → a ≡ x → b ≡ y → n + a + 2 * b ≡ n + x + 2 * y
-    count n a b x y e g = omega arith
+    count : (n l a b x y : ℕ) → a ≡ x → b ≡ y → n + l * a + 2 * b ≡ n + l * x + 2 * y
+    count n l a b x y e g = rw (e, g) refl
 
 -- ---- the condensed form's bounds
 pub widest_from : (p : DesignParts) (c : Condensed) (f : ℕ) (v : Inverse) → IsFormOf p c → AreBounds (held c) f v → AreWidest (design_of p) f v

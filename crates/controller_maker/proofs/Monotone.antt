@@ -1,4 +1,4 @@
--- Numbers whose gains are not larger have no larger absolute sums.
+-- Numbers whose gains are not larger have no larger absolute sums, for either machine.
 use Rattle.std.proofs.Common.{◌≡◌, ℕ, zero, suc, ◌+◌, ◌*◌, ◌^◌, ◌<◌, ◌≤◌, max, ℤ, List, [], ◌∷◌, length, get_or, map, unsigned_abs, arith, add-one, refl, sym, ◌∙◌, le_refl}
 use Rattle.std.specs.List.{range_with_len}
 use Rattle.std.proofs.lemmas.List.FromFn.{get_or-map-range_with_len, length-map-range_with_len}
@@ -7,9 +7,13 @@ use Rattle.integer_algebra.specs.Division.{ceil_div}
 use Rattle.integer_algebra.specs.Sums.{at}
 use Rattle.mat_int.specs.Matrix.{row_of}
 use Rattle.qp_model.specs.machine.Controller.{Numbers}
-use Rattle.qp_model.specs.machine.AbsoluteSums.{weighted_abs_sum, state_magnitudes, clamp_magnitudes, entry_absolute_sum, plan_magnitudes, row_absolute_sum, next_magnitude, sum_magnitude, greatest_of, greatest_sum}
+use Rattle.qp_model.specs.machine.AbsoluteSums.{weighted_abs_sum, state_magnitudes, clamp_magnitudes, entry_absolute_sum, plan_magnitudes, row_absolute_sum, greatest_of}
 use Rattle.qp_model.proofs.AbsoluteLaws.{ceil_div_mono}
-use Rattle.overflow_check.proofs.Greatest.{greatest-parts, greatest-map_more}
+use Rattle.overflow_check.specs.Machines.{greatest_for, weights_for, weighed}
+use Rattle.overflow_check.specs.declared.machine.Machine.{Machine}
+use Rattle.overflow_check.specs.declared.machine.Machine.TheVariants.{Plain, Accelerated}
+use Rattle.overflow_check.proofs.Greatest.{greatest_mono}
+use Rattle.overflow_check.proofs.Machines.{by_weights}
 
 -- ---- lists
 -- a list of n numbers, each at most that of another list in absolute value
@@ -45,14 +49,10 @@ reach_sum_mono (suc n) (x ∷ xs) (z ∷ zs) (y ∷ ys) (w ∷ ws) u h =
       reach_sum_mono n xs zs ys ws (under_tail n x z xs zs u) (less_tail y w ys ws h),
     )
 
--- the greatest of more is not less
-pub greatest_mono : (f g : ℕ → ℕ) (n : ℕ) → ((i : ℕ) → i < n → f i ≤ g i) → greatest_of (map f (range_with_len 0 n)) ≤ greatest_of (map g (range_with_len 0 n))
-greatest_mono f g zero h = omega arith
-greatest_mono f g (suc n) h =
-    omega (arith, greatest_step f n, greatest_step g n, greatest_mono f g n (λ i l. h i (omega arith)), h n (omega arith))
-  where
-    greatest_step : (f : ℕ → ℕ) (n : ℕ) → greatest_of (map f (range_with_len 0 (suc n))) ≡ max (greatest_of (map f (range_with_len 0 n))) (f n)
-    greatest_step f n = rw add-one at (greatest-map_more f n)
+pub less_greatest : (ys ws : List ℕ) → IsLess ys ws → greatest_of ys ≤ greatest_of ws
+less_greatest [] ws h = omega arith
+less_greatest (y ∷ ys) [] h = absurd (omega (arith, h.long))
+less_greatest (y ∷ ys) (w ∷ ws) h = omega (arith, h.each 0 (omega arith), less_greatest ys ws (less_tail y w ys ws h))
 
 -- ---- the sums
 -- the same numbers of n states, nu plan entries and m rows, but for gains and rows that are not larger
@@ -122,32 +122,33 @@ row_reach_mono c e n nu m i s l = row_mono _ _ _ _ _ _ _ _
     (reach_sum_mono n (row_of c.state_rows i) (row_of e.state_rows i) (state_magnitudes c) (state_magnitudes e) (s.state_rows i l) (equal_less _ _ (state_same c e n nu m s)))
     (s.bounds.each i l) s.fraction_bits
 
-pub next_reach_mono : (c e : Numbers) (n nu m i : ℕ) → IsSmaller c e n nu m → i < m → next_magnitude c i ≤ next_magnitude e i
-next_reach_mono c e n nu m i s l = close _ _ _ _ _ _ s.clamp s.fraction_bits (row_reach_mono c e n nu m i s l)
-  where
-    close : (p q : ℤ) (f f' a b : ℕ) → p ≡ q → f ≡ f' → a ≤ b → unsigned_abs p + ceil_div a (2 ^ f) ≤ unsigned_abs q + ceil_div b (2 ^ f')
-    close p q f f' a b e g h = rw (e, g) (omega (arith, ceil_div_mono a b (2 ^ f') (pow_pos f') h))
-
-pub sum_reach_mono : (c e : Numbers) (n nu m j : ℕ) → IsSmaller c e n nu m → j < nu → sum_magnitude c j ≤ sum_magnitude e j
-sum_reach_mono c e n nu m j s l = close _ _ _ _ s.steps ((plan_reach_mono c e n nu m s).each j (omega (arith, plan_long c nu s.offsets.long)))
-  where
-    close : (k k' a b : ℕ) → k ≡ k' → a ≤ b → k * a ≤ k' * b
-    close k k' a b e h = rw e (mul-le k' a k' b (le_refl k') h)
-
 -- the greatest of as many
 counted_mono : (f g : ℕ → ℕ) (a b n : ℕ) → a ≡ n → b ≡ n → ((i : ℕ) → i < n → f i ≤ g i) → greatest_of (map f (range_with_len 0 a)) ≤ greatest_of (map g (range_with_len 0 b))
 counted_mono f g a b n e h below = rw (e, h) (greatest_mono f g n below)
 
+-- what a run adds up by weights
+weighed_mono : (machine : Machine) (e : Numbers) (row row' plan plan' f f' : ℕ) → row ≤ row' → plan ≤ plan' → f ≡ f' → weighed (weights_for machine e) row plan f ≤ weighed (weights_for machine e) row' plan' f'
+weighed_mono machine e row row' plan plan' f f' h k same =
+    let step = (weights_for machine e).step in
+    let all = (weights_for machine e).all in
+    let ceiling = ceil_div_mono row row' (2 ^ f') (pow_pos f') h in
+    rw same (omega (arith, mul-le step (ceil_div row (2 ^ f')) step (ceil_div row' (2 ^ f')) (le_refl step) ceiling, mul-le all plan all plan' (le_refl all) k))
+
+weights_same : (machine : Machine) (c e : Numbers) (n nu m : ℕ) → IsSmaller c e n nu m → weights_for machine c ≡ weights_for machine e
+weights_same Plain c e n nu m s = rw (s.clamp, s.steps) refl
+weights_same Accelerated c e n nu m s = rw (s.clamp, s.steps) refl
+
 equal_le : (f : List ℕ → ℕ) (xs ys : List ℕ) → xs ≡ ys → f xs ≤ f ys
 equal_le f xs ys e = rw e (le_refl (f ys))
 
-pub greatest_sum_mono : (c e : Numbers) (n nu m : ℕ) → IsSmaller c e n nu m → greatest_sum c ≤ greatest_sum e
-greatest_sum_mono c e n nu m s = rw (greatest-parts c, greatest-parts e) (close _ _ _ _ _ _ _ _ _ _
+pub greatest_sum_mono : (machine : Machine) (c e : Numbers) (n nu m : ℕ) → 1 ≤ m → IsSmaller c e n nu m → greatest_for machine c ≤ greatest_for machine e
+greatest_sum_mono machine c e n nu m some s =
+    let row = counted_mono (row_absolute_sum c) (row_absolute_sum e) _ _ m s.bounds.long s.bounds.wide (λ i l. row_reach_mono c e n nu m i s l) in
+    rw (by_weights machine c (omega (arith, s.bounds.long, some)), by_weights machine e (omega (arith, s.bounds.wide, some)), weights_same machine c e n nu m s) (close _ _ _ _ _ _ _ _
     (equal_le greatest_of _ _ (state_same c e n nu m s))
     (counted_mono (entry_absolute_sum c) (entry_absolute_sum e) _ _ nu s.offsets.long s.offsets.wide (λ j l. entry_reach_mono c e n nu m j s l))
-    (counted_mono (row_absolute_sum c) (row_absolute_sum e) _ _ m s.bounds.long s.bounds.wide (λ i l. row_reach_mono c e n nu m i s l))
-    (counted_mono (next_magnitude c) (next_magnitude e) _ _ m s.bounds.long s.bounds.wide (λ i l. next_reach_mono c e n nu m i s l))
-    (counted_mono (sum_magnitude c) (sum_magnitude e) _ _ nu s.offsets.long s.offsets.wide (λ j l. sum_reach_mono c e n nu m j s l)))
+    row
+    (weighed_mono machine e _ _ _ _ _ _ row (less_greatest _ _ (plan_reach_mono c e n nu m s)) s.fraction_bits))
   where
-    close : (a a' b b' c c' d d' e e' : ℕ) → a ≤ a' → b ≤ b' → c ≤ c' → d ≤ d' → e ≤ e' → max (max (max (max a b) c) d) e ≤ max (max (max (max a' b') c') d') e'
-    close a a' b b' c c' d d' e e' h k l m n = omega arith
+    close : (a a' b b' c c' d d' : ℕ) → a ≤ a' → b ≤ b' → c ≤ c' → d ≤ d' → max (max (max a b) c) d ≤ max (max (max a' b') c') d'
+    close a a' b b' c c' d d' h k l m = omega arith

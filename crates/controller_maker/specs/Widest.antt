@@ -7,7 +7,9 @@ use Rattle.qp_model.specs.problem.Design.{Design, entries, rows}
 use Rattle.qp_model.specs.form.Columns.{column_bound}
 use Rattle.qp_model.specs.form.Class.{form_of}
 use Rattle.qp_model.specs.machine.Controller.{Numbers}
-use Rattle.qp_model.specs.machine.AbsoluteSums.{greatest_sum}
+use Rattle.overflow_check.specs.Machines.{greatest_for}
+use Rattle.overflow_check.specs.declared.machine.Machine.{Machine}
+use Rattle.overflow_check.specs.declared.machine.Machine.TheVariants.{Plain, Accelerated}
 
 -- f at 0, 1 .. n - 1
 abbrev pub listed : ℕ → (ℕ → ℤ) → List ℤ
@@ -22,7 +24,7 @@ abbrev pub rounded : Design → ℕ → ℤ → ℤ
 rounded d f z = round_of (pos (2 ^ f) *ℤ z) (form_of d).rows_scale
 
 -- the numbers of a controller with R, the step exponent s of all rows, k steps and f bits, whose gains are each the bound of its column; with lower exponents
--- of rows the sums are the same
+-- of rows the sums are the same, and they are those of another version and number of words
 abbrev pub widest : Design → (r s k f : ℕ) → Numbers
 widest d r s k f =
     record {
@@ -49,5 +51,11 @@ widest d r s k f =
       bounds = listed (rows d) (λ i. rounded d f ((form_of d).numbers.bound i));
     }
 
+abbrev pub width_size_for : Machine → Design → (r s k f : ℕ) → ℕ
+width_size_for m d r s k f = greatest_for m (widest d r s k f)
+
 abbrev pub width_size : Design → (r s k f : ℕ) → ℕ
-width_size d r s k f = greatest_sum (widest d r s k f)
+width_size = width_size_for Plain
+
+abbrev pub fast_width_size : Design → (r s k f : ℕ) → ℕ
+fast_width_size = width_size_for Accelerated

@@ -5,4 +5,4 @@ mod assemble;
 mod rounding;
 mod widest;
 
-pub use assemble::{Settings, controller_of};
+pub use assemble::{Settings, controller_of, fast_controller_of};

@@ -3,6 +3,7 @@ use Rattle.std.specs.Int.{w128}
 use Rattle.std.proofs.lemmas.Int.{to_z-of_z}
 use Rattle.qp_model.specs.problem.Parts.{design_of}
 use Rattle.qp_model.specs.machine.Controller.{numbers}
+use Rattle.qp_model.proofs.SizeFacts.{some_row}
 use Rattle.approx_inverse.proofs.DesignLaws.{solvable_from, descent_equal}
 use Rattle.controller_maker.proofs.Frames.{sized, widest_from, widest_sum}
 use Rattle.std.proofs.lemmas.Result.{IfOk-from_err}
@@ -28,7 +29,7 @@ returns-in-Ok-state_box-clause-sized c =
     let fits : FitsSigned w128 c.args.clamp = search rules in
     let w = widest_from p c.args.condensed.now c.args.settings.f c.in-Ok.widest c.requires.form c.in-Ok.ensures in
     let fr = (rw (to_z-of_z w128 _ fits, c.parts-parts.ensures.value) at c.parts_with.ensures.frame) (unsigned_abs c.args.settings.r) c.requires.clamp in
-    sized p (unsigned_abs c.args.settings.r) c.args.settings.s c.args.exps.items c.args.settings.steps c.args.settings.f (numbers c.parts_with.result) c.in-Ok.widest c.requires.form.design
+    sized c.args.machine p (unsigned_abs c.args.settings.r) c.args.settings.s c.args.exps.items c.args.settings.steps c.args.settings.f (numbers c.parts_with.result) c.in-Ok.widest c.requires.form.design
     fr c.parts_with.ensures.gains w.sizes c.requires.bits c.requires.exponent c.requires.exponents c.requires.steps c.requires.limit
 
 pub returns-in-Ok-state_box-clause-sum : goal.returns-in-Ok-state_box-clause-sum
@@ -37,8 +38,8 @@ returns-in-Ok-state_box-clause-sum c =
     let fits : FitsSigned w128 c.args.clamp = search rules in
     let w = widest_from p c.args.condensed.now c.args.settings.f c.in-Ok.widest c.requires.form c.in-Ok.ensures in
     let fr = (rw (to_z-of_z w128 _ fits, c.parts-parts.ensures.value) at c.parts_with.ensures.frame) (unsigned_abs c.args.settings.r) c.requires.clamp in
-    widest_sum (design_of p) (unsigned_abs c.args.settings.r) c.args.settings.s c.args.exps.items c.args.settings.steps c.args.settings.f (numbers c.parts_with.result) c.in-Ok.widest
-    fr c.parts_with.ensures.gains w
+    widest_sum c.args.machine (design_of p) (unsigned_abs c.args.settings.r) c.args.settings.s c.args.exps.items c.args.settings.steps c.args.settings.f (numbers c.parts_with.result) c.in-Ok.widest
+    (some_row p c.requires.form.design) fr c.parts_with.ensures.gains w
 
 pub rounded_rows-requires-clause-form : goal.rounded_rows-requires-clause-form
 rounded_rows-requires-clause-form c = record { parts = c.args.design.now; form = c.requires.form }
