@@ -1,5 +1,5 @@
 -- Numbers whose gains are not larger have no larger absolute sums, for either machine.
-use Rattle.std.proofs.Common.{◌≡◌, ℕ, zero, suc, ◌+◌, ◌*◌, ◌^◌, ◌<◌, ◌≤◌, max, ℤ, List, [], ◌∷◌, length, get_or, map, unsigned_abs, arith, add-one, refl, sym, ◌∙◌, le_refl}
+use Rattle.std.proofs.Common.{◌≡◌, ℕ, zero, suc, ◌+◌, ◌*◌, ◌^◌, ◌<◌, ◌≤◌, max, ℤ, List, [], ◌∷◌, length, get_or, map, unsigned_abs, arith, refl, sym, ◌∙◌, le_refl}
 use Rattle.std.specs.List.{range_with_len}
 use Rattle.std.proofs.lemmas.List.FromFn.{get_or-map-range_with_len, length-map-range_with_len}
 use Rattle.std.proofs.lemmas.Nat.{mul-le, pow_pos}

@@ -1,26 +1,23 @@
 -- What holds of the controllers of either machine, and the greatest of their absolute sums by weights.
-use Rattle.std.proofs.Common.{◌≡◌, inl, inr, ℕ, zero, suc, ◌+◌, ◌-◌, ◌*◌, ◌^◌, ◌≤◌, ◌<◌, max, length, map, unsigned_abs, pos, ◌≤ℤ◌, replicate, arith, refl, le_refl, ◌∙◌, ap, add-one}
-use Rattle.std.specs.Prelude.{All, slice_index_or}
-use Rattle.integer_algebra.specs.Sums.{at}
+use Rattle.std.proofs.Common.{◌≡◌, inl, inr, ℕ, zero, suc, ◌+◌, ◌*◌, ◌^◌, ◌≤◌, ◌<◌, max, length, map, unsigned_abs, arith, refl, le_refl, ◌∙◌, ap}
+use Rattle.std.specs.Prelude.{slice_index_or}
 use Rattle.std.specs.List.{range_with_len}
 use Rattle.std.proofs.lemmas.Grind.{common_steps}
 use Rattle.std.proofs.lemmas.Bool.{cases_lt}
 use Rattle.std.proofs.lemmas.Nat.{mul-le, pow_pos}
 use Rattle.std.proofs.lemmas.List.FromFn.{get_or-map-range_with_len}
 use Rattle.integer_algebra.specs.Division.{ceil_div}
-use Rattle.qp_model.specs.problem.Limits.{text_version, last_version, most_states, most_inputs, most_stages, most_rows}
-use Rattle.qp_model.specs.problem.Range.{LiesIn, IsNumerator}
-use Rattle.qp_model.specs.machine.Controller.{Numbers, plan_length, IsShaped, IsSized, IsInForm}
-use Rattle.qp_model.specs.machine.AbsoluteSums.{state_magnitudes, entry_absolute_sum, plan_magnitudes, row_absolute_sum, next_magnitude, sum_magnitude, greatest_of, greatest_sum, IsController}
+use Rattle.qp_model.specs.problem.Range.{LiesIn}
+use Rattle.qp_model.specs.machine.Controller.{Numbers, IsSized}
+use Rattle.qp_model.specs.machine.AbsoluteSums.{entry_absolute_sum, plan_magnitudes, row_absolute_sum, next_magnitude, sum_magnitude, greatest_of, greatest_sum}
 use Rattle.qp_model.proofs.AbsoluteLaws.{ceil_div_mono}
 use Rattle.qp_model.proofs.VersionLaws.{states_le, stages_le, limits_le}
 use Rattle.overflow_check.specs.FastMachine.{all_weights}
-use Rattle.overflow_check.specs.FastController.{as_version, with_last_version, moved_magnitude, reached_magnitude, fast_sum_magnitude, greatest_fast_sum, IsFastSized, IsFastController}
-use Rattle.overflow_check.specs.Machines.{IsSizedFor, IsInFormFor, IsControllerFor, greatest_for, greatest_row_sum, weights_for, weighed, greatest_weighed}
+use Rattle.overflow_check.specs.FastController.{with_last_version, moved_magnitude, fast_sum_magnitude, greatest_fast_sum}
+use Rattle.overflow_check.specs.Machines.{IsSizedFor, IsControllerFor, greatest_for, greatest_row_sum, weights_for, greatest_weighed}
 use Rattle.overflow_check.specs.Width.{IsWidth}
 use Rattle.overflow_check.specs.declared.machine.Machine.{Machine}
 use Rattle.overflow_check.specs.declared.machine.Machine.TheVariants.{Plain, Accelerated}
-use Rattle.overflow_check.specs.declared.absolute_sums.Weights.{Weights}
 use Rattle.overflow_check.proofs.Greatest.{greatest-parts, fast-parts, le-greatest, greatest_mono}
 
 -- what the numbers of both machines have

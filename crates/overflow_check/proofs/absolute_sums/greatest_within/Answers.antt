@@ -1,7 +1,4 @@
-use Rattle.std.proofs.Common.{◌≡◌, length, take, ap, rules, arith, ◌∙◌}
-use Rattle.qp_model.specs.machine.Controller.{numbers}
-use Rattle.qp_model.specs.machine.AbsoluteSums.{greatest_of}
-use Rattle.overflow_check.specs.Machines.{greatest_row_sum, greatest_weighed}
+use Rattle.std.proofs.Common.{arith}
 use Rattle.overflow_check.proofs.absolute_sums.greatest_within.Goals as goal
 
 pub returns-in_err-entries : goal.returns-in_err-entries
