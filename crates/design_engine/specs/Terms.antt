@@ -1,5 +1,5 @@
 -- What a controller and its bounds are made with beside their design, and what these then are.
-use Rattle.std.specs.Prelude.{◌≡◌, ℕ, ◌*◌, ◌^◌, ◌≤◌, ℤ, pos, ◌≤ℤ◌, unsigned_abs, Option, Some, None, Result, IfOk, IfErr, OnOk, ⊤}
+use Rattle.std.specs.Prelude.{◌≡◌, ℕ, ◌+◌, ◌*◌, ◌^◌, ◌≤◌, ℤ, pos, ◌≤ℤ◌, unsigned_abs, Option, Some, None, Result, IfOk, IfErr, OnOk, ⊤}
 use Rattle.std.specs.Option.{is_some}
 use Rattle.qp_model.specs.form.Class.{form_of}
 use Rattle.qp_model.specs.problem.Parts.{design_of}
@@ -10,6 +10,7 @@ use Rattle.qp_model.specs.declared.design_parts.DesignParts.{DesignParts}
 use Rattle.qp_model.specs.bounds.Printed.{Printed, printed}
 use Rattle.qp_model.specs.declared.bounds.Margin.{Margin}
 use Rattle.qp_model.specs.declared.refusal.Refusal.{Refusal}
+use Rattle.dual_bounds.specs.FastSteps.{quarter_steps}
 use Rattle.design_engine.specs.Targets.{Targets}
 use Rattle.design_engine.specs.Aims.{aim_of, IsAim, IsMadeWith}
 use Rattle.design_engine.specs.Tests.{IsRefusedFor}
@@ -35,13 +36,28 @@ IsTarget (Some target) = pos 0 ≤ℤ target
 
 -- the numbers of a run lie in their ranges
 pub record IsRunWithin (x : Run) : Type 0 where
-  pub exponent : x.s ≤ 40
+  pub exponent : x.s ≤ 42
   pub some : pos 1 ≤ℤ x.r
-  pub narrow : x.r ≤ℤ pos (2 ^ 44)
+  pub narrow : 2 ^ x.s * unsigned_abs x.r ≤ 2 ^ 84
   pub steps : 1 ≤ x.k
   pub errors : pos 0 ≤ℤ x.eps
   pub small : x.eps ≤ℤ pos (2 ^ 114)
   pub target : IsTarget x.target
+
+-- those of a run of the accelerated machine
+pub record IsFastRunWithin (x : Run) : Type 0 where
+  pub exponent : x.s ≤ 40
+  pub some : pos 1 ≤ℤ x.r
+  pub narrow : x.r ≤ℤ pos (2 ^ 42)
+  pub steps : 1 ≤ x.k
+  pub few : x.k ≤ 65534
+  pub errors : pos 0 ≤ℤ x.eps
+  pub small : x.eps ≤ℤ pos (2 ^ 114)
+  pub target : IsTarget x.target
+
+-- after which a row with the step exponent e is exceeded by at most this: as after k (k + 3) steps of the plain machine with exponents that are greater by two
+abbrev pub fast_row_bound : Run → (e : ℕ) → ℕ
+fast_row_bound x e = row_bound x.target (e + 2) (x.s + 2) (unsigned_abs x.r) (quarter_steps x.k) (unsigned_abs x.eps)
 
 -- so do those of terms, and R times the target of the steps is at least that of the errors
 pub record AreTerms (x : Terms) : Type 0 where

@@ -1,10 +1,11 @@
 // The bounds of a controller: by how much each row may be exceeded after its run, and all that is printed.
-ghost use Rattle.std.specs.Prelude.{ℕ, ◌≡◌, ◌<◌, ◌≤◌, ◌^◌, pos, ◌≤ℤ◌, length, unsigned_abs, IfOk};
+ghost use Rattle.std.specs.Prelude.{ℕ, ◌≡◌, ◌+◌, ◌*◌, ◌<◌, ◌≤◌, ◌^◌, pos, ◌≤ℤ◌, length, unsigned_abs, IfOk};
 ghost use Rattle.qp_model.specs.bounds.Choices.{row_violation_bound};
 ghost use Rattle.qp_model.specs.bounds.Printed.{printed};
 ghost use Rattle.qp_model.specs.problem.Runs.{Holds};
 ghost use Rattle.hessian_check.specs.RowExponents.{exponent_in};
-ghost use Rattle.design_engine.specs.Terms.{row_bound, IsRunWithin, AreTerms, HasUndercutRoom, ArePrintedOf};
+ghost use Rattle.dual_bounds.specs.FastSteps.{quarter_steps};
+ghost use Rattle.design_engine.specs.Terms.{row_bound, fast_row_bound, IsRunWithin, IsFastRunWithin, AreTerms, HasUndercutRoom, ArePrintedOf};
 
 use crate::aimed::Aim;
 use dual_bounds::{lean_row_violation, row_violation, undercut};
@@ -51,6 +52,25 @@ fn row_bound(run: Run, own: u32) -> i128
     }
 }
 
+// By how much rows are exceeded at most, over `2^40`, whose step exponents are these and `more`.
+fn violations_by(
+    alloc: Global,
+    exps: &[u32],
+    more: u32,
+    run: Run,
+) -> Result<Vec<i128>, AllocError>
+    requires run { IsRunWithin run }
+    requires rows { (i : ℕ) → i < length exps.now → exponent_in exps.now i + more ≤ run.s }
+    ensures { IfOk result (λ out. Holds out.items (length exps.now)
+        (λ i. pos (row_bound run.target (exponent_in exps.now i + more) run.s (unsigned_abs run.r) run.k (unsigned_abs run.eps)))) }
+{
+    let mut out = vec![in alloc; 0; exps.len()]?;
+    for (i, own) in exps.iter().enumerate() {
+        out[i] = row_bound(run, *own + more);
+    }
+    Ok(out)
+}
+
 /// By how much rows with these step exponents are exceeded at most, over `2^40`.
 pub fn violations_after(alloc: Global, exps: &[u32], run: Run) -> Result<Vec<i128>, AllocError>
     requires run { IsRunWithin run }
@@ -58,11 +78,46 @@ pub fn violations_after(alloc: Global, exps: &[u32], run: Run) -> Result<Vec<i12
     ensures { IfOk result (λ out. Holds out.items (length exps.now)
         (λ i. pos (row_bound run.target (exponent_in exps.now i) run.s (unsigned_abs run.r) run.k (unsigned_abs run.eps)))) }
 {
-    let mut out = vec![in alloc; 0; exps.len()]?;
-    for (i, own) in exps.iter().enumerate() {
-        out[i] = row_bound(run, *own);
+    violations_by(alloc, exps, 0, run)
+}
+
+// The run of the plain machine that leaves as much as this one of the accelerated machine.
+fn plain_run(run: Run) -> Run
+    requires { IsFastRunWithin run }
+    ensures within { IsRunWithin result }
+    ensures exponent { result.s ≡ run.s + 2 }
+    ensures bound { result.r ≡ run.r }
+    ensures steps { result.k ≡ quarter_steps run.k }
+    ensures errors { result.eps ≡ run.eps }
+    ensures target { result.target ≡ run.target }
+{
+    Run {
+        s: run.s + 2,
+        k: run.k * (run.k + 3),
+        ..run
     }
-    Ok(out)
+}
+
+/// By how much any row is exceeded at most after a run of the accelerated machine, over `2^40`.
+pub fn fast_violation(run: Run) -> i128
+    requires { IsFastRunWithin run }
+    ensures { result ≡ pos (fast_row_bound run run.s) }
+{
+    let plain = plain_run(run);
+    row_bound(plain, plain.s)
+}
+
+/// By how much rows with these step exponents are exceeded at most after a run of the accelerated machine, over `2^40`.
+pub fn fast_violations_after(
+    alloc: Global,
+    exps: &[u32],
+    run: Run,
+) -> Result<Vec<i128>, AllocError>
+    requires run { IsFastRunWithin run }
+    requires rows { (i : ℕ) → i < length exps.now → exponent_in exps.now i ≤ run.s }
+    ensures { IfOk result (λ out. Holds out.items (length exps.now) (λ i. pos (fast_row_bound run (exponent_in exps.now i)))) }
+{
+    violations_by(alloc, exps, 2, plain_run(run))
 }
 
 /// The violations of rows with these step exponents, none above `s`, over `2^40`: after `k` steps, with the multiplier bound `r` and the errors `eps` over

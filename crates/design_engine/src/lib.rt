@@ -11,7 +11,9 @@ mod laws;
 mod residuals;
 
 pub use aimed::{Aim, SteppedForm, stepped_form};
-pub use bounds::{Run, Terms, row_violations, violations_after};
+pub use bounds::{
+    Run, Terms, fast_violation, fast_violations_after, row_violations, violations_after,
+};
 pub use condensing::{condense, form_law};
 pub use controller_maker::{Settings, controller_of};
 pub use corners::{margins, shown_law};

@@ -3,6 +3,7 @@
 -- ---- numbers
 pub mod NumberFacts
 pub mod RowBounds
+pub mod QuarterLaws
 -- ---- mixtures of plans
 pub mod DesignMix
 pub mod ExcessMix

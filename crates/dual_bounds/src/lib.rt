@@ -7,8 +7,8 @@ ghost use Rattle.dual_bounds.specs.Corners.{BoxLaw, RepairLaw, ExcessBoxLaw, Thr
 mod numbers;
 
 pub use numbers::{
-    TooManySteps, lean_multiplier, lean_row_violation, multiplier, row_violation, steps, undercut,
-    violation,
+    TooManySteps, fast_multiplier, fast_steps, lean_multiplier, lean_row_violation, multiplier,
+    row_violation, steps, undercut, violation,
 };
 
 /// Where the corners' plans have a slack in each row and cost at most so much, some plan at every grid state of the box does. A plan there that

@@ -1,17 +1,18 @@
 // The numbers that follow from a margin.
-ghost use Rattle.std.specs.Prelude.{◌≡◌, ℕ, ◌+◌, ◌*◌, ◌^◌, ◌≤◌, pos, ◌≤ℤ◌, unsigned_abs, IfErr};
+ghost use Rattle.std.specs.Prelude.{◌≡◌, ℕ, ◌+◌, ◌*◌, ◌^◌, ◌<◌, ◌≤◌, pos, ◌≤ℤ◌, unsigned_abs, IfOk, IfErr, IsErr, ◌↔◌};
 ghost use Rattle.std.specs.Result.{OkIff};
 ghost use Rattle.qp_model.specs.bounds.Choices.{multiplier_of, multiplier_size_of, step_count, row_violation_bound, violation_bound, undercut_bound};
 ghost use Rattle.qp_model.specs.bounds.Choices.{lean_multiplier, lean_multiplier_size, lean_row_violation};
 ghost use Rattle.qp_model.specs.declared.quantity.Quantity.TheVariants.{Multiplier};
 ghost use Rattle.qp_model.specs.declared.refusal.Refusal.TheVariants.{TooManySteps as too_many};
+ghost use Rattle.dual_bounds.specs.FastSteps.{quarter_steps, IsLeastQuarter, IsFastStepCount, fast_multiplier_size};
 
-use frac_scaled::scaled;
+use frac_scaled::{isqrt, scaled};
 use qp_model::{Margin, Quantity, Refusal, Wide};
 use std::fmt;
 use thiserror::Error;
 
-/// A run would need `k` steps, more than 4194304.
+/// A run would need `k` steps, more than 4194304, or of the accelerated machine more than 65534.
 #[derive(Clone, Copy, PartialEq, Eq, Error)]
 #[error("too many steps")]
 pub struct TooManySteps {
@@ -79,6 +80,25 @@ pub fn lean_multiplier(units: i128, excess: i128, share: i128) -> Result<i128, W
     Ok(bound as i128)
 }
 
+/// The same R of a lean controller of the accelerated machine, whose steps need more room.
+///
+/// # Errors
+/// `multiplier` is above `2^126`.
+pub fn fast_multiplier(units: i128, excess: i128, share: i128) -> Result<i128, Wide>
+    requires units { pos 1 ≤ℤ units }
+    requires excess { pos 0 ≤ℤ excess }
+    requires share { pos 0 ≤ℤ share }
+    ensures value { let size = fast_multiplier_size (unsigned_abs units) (unsigned_abs excess) (unsigned_abs share) in
+        OkIff result (size ≤ 2 ^ 126) (pos (lean_multiplier (unsigned_abs units) (unsigned_abs excess) (unsigned_abs share))) }
+    ensures named { IfErr result (λ e. e.0 ≡ Multiplier) }
+{
+    let bound = lean_multiplier(units, excess, share)?;
+    if bound > 1 << 42 {
+        return Err(Wide(Quantity::Multiplier));
+    }
+    Ok(bound)
+}
+
 /// K, the steps of a run: `2^(s+41) r / step_target`, rounded up, for the step exponent `s`, the multiplier bound `r` and the steps' share of
 /// the violation's target over `2^40`.
 ///
@@ -101,12 +121,51 @@ pub fn steps(s: u32, r: i128, step_target: i128) -> Result<u32, TooManySteps>
     Ok(count as u32)
 }
 
+// The least k from 1 on with `k (k + 3)` at least `n`: one less than the root of `n`, or that.
+fn least_quarter(n: i128) -> i128
+    requires some { pos 1 ≤ℤ n }
+    requires small { n ≤ℤ pos (2 ^ 125) }
+    ensures { (result ≡ pos (unsigned_abs result)) × IsLeastQuarter (unsigned_abs n) (unsigned_abs result) }
+{
+    let root = isqrt(n);
+    if (root - 1) * (root + 2) >= n {
+        root - 1
+    } else {
+        root
+    }
+}
+
+/// K, the steps of a run of the accelerated machine: the least number from 1 on with `K (K + 3)` at least `2^(s+43) r / step_target`, for the step
+/// exponent `s`, the multiplier bound `r` and the steps' share of the violation's target over `2^40`.
+///
+/// # Errors
+/// K is above 65534.
+pub fn fast_steps(s: u32, r: i128, step_target: i128) -> Result<u32, TooManySteps>
+    requires exponent { s ≤ 40 }
+    requires some { pos 1 ≤ℤ r }
+    requires narrow { r ≤ℤ pos (2 ^ 42) }
+    requires target { pos 1 ≤ℤ step_target }
+    ensures value { IfOk result (IsFastStepCount s (unsigned_abs r) (unsigned_abs step_target)) }
+    ensures few { IfOk result (λ k. k ≤ 65534) }
+    ensures many { IsErr result ↔ (quarter_steps 65534 < step_count (s + 2) (unsigned_abs r) (unsigned_abs step_target)) }
+    ensures told { IfErr result (λ e. (e.k ≡ pos (unsigned_abs e.k)) ×
+        IsFastStepCount s (unsigned_abs r) (unsigned_abs step_target) (unsigned_abs e.k)) }
+{
+    let target = step_target.unsigned_abs();
+    let count = whole(s + 43, r).div_ceil(target);
+    let k = least_quarter(count as i128);
+    if k > 65534 {
+        return Err(TooManySteps { k });
+    }
+    Ok(k as u32)
+}
+
 /// By how much a plan exceeds any row at most, over `2^40`: after `k` steps with the step exponent `s`, the multiplier bound `r` and the
 /// errors `eps` over `2^40`.
 pub fn violation(s: u32, r: i128, k: u32, eps: i128) -> i128
-    requires exponent { s ≤ 40 }
+    requires exponent { s ≤ 42 }
     requires some { pos 1 ≤ℤ r }
-    requires narrow { r ≤ℤ pos (2 ^ 44) }
+    requires narrow { 2 ^ s * unsigned_abs r ≤ 2 ^ 84 }
     requires steps { 1 ≤ k }
     requires errors { pos 0 ≤ℤ eps }
     requires small { eps ≤ℤ pos (2 ^ 114) }
@@ -119,9 +178,9 @@ pub fn violation(s: u32, r: i128, k: u32, eps: i128) -> i128
 /// rows, the multiplier bound `r` and the errors `eps` over `2^40`.
 pub fn row_violation(si: u32, s: u32, r: i128, k: u32, eps: i128) -> i128
     requires row { si ≤ s }
-    requires exponent { s ≤ 40 }
+    requires exponent { s ≤ 42 }
     requires some { pos 1 ≤ℤ r }
-    requires narrow { r ≤ℤ pos (2 ^ 44) }
+    requires narrow { 2 ^ s * unsigned_abs r ≤ 2 ^ 84 }
     requires steps { 1 ≤ k }
     requires errors { pos 0 ≤ℤ eps }
     requires small { eps ≤ℤ pos (2 ^ 114) }
@@ -136,9 +195,9 @@ pub fn row_violation(si: u32, s: u32, r: i128, k: u32, eps: i128) -> i128
 /// By how much a plan of a lean controller exceeds a row with the step exponent `e` at most, over `2^40`: after `k` steps, with the multiplier bound `r`,
 /// the errors `eps` and the violation's target `threshold`, both over `2^40`, where steps and errors leave no more than that.
 pub fn lean_row_violation(e: u32, r: i128, k: u32, eps: i128, threshold: i128) -> i128
-    requires exponent { e ≤ 40 }
+    requires exponent { e ≤ 42 }
     requires some { pos 1 ≤ℤ r }
-    requires narrow { r ≤ℤ pos (2 ^ 44) }
+    requires narrow { 2 ^ e * unsigned_abs r ≤ 2 ^ 84 }
     requires steps { 1 ≤ k }
     requires errors { pos 0 ≤ℤ eps }
     requires small { eps ≤ℤ pos (2 ^ 114) }
@@ -164,9 +223,9 @@ pub fn undercut(r: i128, violation: i128) -> i128
 
 // `2^e r`.
 fn whole(e: u32, r: i128) -> u128
-    requires exponent { e ≤ 81 }
+    requires exponent { e ≤ 83 }
     requires some { pos 1 ≤ℤ r }
-    requires narrow { r ≤ℤ pos (2 ^ 44) }
+    requires fits { 2 ^ e * unsigned_abs r ≤ 2 ^ 125 }
     ensures value { result ≡ 2 ^ e * unsigned_abs r }
     ensures small { result ≤ 2 ^ 125 }
 {

@@ -1,8 +1,8 @@
 -- Bounds of controllers that were reckoned by hand.
 use Rattle.std.proofs.Common.{◌≡◌, ℕ, ◌^◌, [], ◌∷◌, refl}
 use Rattle.qp_model.specs.bounds.Choices.{row_violation_bound, violation_bound, lean_row_violation}
-use Rattle.fast_bounds.specs.CarriedErrors.{carry_of}
-use Rattle.fast_bounds.specs.FastCertified.{quarter_steps}
+use Rattle.step_error.specs.CarriedErrors.{carry_of}
+use Rattle.dual_bounds.specs.FastSteps.{quarter_steps}
 
 -- ---- how often an error of the gradient counts
 carries : carry_of 1 ∷ carry_of 3 ∷ carry_of 5 ∷ carry_of 17 ∷ carry_of 18 ∷ carry_of 50 ∷ [] ≡ 1 ∷ 2 ∷ 3 ∷ 7 ∷ 7 ∷ 18 ∷ []

@@ -48,7 +48,7 @@ use Rattle.fast_machine.specs.FastErrors.{fast_scale, made_after, plan_factor, f
 use Rattle.fast_machine.proofs.FastRuns.{mean_item, mean_up, means_long, means_within, ready_law}
 use Rattle.fast_machine.proofs.FastMachineRuns.{machine_even}
 use Rattle.fast_machine.proofs.WeightSums.{twice_weights}
-use Rattle.fast_bounds.specs.CarriedErrors.{carry_of, mean_error, with_means, cost_of_run, run_sums_of}
+use Rattle.step_error.specs.CarriedErrors.{carry_of, mean_error, with_means, cost_of_run, run_sums_of}
 use Rattle.fast_bounds.specs.FastDesign.{HasErrorsAt, IsPlanOf, IsFastRunFor, HasFastRunErrors, FastCarriedLaw, FastRunBoundFor, FastDesignRunLaw, FastStatedRunLaw}
 use Rattle.fast_bounds.proofs.MeanErrors.{misses_le}
 use Rattle.fast_bounds.proofs.PlanErrors.{admissible, plan_errors}

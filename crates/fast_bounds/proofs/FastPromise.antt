@@ -37,9 +37,10 @@ use Rattle.overflow_check.specs.FastMachine.{fast_denominator, fast_plan}
 use Rattle.fast_machine.specs.FastValues.{FastRunFits}
 use Rattle.fast_machine.proofs.FastBelow.{values_law}
 use Rattle.fast_machine.proofs.FastSums.{one_weight}
-use Rattle.fast_bounds.specs.CarriedErrors.{carry_of, mean_error, run_sums_of}
+use Rattle.step_error.specs.CarriedErrors.{carry_of, mean_error, run_sums_of}
 use Rattle.fast_bounds.specs.FastDesign.{IsFastRunFor}
-use Rattle.fast_bounds.specs.FastCertified.{quarter_steps, cost_for, IsFastSupported, FastCertifiedLaw, IsFastMadeWith, IsFastBuilt, FastLeanLaw}
+use Rattle.dual_bounds.specs.FastSteps.{quarter_steps}
+use Rattle.fast_bounds.specs.FastCertified.{cost_for, IsFastSupported, FastCertifiedLaw, IsFastMadeWith, IsFastBuilt, FastLeanLaw}
 use Rattle.fast_bounds.proofs.PlanErrors.{admissible}
 use Rattle.fast_bounds.proofs.FastDesignRuns.{fast_carried, fast_design_run}
 

@@ -19,7 +19,7 @@ use Rattle.qp_model.specs.machine.Machine.{lowering_of}
 use Rattle.qp_model.specs.form.Quantities.{input_floor}
 use Rattle.step_error.proofs.DesignLaws.{program}
 use Rattle.fast_machine.specs.FastErrors.{mean_misses}
-use Rattle.fast_bounds.specs.CarriedErrors.{mean_error}
+use Rattle.step_error.specs.CarriedErrors.{mean_error}
 
 -- an exact number over its scale s, by its midpoint and radius over the scale g
 exact_le : (g s rad : ℕ) (x y : ℤ) → IsWithin (pos (s * rad)) (pos g *ℤ x -ℤ pos s *ℤ y) → g * unsigned_abs x ≤ s * farthest y rad

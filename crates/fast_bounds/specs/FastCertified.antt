@@ -11,7 +11,7 @@ use Rattle.qp_model.specs.form.Form.{Form, IsFormFor}
 use Rattle.qp_model.specs.machine.Controller.{Numbers}
 use Rattle.qp_model.specs.bounds.Built.{IsDerivedFrom}
 use Rattle.qp_model.specs.bounds.Certified.{KeepsBounds}
-use Rattle.qp_model.specs.bounds.Choices.{step_count, row_violation_bound, violation_bound, lean_row_violation}
+use Rattle.qp_model.specs.bounds.Choices.{row_violation_bound, violation_bound, lean_row_violation}
 use Rattle.qp_model.specs.bounds.CornerClass.{IsMargin}
 use Rattle.qp_model.specs.bounds.Errors.{StepErrors}
 use Rattle.qp_model.specs.bounds.Excess.{excess_of}
@@ -19,6 +19,7 @@ use Rattle.qp_model.specs.bounds.Printed.{Printed}
 use Rattle.qp_model.specs.bounds.RealErrors.{real_errors}
 use Rattle.qp_model.specs.declared.design_parts.DesignParts.{DesignParts}
 use Rattle.overflow_check.specs.Width.{IsWidth}
+use Rattle.dual_bounds.specs.FastSteps.{quarter_steps, IsFastStepCount}
 use Rattle.hessian_check.specs.RowExponents.{AreExponentsOf}
 use Rattle.hessian_check.specs.Steps.{IsExponentOf}
 use Rattle.step_error.specs.Choice.{IsChoice}
@@ -30,7 +31,7 @@ use Rattle.lean_engine.specs.Lean.{bound_of, lean_aim}
 use Rattle.overflow_check.specs.FastMachine.{fast_denominator, fast_plan}
 use Rattle.overflow_check.specs.FastController.{IsFastController, greatest_fast_sum}
 use Rattle.fast_machine.specs.FastValues.{FastRunFits}
-use Rattle.fast_bounds.specs.CarriedErrors.{with_means, cost_of_run, run_sums_of}
+use Rattle.step_error.specs.CarriedErrors.{with_means, cost_of_run, run_sums_of}
 use Rattle.fast_bounds.specs.FastDesign.{HasFastRunErrors}
 
 -- ---- the promise
@@ -44,21 +45,7 @@ pub record IsFastCertifiedAt (d : Design) (c : Numbers) (b : Printed) (xi : List
 abbrev pub IsFastCertified : Design → Numbers → Printed → Type 0
 IsFastCertified d c b = (xi : List ℤ) → length xi ≡ d.states → IsGridState d (at xi) → IsFastCertifiedAt d c b xi
 
--- ---- choices and bounds
--- what stands for the steps
-abbrev pub quarter_steps : ℕ → ℕ
-quarter_steps k = k * (k + 3)
-
--- k is the least number from 1 with which that is at least n
-pub record IsLeastQuarter (n k : ℕ) : Type 0 where
-  pub some : 1 ≤ k
-  pub enough : n ≤ quarter_steps k
-  pub least : (j : ℕ) → 1 ≤ j → j < k → quarter_steps j < n
-
--- K: so that 2^(s + 3) R / (K (K + 3)) is at most the steps' share of the violation's target, in units of 2^-40
-abbrev pub IsFastStepCount : (s r step_target k : ℕ) → Type 0
-IsFastStepCount s r step_target = IsLeastQuarter (step_count (s + 2) r step_target)
-
+-- ---- bounds
 -- the bounds by R, where a repair is known for the threshold
 abbrev pub AreFastThresholdBoundsOf : (c : Numbers) (b : Printed) (r threshold cost : ℕ) → Type 0
 AreFastThresholdBoundsOf c b r threshold cost = AreBoundsWith c b r cost (lean_row_violation (c.step_exponent + 2) r (quarter_steps c.steps) cost threshold)

@@ -22,7 +22,7 @@ use Rattle.step_error.specs.MachineLaws.{machine_scale, row_radius, BoundsPlan}
 use Rattle.overflow_check.specs.FastMachine.{fast_denominator, fast_plan}
 use Rattle.overflow_check.specs.FastController.{IsFastController}
 use Rattle.fast_machine.specs.FastErrors.{made_after}
-use Rattle.fast_bounds.specs.CarriedErrors.{with_means, cost_of_run, run_sums_of}
+use Rattle.step_error.specs.CarriedErrors.{with_means, cost_of_run, run_sums_of}
 
 -- ---- a plan at any multipliers
 -- the plan at multipliers over 2^(fraction_bits + step_exponent), which the machine of these numbers makes from a grid state: its entries are at most

@@ -1,3 +1,2 @@
-pub mod CarriedErrors
 pub mod FastDesign
 pub mod FastCertified

@@ -53,3 +53,5 @@ pub mod RealSteps
 pub mod RealCosts
 -- ---- the numbers of one design and controller
 pub mod MadeFacts
+-- ---- what the means of the accelerated machine add
+pub mod LoweredLaws

@@ -9,3 +9,5 @@ pub mod Choice
 pub mod RealLaws
 pub mod Gains
 pub mod Made
+-- ---- the runs of the accelerated machine
+pub mod CarriedErrors

@@ -9,6 +9,7 @@ ghost use Rattle.step_error.specs.RealLaws.{RealCarriedLaw, RealCostLaw, RealSte
 
 mod choice;
 mod errors;
+mod means;
 mod radii;
 mod real_cost;
 mod real_gains;
@@ -16,6 +17,7 @@ mod sums;
 
 pub use choice::{Choice, TooFine, choose_bits};
 pub use errors::{epsilon, errors_cost, plan_bound, residual_error};
+pub use means::{carry_of, mean_error};
 pub use radii::farthest_row;
 pub use real_cost::real_epsilon;
 pub use sums::{ErrorSums, error_sums};

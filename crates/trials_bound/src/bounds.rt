@@ -1,5 +1,8 @@
 // What follows from a margin.
-use dual_bounds::{TooManySteps, multiplier, row_violation, steps, undercut, violation};
+use dual_bounds::{
+    TooManySteps, fast_multiplier, fast_steps, lean_row_violation, multiplier, row_violation, steps,
+    undercut, violation,
+};
 use qp_model::{Margin, Quantity, Wide};
 
 // Units and costs, and the multiplier.
@@ -51,6 +54,42 @@ fn run_steps(rt: HostRuntime) {
     }
 }
 
+// The same for the accelerated machine: among them the most steps that it may have, and the least that it may not.
+static FAST_STEPS: [(u32, i128, i128, Result<u32, TooManySteps>); 8] = [
+    (1, 8, 8796093022208, Ok(3)),
+    (1, 8, 54975581388, Ok(50)),
+    (1, 1, 1030792151040, Ok(3)),
+    (0, 1, 8796093022208, Ok(1)),
+    (0, 5, 8796093022208, Ok(2)),
+    (0, 4294901758, 8796093022208, Ok(65534)),
+    (0, 4294901759, 8796093022208, Err(TooManySteps { k: 65535 })),
+    (40, 1 << 42, 1, Err(TooManySteps { k: 6521908912666391105 })),
+];
+
+fn is_fast_count(s: u32, r: i128, step_target: i128, count: Result<u32, TooManySteps>) -> bool {
+    s <= 40
+        && r >= 1
+        && r <= 1 << 42
+        && step_target >= 1
+        && fast_steps(s, r, step_target) == count
+}
+
+#[test]
+fn fast_run_steps(rt: HostRuntime) {
+    for &(s, r, step_target, count) in &FAST_STEPS {
+        assert!(rt; is_fast_count(s, r, step_target, count));
+    }
+}
+
+// The greatest multiplier whose quantity is within its limit there, and the one above.
+#[test]
+fn fast_multipliers(rt: HostRuntime) {
+    assert!(rt;
+        fast_multiplier(1, 1 << 43, 1) == Ok(1 << 42)
+            && fast_multiplier(1, (1 << 43) + 1, 1) == Err(Wide(Quantity::Multiplier))
+    );
+}
+
 // Step exponents, multipliers, steps and errors, and the bound of the rows.
 static VIOLATIONS: [(u32, i128, u32, i128, i128); 5] = [
     (1, 8, 4, 804534616064, 8896659849216),
@@ -86,6 +125,17 @@ fn undercuts(rt: HostRuntime) {
             && undercut(1, 5396626407424) == 5396626407424
             && undercut(159, 38759924039) == 6162827922201
             && undercut(1600, 8804666625918) == 14087466601468800
+    );
+}
+
+// What the accelerated machine leaves after three steps: of a row with a smaller step exponent and of all, and the same below a target.
+#[test]
+fn fast_bounds(rt: HostRuntime) {
+    assert!(rt;
+        row_violation(2, 3, 8, 18, 438124412928) == 5918827566422
+            && violation(3, 8, 18, 438124412928) == 7873514904690
+            && lean_row_violation(2, 1, 18, 38805700608, 1 << 40) == 813494581476
+            && lean_row_violation(3, 1, 18, 38805700608, 1 << 40) == 1057830498760
     );
 }
 

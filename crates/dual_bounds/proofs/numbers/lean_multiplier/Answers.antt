@@ -1,4 +1,4 @@
-use Rattle.std.proofs.Common.{◌≡◌, ◌≤ℤ◌, ◌∙◌, ◌+◌, ◌*◌, ◌^◌, ◌<◌, arith, pos, ℕ, ap, unsigned_abs, sym}
+use Rattle.std.proofs.Common.{◌≡◌, ◌≤ℤ◌, ◌∙◌, ◌+◌, ◌^◌, ◌<◌, arith, pos, ℕ, ap, unsigned_abs, sym}
 use Rattle.std.specs.Int.{w128}
 use Rattle.std.proofs.lemmas.Int.{to_z-of_z, to_z_pos, ints}
 use Rattle.integer_algebra.specs.Division.{ceil_div}

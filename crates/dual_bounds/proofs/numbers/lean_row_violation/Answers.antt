@@ -1,10 +1,13 @@
-use Rattle.std.proofs.Common.{◌≡◌, ◌∙◌, ◌*◌, ◌^◌, ◌+◌, ◌<◌, ◌≤◌, ◌≤ℤ◌, ◌-◌, ap, ℕ, min, arith, pos, unsigned_abs, sym}
+use Rattle.std.proofs.Common.{◌≡◌, ◌∙◌, ◌*◌, ◌^◌, ◌+◌, ◌<◌, ◌≤◌, ◌≤ℤ◌, ◌-◌, ap, ℕ, arith, pos, unsigned_abs, sym}
 use Rattle.std.specs.Int.{w128}
 use Rattle.std.proofs.lemmas.Int.{to_z-of_z, to_z_pos, ints}
 use Rattle.integer_algebra.specs.Division.{ceil_div}
 use Rattle.qp_model.specs.bounds.Choices.{lean_row_violation}
-use Rattle.dual_bounds.proofs.NumberFacts.{same_ceil, positive, size_le}
+use Rattle.dual_bounds.proofs.NumberFacts.{same_ceil, positive, size_le, more_shifted}
 use Rattle.dual_bounds.proofs.numbers.lean_row_violation.Goals as goal
+
+pub whole-requires-clause-fits : goal.whole-requires-clause-fits
+whole-requires-clause-fits c = rw (to_z-of_z w128 _ c.ranges.r) (more_shifted c.args.e (unsigned_abs c.args.r) c.requires.narrow)
 
 pub returns : goal.returns
 returns c =

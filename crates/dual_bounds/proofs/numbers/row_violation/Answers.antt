@@ -2,9 +2,16 @@ use Rattle.std.proofs.Common.{◌≡◌, ◌∙◌, ◌*◌, ◌^◌, ◌+◌, a
 use Rattle.std.specs.Int.{w128}
 use Rattle.std.proofs.lemmas.Int.{to_z-of_z, to_z_pos}
 use Rattle.integer_algebra.specs.Division.{ceil_div}
-use Rattle.dual_bounds.proofs.NumberFacts.{quotient_is, quotient_small, same_ceil, positive, size_le}
+use Rattle.dual_bounds.proofs.NumberFacts.{quotient_is, quotient_small, same_ceil, positive, size_le, more_shifted, less_shifted}
 use Rattle.dual_bounds.proofs.RowBounds.{step_sum}
 use Rattle.dual_bounds.proofs.numbers.row_violation.Goals as goal
+
+pub whole-requires-clause-fits : goal.whole-requires-clause-fits
+whole-requires-clause-fits c =
+    rw (to_z-of_z w128 _ c.ranges.r) (more_shifted c.args.si (unsigned_abs c.args.r) (less_shifted c.args.si c.args.s (unsigned_abs c.args.r) c.requires.row c.requires.narrow))
+
+pub whole-requires-2-clause-fits : goal.whole-requires-2-clause-fits
+whole-requires-2-clause-fits c = rw (to_z-of_z w128 _ c.ranges.r) (more_shifted c.args.s (unsigned_abs c.args.r) c.requires.narrow)
 
 pub returns : goal.returns
 returns c =

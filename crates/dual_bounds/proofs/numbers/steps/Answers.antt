@@ -2,8 +2,12 @@ use Rattle.std.proofs.Common.{◌≡◌, ◌∙◌, ◌*◌, ◌^◌, ◌+◌, a
 use Rattle.std.specs.Int.{w128}
 use Rattle.std.proofs.lemmas.Int.{to_z-of_z, to_z_pos}
 use Rattle.qp_model.specs.bounds.Choices.{step_count}
-use Rattle.dual_bounds.proofs.NumberFacts.{quotient_is, quotient_small, positive}
+use Rattle.dual_bounds.proofs.NumberFacts.{quotient_is, quotient_small, positive, shifted}
 use Rattle.dual_bounds.proofs.numbers.steps.Goals as goal
+
+pub whole-requires-clause-fits : goal.whole-requires-clause-fits
+whole-requires-clause-fits c =
+    rw (to_z-of_z w128 _ c.ranges.r) (shifted (c.args.s + 41) 81 (2 ^ 44) c.args.r (omega (arith, c.requires.exponent)) c.requires.some c.requires.narrow)
 
 pub returns-then-count-clause-value : goal.returns-then-count-clause-value
 returns-then-count-clause-value c =

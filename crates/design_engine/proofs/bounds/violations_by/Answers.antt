@@ -3,7 +3,7 @@ use Rattle.std.proofs.lemmas.Int.{to_z-of_z}
 use mir.Val.{SFits}
 use Rattle.design_engine.proofs.AnswerLaws.{absent_of_error}
 use Rattle.std.proofs.Common.{arith, pos, get_or-set_same, get_or-set_other, below_more, rules, ◌∙◌}
-use Rattle.design_engine.proofs.bounds.violations_after.Goals as goal
+use Rattle.design_engine.proofs.bounds.violations_by.Goals as goal
 
 pub row_bound-requires-clause-row : goal.row_bound-requires-clause-row
 row_bound-requires-clause-row c = c.requires.rows c.loop-i.i (omega arith)

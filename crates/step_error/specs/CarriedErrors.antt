@@ -32,3 +32,8 @@ cost_of_run d h r f k e =
 abbrev pub run_sums_of : Design → Form → (r k s : ℕ) → (exponents : List ℕ) → ErrorSums
 run_sums_of d h r k s exponents =
     carried_times (carry_of k) (first_cost d (λ j. gradient_error d h r j + mean_error h s exponents j)) (error_sums_of d h r)
+
+-- ---- as the code adds them up
+-- the numbers of n rows, each over 2 to the power of its row's exponent, times 2^s
+abbrev pub lowered_sum : (n : ℕ) → (size : ℕ → ℕ) → (s : ℕ) → (exponents : List ℕ) → ℕ
+lowered_sum n size s exponents = amount n (λ i. 2 ^ (s - slice_index_or exponents i 0) * size i)
