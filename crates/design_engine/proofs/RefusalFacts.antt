@@ -1,5 +1,5 @@
 -- A fault of a part has its cause as a refusal.
-use Rattle.std.proofs.Common.{◌≡◌, inl, inr, ◌⊎◌, ◌↔◌, ℕ, ◌^◌, ◌<◌, ◌≤◌, ℤ, pos, unsigned_abs, arith, rules, Result, Ok, Err}
+use Rattle.std.proofs.Common.{◌≡◌, inl, inr, ◌⊎◌, ◌↔◌, ℕ, ◌^◌, ◌<◌, ◌≤◌, ℤ, pos, unsigned_abs, arith, rules, refl, ap, ◌∙◌, Result, Ok, Err}
 use Rattle.std.specs.Prelude.{IfErr}
 use Rattle.std.specs.Result.{IsErrAnd}
 use Rattle.std.proofs.lemmas.Bool.{cases_lt}
@@ -31,18 +31,20 @@ use Rattle.approx_inverse.specs.Fault.{IsFault}
 use Rattle.qp_model.specs.declared.size_fault.SizeFault.TheVariants.{Memory as solve_memory, TooWide as solve_wide}
 use Rattle.design_engine.specs.Targets.{Targets}
 use Rattle.design_engine.specs.Aims.{steps_of, aim_of}
-use Rattle.design_engine.specs.Tests.{IsRefusedFor, IsFormWide, HasFormCause, PassesBits, HasAimCause}
+use Rattle.design_engine.specs.Stages.{Nothing, OfCorners}
+use Rattle.design_engine.specs.Tests.{IsRefusedFor, HasFormCause, PassesBits, AfterBits, HasAimCause}
 use Rattle.controller_maker.specs.Widest.{width_size}
 use Rattle.controller_maker.specs.Fault.{IsWidthFault}
 use Rattle.corner_margin.specs.Refusing.{of_margin}
 use Rattle.qp_model.specs.refusal.Refusing.{of_size}
 use Rattle.hessian_check.specs.Refusing.{of_curvature}
-use Rattle.design_engine.specs.Refusals.{PassesMargin, PassesExponent, HasCause, IsRefused, IsTooWide}
+use Rattle.design_engine.specs.Refusals.{PassesMargin, PassesExponent, AfterMargin, HasCause, IsRefused}
 use Rattle.qp_model.specs.declared.size_fault.SizeFault.TheVariants.{Memory as width_memory, TooWide as width_wide}
 use Rattle.qp_model.specs.declared.refusal.Refusal.{Refusal}
 use Rattle.qp_model.specs.declared.refusal.Refusal.TheVariants.{TooManySteps, TooFine, TooWide}
 use Rattle.design_engine.specs.declared.aimed.Aim.{Aim}
-use Rattle.design_engine.proofs.CauseCases.{each_quantity, wide_corner, wide_form, wide_aim, margin_cases, form_cases, aim_cases, refused_map}
+use Rattle.design_engine.proofs.CauseCases.{margin_cases, refused_map}
+use Rattle.design_engine.proofs.StageLaws.{form_wide, form_told, form_passed, corner_told, corner_passed, short_told}
 
 -- the error that a fault becomes
 pub refused_by : {T : Type 0} (r : Result T Refusal) (from p : Refusal → Type 0) → IsErrAnd r from → ((e : Refusal) → from e → p e) → IfErr r p
@@ -68,24 +70,19 @@ condensed_within x quantity n h = elim (cases_lt (2 ^ 126) n) [ inl l ↦ absurd
 
 -- ---- the form
 module _ (d : Design) where
-  form_wide : (quantity : Quantity) → condensing.IsFirstWideForm d quantity → IsFormWide d quantity
-  form_wide =
-      each_quantity (condensing.IsFirstWideForm d) (IsFormWide d) (λ h. h) (λ h. absurd h) (λ h. absurd h) (λ h. absurd h) (λ h. h) (λ h. h)
-      (λ h. absurd h) (λ h. absurd h) (λ h. absurd h) (λ h. absurd h) (λ h. absurd h) (λ h. absurd h) (λ h. absurd h) (λ h. absurd h)
-
   pub condense_refused : (r : Result Condensed SizeFault) (fault : SizeFault) → r ≡ Err fault →
       ((quantity : Quantity) → r ≡ Err (condense_wide quantity) → condensing.IsFirstWideForm d quantity) →
       (e : Refusal) → e ≡ of_size fault → IsRefusedFor (HasFormCause d) e
   condense_refused r condense_memory is wide e f = inl f
-  condense_refused r (condense_wide quantity) is wide e f = rw f (inr (form_wide quantity (wide quantity is)))
+  condense_refused r (condense_wide quantity) is wide e f = rw f (inr (form_wide d (λ s. Nothing) quantity (wide quantity is)))
 
   pub curvature_refused : prediction_quantity d ≤ 2 ^ 126 → hessian_quantity d ≤ 2 ^ 126 → rows_quantity d ≤ 2 ^ 126 →
       (fault : CurvatureFault) → exponents.IsExponentRefused d fault → (e : Refusal) → e ≡ of_curvature fault → IsRefusedFor (HasFormCause d) e
   curvature_refused i k l curvature_memory why e f = inl f
   curvature_refused i k l (curvature_wide quantity) (inl memory) e f = absurd (search rules)
-  curvature_refused i k l (curvature_wide quantity) (inr why) e f = rw (f, why.0) (inr (i, (k, (l, why.1))))
+  curvature_refused i k l (curvature_wide quantity) (inr why) e f = rw (f, why.0) (inr (inr (i, inr (k, inr (l, inl (refl, why.1))))))
   curvature_refused i k l NoStep (inl memory) e f = absurd (search rules)
-  curvature_refused i k l NoStep (inr why) e f = rw f (inr (record { prediction = i; hessian = k; rows = l; curvature = why.0 }, why.1))
+  curvature_refused i k l NoStep (inr why) e f = rw f (inr (inr (i, inr (k, inr (l, inr (why.0, inl (refl, why.1)))))))
 
 -- ---- an aim, with the step exponent s
 above : (limit n : ℕ) → (n ≤ limit → ⊥) → limit < n
@@ -93,55 +90,58 @@ above limit n refuted = omega (arith, refuted)
 
 module _ (d : Design) (a : Aim) (s : ℕ) where
   pub steps_refused : (k : ℤ) → (steps_of a s ≤ 2 ^ 22 → ⊥) → k ≡ pos (steps_of a s) → (e : Refusal) → e ≡ TooManySteps k → HasAimCause d a s e
-  steps_refused k refuted is e j = rw j (above (2 ^ 22) (steps_of a s) refuted, is)
+  steps_refused k refuted is e j = rw (j, is) (inl (refl, above (2 ^ 22) (steps_of a s) refuted))
 
   pub sums_refused : (quantity : Quantity) → steps_of a s ≤ 2 ^ 22 → (error_size d (form_of d) (unsigned_abs a.r) ≤ 2 ^ 126 → ⊥) → quantity ≡ Error →
       (e : Refusal) → e ≡ TooWide quantity → HasAimCause d a s e
-  sums_refused quantity few refuted g e j = rw (j, g) (few, above (2 ^ 126) (error_size d (form_of d) (unsigned_abs a.r)) refuted)
+  sums_refused quantity few refuted g e j = rw (j, g) (inr (few, inl (refl, above (2 ^ 126) (error_size d (form_of d) (unsigned_abs a.r)) refuted)))
 
   pub choice_refused : (sums : errors.ErrorSums) (eps : ℤ) → steps_of a s ≤ 2 ^ 22 → error_size d (form_of d) (unsigned_abs a.r) ≤ 2 ^ 126 →
       sums ≡ error_sums_of d (form_of d) (unsigned_abs a.r) → unsigned_abs a.error_target < epsilon sums 48 → eps ≡ pos (epsilon sums 48) →
       (e : Refusal) → e ≡ TooFine eps → HasAimCause d a s e
-  choice_refused sums eps few size k fine is e j = rw j (few, (size, (rw k at fine, rw k at is)))
+  choice_refused sums eps few size k fine is e j = inr (few, inr (size, inl (j ∙ ap (λ (n : ℤ). TooFine n) (rw k at is), rw k at fine)))
+
+  -- one after the bits
+  past_bits : (f : ℕ) → PassesBits d a s f → (e : Refusal) → AfterBits d a s f e → IsRefusedFor (HasAimCause d a s) e
+  past_bits f passes e h = inr (inr (passes.steps, inr (passes.error, inr (f, passes.choice, h))))
 
   pub solve_refused : (f : ℕ) → PassesBits d a s f → (fault : SizeFault) → IsFault fault (2 ^ 126 < descent_size (form_of d) f) →
       (e : Refusal) → e ≡ of_size fault → IsRefusedFor (HasAimCause d a s) e
   solve_refused f passes solve_memory h e j = inl j
-  solve_refused f passes (solve_wide quantity) h e j = rw (j, h.0) (inr (f, passes, h.1))
+  solve_refused f passes (solve_wide quantity) h e j = past_bits f passes e (rw (j, h.0) (inl (refl, h.1)))
 
   pub width_refused : (f k : ℕ) → PassesBits d a s f → descent_size (form_of d) f ≤ 2 ^ 126 → k ≡ steps_of a s →
       (fault : SizeFault) → IsWidthFault fault (2 ^ 126 < width_size d (unsigned_abs a.r) s k f) →
       (e : Refusal) → e ≡ of_size fault → IsRefusedFor (HasAimCause d a s) e
   width_refused f k passes size i width_memory h e j = inl j
-  width_refused f k passes size i (width_wide quantity) h e j = rw (j, h.0) (inr (f, passes, (size, rw i at h.1)))
+  width_refused f k passes size i (width_wide quantity) h e j = past_bits f passes e (rw (j, h.0) (inr (size, inl (refl, rw i at h.1))))
 
--- ---- a design with a policy
-module _ (d : Design) (t : Targets) (plans : Plans) where
-  corner_wide : (quantity : Quantity) → corners.IsFirstWideCorner d plans quantity → IsTooWide d t plans quantity
-  corner_wide = wide_corner d (IsTooWide d t plans) plans (λ h. inl h) (λ h. h) (λ h. h)
-
+-- ---- a design with a policy, and what is tested after the margin
+module _ (d : Design) (plans : Plans) (after : Margin → Refusal → Type 0) where
   pub margin_refused : (r : Result Margin MarginFault) (fault : MarginFault) → r ≡ Err fault →
       ((quantity : Quantity) → (r ≡ Err (margin_wide quantity)) ↔ corners.IsFirstWideCorner d plans quantity) →
       ((corner row : ℕ) (slack : Frac) → r ≡ Err (margin_none corner row slack) → HasCornerRoom d plans × IsFirstShort d plans corner row slack) →
-      (e : Refusal) → e ≡ of_margin fault → IsRefused d t plans e
-  margin_refused = margin_cases d (HasCause d t plans) plans corner_wide (λ corner row slack h. h)
+      (e : Refusal) → e ≡ of_margin fault → IsRefusedFor (OfCorners d plans after) e
+  margin_refused = margin_cases d (OfCorners d plans after) plans (corner_told d plans after) (λ corner row slack h. short_told d plans after corner row slack h.0 h.1)
+
+module _ (d : Design) (t : Targets) (plans : Plans) where
+  from_margin : (m : Margin) → PassesMargin d t plans m → (e : Refusal) → AfterMargin d t m e → HasCause d t plans e
+  from_margin m h e = corner_passed d plans (AfterMargin d t) e m h.room h.margin h.slack
 
   pub multiplier_refused : (m : Margin) (quantity : Quantity) → PassesMargin d t plans m →
       (multiplier_size (unsigned_abs m.units) (unsigned_abs m.cost) ≤ 2 ^ 126 → ⊥) → quantity ≡ Multiplier →
       (e : Refusal) → e ≡ TooWide quantity → IsRefused d t plans e
-  multiplier_refused m quantity h refuted g e f = rw (f, g) (inr (m, h, omega (arith, refuted)))
+  multiplier_refused m quantity h refuted g e f = rw (f, g) (inr (from_margin m h _ (inl (refl, omega (arith, refuted)))))
 
   -- a cause in the form
   pub form_caused : (m : Margin) → PassesMargin d t plans m → multiplier_size_of m ≤ 2 ^ 126 → (e : Refusal) → IsRefusedFor (HasFormCause d) e → IsRefused d t plans e
-  form_caused m h n =
-      refused_map _ _ (form_cases d (HasCause d t plans) (λ k. (m, record { before = h; multiplier = n; form = k.0 }, k.1))
-      (wide_form d (IsTooWide d t plans) (λ k. inr (m, (h, n), k)) (λ k. (m, (h, n), k)) (λ k. (m, (h, n), k)) (λ k. (m, (h, n), k))))
+  form_caused m h n = refused_map _ _ (λ e k. from_margin m h e (inr (n, form_told d (HasAimCause d (aim_of t m)) e k)))
 
   -- and one after it
   pub aim_caused : (m : Margin) (s : ℕ) → PassesExponent d t plans m s → (e : Refusal) → IsRefusedFor (HasAimCause d (aim_of t m) s) e → IsRefused d t plans e
   aim_caused m s h =
-      refused_map _ _ (aim_cases d (HasCause d t plans) (aim_of t m) s (λ k w. (m, s, h, w)) (λ eps w. (m, s, h, w))
-      (wide_aim d (IsTooWide d t plans) (aim_of t m) s (λ w. (m, s, h, w)) (λ w. (m, s, h, w)) (λ w. (m, s, h, w))))
+      let sizes = h.before in
+      refused_map _ _ (λ e k. from_margin m sizes.before e (inr (sizes.multiplier, form_passed d (HasAimCause d (aim_of t m)) e s sizes.form h.exponent k)))
 
 -- a choice, by other names of its numbers
 pub choice_same : (sums other : errors.ErrorSums) (low from limit most f : ℕ) → sums ≡ other → low ≡ from → limit ≡ most → IsChoice sums low limit f → IsChoice other from most f

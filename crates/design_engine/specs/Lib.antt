@@ -2,6 +2,7 @@ pub mod Targets
 pub mod Bounds
 pub mod Aims
 pub mod Tests
+pub mod Stages
 pub mod Terms
 pub mod StepsAndBits
 pub mod Promise

@@ -1,22 +1,17 @@
 -- The tests that any controller passes whatever its policy is: those of a design's form, and then those of an aim; and why the first that fails refuses it.
-use Rattle.std.specs.Prelude.{◌≡◌, ◌⊎◌, ℕ, ◌^◌, ◌<◌, ◌≤◌, ℤ, pos, unsigned_abs}
+use Rattle.std.specs.Prelude.{◌≡◌, ◌⊎◌, ℕ, ◌^◌, ◌<◌, ◌≤◌, pos, unsigned_abs}
 use Rattle.qp_model.specs.form.Class.{form_of, prediction_quantity, hessian_quantity, rows_quantity, curvature_quantity}
 use Rattle.qp_model.specs.form.Columns.{descent_size}
 use Rattle.qp_model.specs.problem.Design.{Design}
 use Rattle.qp_model.specs.bounds.Errors.{error_size}
-use Rattle.qp_model.specs.declared.quantity.Quantity.{Quantity}
-use Rattle.qp_model.specs.declared.quantity.Quantity.TheVariants.{Prediction, Hessian, Rows, Curvature as curvature_named, Error, Descent, Width}
-use Rattle.hessian_check.specs.Steps.{HasNoStep}
+use Rattle.qp_model.specs.declared.quantity.Quantity.TheVariants.{Error, Descent, Width}
 use Rattle.controller_maker.specs.Widest.{width_size}
 use Rattle.design_engine.specs.Aims.{steps_of, AreBitsOf}
 use Rattle.design_engine.specs.Bounds.{stated_cost}
+use Rattle.design_engine.specs.Stages.{Nothing, Next, Sized, Finds, OfForm}
 use Rattle.design_engine.specs.declared.aimed.Aim.{Aim}
 use Rattle.qp_model.specs.declared.refusal.Refusal.{Refusal}
-use Rattle.qp_model.specs.declared.refusal.Refusal.TheVariants.{Memory, Curvature, TooManySteps, TooFine, TooWide}
-
--- a quantity that is above its limit
-abbrev pub IsWide : ℕ → Type 0
-IsWide size = 2 ^ 126 < size
+use Rattle.qp_model.specs.declared.refusal.Refusal.TheVariants.{Memory, TooManySteps, TooFine}
 
 -- out of memory, or with a cause
 abbrev pub IsRefusedFor : (Refusal → Type 0) → Refusal → Type 0
@@ -30,20 +25,9 @@ pub record PassesForm (d : Design) : Type 0 where
   pub rows : rows_quantity d ≤ 2 ^ 126
   pub curvature : curvature_quantity d ≤ 2 ^ 126
 
--- the quantity is the first of the form that is above its limit
-abbrev pub IsFormWide : Design → Quantity → Type 0
-IsFormWide d Prediction = IsWide (prediction_quantity d)
-IsFormWide d Hessian = (prediction_quantity d ≤ 2 ^ 126) × IsWide (hessian_quantity d)
-IsFormWide d Rows = (prediction_quantity d ≤ 2 ^ 126) × ((hessian_quantity d ≤ 2 ^ 126) × IsWide (rows_quantity d))
-IsFormWide d curvature_named =
-    (prediction_quantity d ≤ 2 ^ 126) × ((hessian_quantity d ≤ 2 ^ 126) × ((rows_quantity d ≤ 2 ^ 126) × IsWide (curvature_quantity d)))
-IsFormWide d other = ⊥
-
 -- why there is no form, or no step exponent
 abbrev pub HasFormCause : Design → Refusal → Type 0
-HasFormCause d Curvature = PassesForm d × HasNoStep d
-HasFormCause d (TooWide quantity) = IsFormWide d quantity
-HasFormCause d other = ⊥
+HasFormCause d = OfForm d (λ s. Nothing)
 
 -- ---- an aim, with the step exponent s
 -- the quantity `width`, at f bits
@@ -62,25 +46,22 @@ pub record PassesAim (d : Design) (a : Aim) (s f : ℕ) : Type 0 where
   pub descent : descent_size (form_of d) f ≤ 2 ^ 126
   pub width : width_of d a s f ≤ 2 ^ 126
 
--- the steps are more than 2^22, and k is their number
-abbrev pub AreTooMany : (steps : ℕ) → ℤ → Type 0
-AreTooMany steps k = (2 ^ 22 < steps) × (k ≡ pos steps)
+-- the steps are more than 2^22: their number is told
+abbrev pub IsLong : Aim → ℕ → Refusal → Type 0
+IsLong a s e = (e ≡ TooManySteps (pos (steps_of a s))) × (2 ^ 22 < steps_of a s)
 
--- even at 48 bits the errors of a step, which are eps there, are above the limit
-abbrev pub AreTooFine : (errors limit : ℕ) → ℤ → Type 0
-AreTooFine errors limit eps = (limit < errors) × (eps ≡ pos errors)
+-- even at 48 bits the errors of a step are above the limit: what they are there is told
+abbrev pub IsFine : Design → Aim → Refusal → Type 0
+IsFine d a e = (e ≡ TooFine (pos (stated_cost d (unsigned_abs a.r) 48))) × (unsigned_abs a.error_target < stated_cost d (unsigned_abs a.r) 48)
 
--- the quantity is the first of the aim that is above its limit
-abbrev pub IsAimWide : Design → Aim → ℕ → Quantity → Type 0
-IsAimWide d a s Error = (steps_of a s ≤ 2 ^ 22) × IsWide (error_size d (form_of d) (unsigned_abs a.r))
-IsAimWide d a s Descent = (f : ℕ) × PassesBits d a s f × IsWide (descent_size (form_of d) f)
-IsAimWide d a s Width = (f : ℕ) × PassesBits d a s f × ((descent_size (form_of d) f ≤ 2 ^ 126) × IsWide (width_of d a s f))
-IsAimWide d a s other = ⊥
+-- the tests of the systems and the sums, at f bits
+abbrev pub AfterBits : Design → Aim → (s f : ℕ) → Refusal → Type 0
+AfterBits d a s f = Sized Descent (descent_size (form_of d) f) (Sized Width (width_of d a s f) Nothing)
+
+-- those of the errors and the bits
+abbrev pub AfterSteps : Design → Aim → ℕ → Refusal → Type 0
+AfterSteps d a s = Sized Error (error_size d (form_of d) (unsigned_abs a.r)) (Finds ℕ (IsFine d a) (AreBitsOf d a) (AfterBits d a s))
 
 -- why the aim is missed
 abbrev pub HasAimCause : Design → Aim → ℕ → Refusal → Type 0
-HasAimCause d a s (TooManySteps k) = AreTooMany (steps_of a s) k
-HasAimCause d a s (TooFine eps) = (steps_of a s ≤ 2 ^ 22) × ((error_size d (form_of d) (unsigned_abs a.r) ≤ 2 ^ 126)
-    × AreTooFine (stated_cost d (unsigned_abs a.r) 48) (unsigned_abs a.error_target) eps)
-HasAimCause d a s (TooWide quantity) = IsAimWide d a s quantity
-HasAimCause d a s other = ⊥
+HasAimCause d a s = Next (IsLong a s) (steps_of a s ≤ 2 ^ 22) (AfterSteps d a s)

@@ -7,16 +7,15 @@ use Rattle.qp_model.specs.problem.Policy.{Plans}
 use Rattle.qp_model.specs.bounds.Choices.{lean_multiplier_size}
 use Rattle.qp_model.specs.bounds.Excess.{excess_of, excess_size}
 use Rattle.qp_model.specs.declared.bounds.Margin.{Margin}
-use Rattle.qp_model.specs.declared.quantity.Quantity.{Quantity}
-use Rattle.qp_model.specs.declared.quantity.Quantity.TheVariants.{Prediction, CornerSlack, CornerCost, Multiplier, Hessian, Rows, Curvature as curvature_named, Error, Descent, Width, Excess}
-use Rattle.corner_margin.specs.Corners.{HasCornerRoom, IsFirstWideCorner, IsFirstShort}
-use Rattle.hessian_check.specs.Steps.{IsExponentOf, HasNoStep}
+use Rattle.qp_model.specs.declared.quantity.Quantity.TheVariants.{Multiplier, Excess}
+use Rattle.hessian_check.specs.Steps.{IsExponentOf}
 use Rattle.design_engine.specs.Targets.{Targets, floor_target}
-use Rattle.design_engine.specs.Tests.{IsWide, PassesForm, IsFormWide, PassesAim, IsAimWide, HasAimCause}
+use Rattle.design_engine.specs.Stages.{Sized, OfForm, OfCorners}
+use Rattle.design_engine.specs.Tests.{PassesForm, PassesAim, HasAimCause}
 use Rattle.design_engine.specs.Refusals.{PassesMargin}
 use Rattle.design_engine.specs.declared.aimed.Aim.{Aim}
 use Rattle.qp_model.specs.declared.refusal.Refusal.{Refusal}
-use Rattle.qp_model.specs.declared.refusal.Refusal.TheVariants.{Memory, NoMargin, Curvature, TooManySteps, TooFine, TooWide}
+use Rattle.qp_model.specs.declared.refusal.Refusal.TheVariants.{Memory}
 use Rattle.lean_engine.specs.Lean.{lean_aim}
 
 -- X, and the quantity `excess`
@@ -57,44 +56,14 @@ abbrev pub PassesSomeLean : Design → Targets → (plans references : Plans) �
 PassesSomeLean d t plans references = (m : Margin) × (s : ℕ) × (f : ℕ) × PassesLean d t plans references m s f
 
 -- ---- the causes
--- the quantity is the first of the form, or of the steps and the bits, that is above its limit
-abbrev pub HasWideLeanForm : Design → Targets → Plans → Quantity → Type 0
-HasWideLeanForm d t plans quantity = (m : Margin) × PassesMargin d t plans m × IsFormWide d quantity
-
-abbrev pub HasWideLeanAim : Design → Targets → (plans references : Plans) → Quantity → Type 0
-HasWideLeanAim d t plans references quantity =
-    (m : Margin) × (s : ℕ) × PassesBound d t plans references m s × IsAimWide d (aim_at d t plans references m) s quantity
-
--- The quantity is the first that is above its limit. `prediction` is that of the corners, or of the condensed form.
-abbrev pub IsTooWideLean : Design → Targets → (plans references : Plans) → Quantity → Type 0
-IsTooWideLean d t plans references Prediction = IsFirstWideCorner d plans Prediction ⊎ HasWideLeanForm d t plans Prediction
-IsTooWideLean d t plans references CornerSlack = IsFirstWideCorner d plans CornerSlack
-IsTooWideLean d t plans references CornerCost = IsFirstWideCorner d plans CornerCost
-IsTooWideLean d t plans references Hessian = HasWideLeanForm d t plans Hessian
-IsTooWideLean d t plans references Rows = HasWideLeanForm d t plans Rows
-IsTooWideLean d t plans references curvature_named = HasWideLeanForm d t plans curvature_named
-IsTooWideLean d t plans references Excess =
-    (m : Margin) × (s : ℕ) × PassesScaling d t plans m s × IsWide (policy_excess_size d plans references)
-IsTooWideLean d t plans references Multiplier =
-    (m : Margin) × (s : ℕ) × PassesScaling d t plans m s × ((policy_excess_size d plans references ≤ 2 ^ 126) × IsWide (multiplier_size_at d t plans references m))
-IsTooWideLean d t plans references Error = HasWideLeanAim d t plans references Error
-IsTooWideLean d t plans references Descent = HasWideLeanAim d t plans references Descent
-IsTooWideLean d t plans references Width = HasWideLeanAim d t plans references Width
-IsTooWideLean d t plans references other = ⊥
-
--- the steps and the bits miss what the targets leave
-abbrev pub HasMissedLeanAim : Design → Targets → (plans references : Plans) → Refusal → Type 0
-HasMissedLeanAim d t plans references e =
-    (m : Margin) × (s : ℕ) × PassesBound d t plans references m s × HasAimCause d (aim_at d t plans references m) s e
+-- the tests after the step exponent: of the excess, of R, and of the aim
+abbrev pub AfterExponent : Design → Targets → (plans references : Plans) → Margin → ℕ → Refusal → Type 0
+AfterExponent d t plans references m s = Sized Excess (policy_excess_size d plans references) (Sized Multiplier (multiplier_size_at d t plans references m)
+    (HasAimCause d (aim_at d t plans references m) s))
 
 -- Why this refusal is the answer. Out of memory has no cause in the design, the policy and the reference plans.
 abbrev pub HasLeanCause : Design → Targets → (plans references : Plans) → Refusal → Type 0
-HasLeanCause d t plans references Memory = ⊥
-HasLeanCause d t plans references (NoMargin corner row slack) = HasCornerRoom d plans × IsFirstShort d plans corner row slack
-HasLeanCause d t plans references Curvature = (m : Margin) × PassesMargin d t plans m × (PassesForm d × HasNoStep d)
-HasLeanCause d t plans references (TooManySteps k) = HasMissedLeanAim d t plans references (TooManySteps k)
-HasLeanCause d t plans references (TooFine eps) = HasMissedLeanAim d t plans references (TooFine eps)
-HasLeanCause d t plans references (TooWide quantity) = IsTooWideLean d t plans references quantity
+HasLeanCause d t plans references = OfCorners d plans (λ m. OfForm d (AfterExponent d t plans references m))
 
 -- out of memory, or with its cause
 abbrev pub IsRefusedLean : Design → Targets → (plans references : Plans) → Refusal → Type 0

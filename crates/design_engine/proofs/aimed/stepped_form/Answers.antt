@@ -1,4 +1,5 @@
 use Rattle.qp_model.specs.declared.quantity.Quantity.TheVariants.{Prediction}
+use Rattle.qp_model.specs.problem.Parts.{design_of}
 use Rattle.design_engine.proofs.AnswerLaws.{absent_of_error, ok_of_error}
 use Rattle.design_engine.proofs.RefusalFacts.{refused_by, condense_refused, curvature_refused, within_limit, condensed_within}
 use Rattle.design_engine.proofs.aimed.stepped_form.Goals as goal
@@ -6,12 +7,12 @@ use Rattle.design_engine.proofs.aimed.stepped_form.Goals as goal
 pub returns-in_err-condensed-clause-refused : goal.returns-in_err-condensed-clause-refused
 returns-in_err-condensed-clause-refused c =
     refused_by c.from_residual.result _ _ c.from_residual.ensures.1
-    (condense_refused _ c.condense.result _ c.in_err-condensed.was c.condense.ensures.wide)
+    (condense_refused (design_of c.args.design.now) c.condense.result _ c.in_err-condensed.was c.condense.ensures.wide)
 
 pub returns-in-Err-clause-refused : goal.returns-in-Err-clause-refused
 returns-in-Err-clause-refused c =
     let form = c.in_ok-condensed.ensures.form in
-    curvature_refused _ (condensed_within _ Prediction _ (c.in_ok-condensed.ensures.every_refusal Prediction))
+    curvature_refused (design_of c.args.design.now) (condensed_within _ Prediction _ (c.in_ok-condensed.ensures.every_refusal Prediction))
     form.sizes.cost_room form.sizes.limit_room _ (c.in-Err.ensures.refused _ form) _ c.from.ensures
 
 pub returns-in-Ok-clause-passes : goal.returns-in-Ok-clause-passes

@@ -1,7 +1,9 @@
 use Rattle.std.proofs.Common.{ap, sym, subst, ◌∙◌}
+use Rattle.qp_model.specs.problem.Parts.{design_of}
 use Rattle.qp_model.specs.problem.Policy.{plans_of}
 use Rattle.qp_model.specs.declared.design_parts.DesignParts.{DesignParts}
 use Rattle.design_engine.specs.Targets.{targets_of}
+use Rattle.design_engine.specs.Refusals.{AfterMargin}
 use Rattle.design_engine.specs.Terms.{AreTerms, plain_terms}
 use Rattle.design_engine.proofs.AnswerLaws.{handed, plain_told}
 use Rattle.design_engine.proofs.GenerationFacts.{plain_ranges}
@@ -11,19 +13,19 @@ use Rattle.design_engine.proofs.generation.made_plainly.Goals as goal
 pub returns-in_err-margin : goal.returns-in_err-margin
 returns-in_err-margin c =
     handed _ _ _ _ c.from_residual.result c.from_residual.ensures.0 c.from_residual.ensures.1
-    (margin_refused _ _ _ c.margins.result _ c.in_err-margin.was c.margins.ensures.wide c.margins.ensures.short)
+    (margin_refused (design_of c.args.design.now) (plans_of c.args.policy.now) (AfterMargin (design_of c.args.design.now) (targets_of c.args.design.now)) c.margins.result _ c.in_err-margin.was c.margins.ensures.wide c.margins.ensures.short)
 
 pub returns-in_err-r : goal.returns-in_err-r
 returns-in_err-r c =
     let margin = c.in_ok-margin.ensures in
     handed _ _ _ _ c.from_residual-in_err-r.result c.from_residual-in_err-r.ensures.0 c.from_residual-in_err-r.ensures.1
-    (multiplier_refused _ _ _ c.in_ok-margin.margin _ (record { room = margin.room; margin = margin.margin; slack = margin.slack }) c.in_err-r.ensures.value c.in_err-r.ensures.named)
+    (multiplier_refused (design_of c.args.design.now) (targets_of c.args.design.now) (plans_of c.args.policy.now) c.in_ok-margin.margin _ (record { room = margin.room; margin = margin.margin; slack = margin.slack }) c.in_err-r.ensures.value c.in_err-r.ensures.named)
 
 pub returns-in_err-stepped : goal.returns-in_err-stepped
 returns-in_err-stepped c =
     let margin = c.in_ok-margin.ensures in
     handed _ _ _ _ c.from_residual-in_err-stepped.result c.from_residual-in_err-stepped.ensures.0 c.from_residual-in_err-stepped.ensures.1
-    (λ e f. rw f (form_caused _ _ _ c.in_ok-margin.margin (record { room = margin.room; margin = margin.margin; slack = margin.slack }) c.in_ok-r.ensures.value.0 _ c.in_err-stepped.ensures.refused))
+    (λ e f. rw f (form_caused (design_of c.args.design.now) (targets_of c.args.design.now) (plans_of c.args.policy.now) c.in_ok-margin.margin (record { room = margin.room; margin = margin.margin; slack = margin.slack }) c.in_ok-r.ensures.value.0 _ c.in_err-stepped.ensures.refused))
 
 -- ---- what is made
 pub plain_terms-terms-requires-clause-design : goal.plain_terms-terms-requires-clause-design
