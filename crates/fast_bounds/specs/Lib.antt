@@ -1,2 +1,3 @@
 pub mod FastDesign
 pub mod FastCertified
+pub mod FastRefusals

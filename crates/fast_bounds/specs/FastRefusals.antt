@@ -1,0 +1,95 @@
+-- Why a design with a policy and reference plans has no controller of the accelerated machine: the first of these tests, in their order, that it fails. They are those of a lean
+-- controller, with the numbers of this machine; the exponents of the rows, which the errors of a run are made of, refuse nothing.
+use Rattle.std.specs.Prelude.{◌≡◌, ℕ, ◌^◌, ◌<◌, ◌≤◌, pos, List, unsigned_abs}
+use Rattle.qp_model.specs.form.Class.{form_of}
+use Rattle.qp_model.specs.form.Columns.{descent_size}
+use Rattle.qp_model.specs.problem.Design.{Design}
+use Rattle.qp_model.specs.problem.Policy.{Plans}
+use Rattle.qp_model.specs.bounds.Errors.{epsilon}
+use Rattle.qp_model.specs.declared.bounds.Margin.{Margin}
+use Rattle.qp_model.specs.declared.quantity.Quantity.TheVariants.{Multiplier, Excess, Error, Descent, Width}
+use Rattle.controller_maker.specs.Widest.{fast_width_size}
+use Rattle.hessian_check.specs.Steps.{IsExponentOf}
+use Rattle.hessian_check.specs.RowExponents.{AreExponentsOf}
+use Rattle.dual_bounds.specs.FastSteps.{IsFastStepCount, fast_multiplier_size}
+use Rattle.step_error.specs.Choice.{IsChoice}
+use Rattle.step_error.specs.CarriedErrors.{run_sums_of, run_error_size}
+use Rattle.design_engine.specs.Targets.{Targets, floor_target}
+use Rattle.design_engine.specs.Stages.{Nothing, Next, Sized, Finds, OfForm, OfCorners}
+use Rattle.design_engine.specs.Tests.{PassesForm}
+use Rattle.design_engine.specs.Refusals.{PassesMargin}
+use Rattle.design_engine.specs.declared.aimed.Aim.{Aim}
+use Rattle.lean_engine.specs.Refusals.{policy_excess, policy_excess_size, aim_at}
+use Rattle.overflow_check.specs.FastController.{most_fast_steps}
+use Rattle.qp_model.specs.declared.refusal.Refusal.{Refusal}
+use Rattle.qp_model.specs.declared.refusal.Refusal.TheVariants.{TooManySteps, TooFine}
+
+-- ---- an aim, with the step exponent s
+-- k steps are as many as the aim asks for
+abbrev pub AreStepsFor : Aim → (s k : ℕ) → Type 0
+AreStepsFor a s = IsFastStepCount s (unsigned_abs a.r) (unsigned_abs a.step_target)
+
+-- f bits are the least with which the errors of a run of k steps cost no more than the aim lets them, where the rows have these exponents
+abbrev pub AreFastBitsOf : Design → Aim → (s k : ℕ) → List ℕ → ℕ → Type 0
+AreFastBitsOf d a s k exponents = IsChoice (run_sums_of d (form_of d) (unsigned_abs a.r) k s exponents) d.grid (unsigned_abs a.error_target)
+
+-- what the errors of such a run cost at f bits, over 2^40
+abbrev pub fast_stated_cost : Design → (r s k : ℕ) → List ℕ → ℕ → ℕ
+fast_stated_cost d r s k exponents = epsilon (run_sums_of d (form_of d) r k s exponents)
+
+-- the tests of the systems and the sums
+abbrev pub AfterFastBits : Design → Aim → (s k f : ℕ) → Refusal → Type 0
+AfterFastBits d a s k f = Sized Descent (descent_size (form_of d) f) (Sized Width (fast_width_size d (unsigned_abs a.r) s k f) Nothing)
+
+-- even at 48 bits the errors of a run are above the limit: what they are there is told
+abbrev pub IsFastFine : Design → Aim → (s k : ℕ) → List ℕ → Refusal → Type 0
+IsFastFine d a s k exponents e = (e ≡ TooFine (pos (fast_stated_cost d (unsigned_abs a.r) s k exponents 48)))
+    × (unsigned_abs a.error_target < fast_stated_cost d (unsigned_abs a.r) s k exponents 48)
+
+-- the tests of the errors and the bits
+abbrev pub AfterExponents : Design → Aim → (s k : ℕ) → List ℕ → Refusal → Type 0
+AfterExponents d a s k exponents = Sized Error (run_error_size d (form_of d) (unsigned_abs a.r) k s exponents)
+    (Finds ℕ (IsFastFine d a s k exponents) (AreFastBitsOf d a s k exponents) (AfterFastBits d a s k))
+
+-- the steps are more than 65534: their number is told
+abbrev pub IsFastLong : Aim → ℕ → Refusal → Type 0
+IsFastLong a s e = (k : ℕ) × (e ≡ TooManySteps (pos k)) × (AreStepsFor a s k × (most_fast_steps < k))
+
+-- why the aim is missed
+abbrev pub HasFastAimCause : Design → Aim → ℕ → Refusal → Type 0
+HasFastAimCause d a s = Finds ℕ (IsFastLong a s) (λ k. AreStepsFor a s k × (k ≤ most_fast_steps))
+    (λ k. Finds (List ℕ) Nothing (AreExponentsOf d s) (AfterExponents d a s k))
+
+-- ---- a design with a policy and reference plans
+-- the quantity `multiplier`, of the margin m
+abbrev pub fast_multiplier_size_at : Design → Targets → (plans references : Plans) → Margin → ℕ
+fast_multiplier_size_at d t plans references m = fast_multiplier_size (unsigned_abs m.units) (policy_excess d plans references) (floor_target t)
+
+-- the tests after the step exponent: of the excess, of R, and of the aim
+abbrev pub AfterFastExponent : Design → Targets → (plans references : Plans) → Margin → ℕ → Refusal → Type 0
+AfterFastExponent d t plans references m s = Sized Excess (policy_excess_size d plans references) (Sized Multiplier (fast_multiplier_size_at d t plans references m)
+    (HasFastAimCause d (aim_at d t plans references m) s))
+
+-- Why this refusal is the answer. Out of memory has no cause in the design, the policy and the reference plans.
+abbrev pub HasFastCause : Design → Targets → (plans references : Plans) → Refusal → Type 0
+HasFastCause d t plans references = OfCorners d plans (λ m. OfForm d (AfterFastExponent d t plans references m))
+
+-- ---- how far a design with a policy and reference plans gets
+-- its steps, the exponents of its rows and its bits are those of the aim, and the systems and the controller's sums are within their limits
+pub record PassesFastAim (d : Design) (a : Aim) (s k : ℕ) (exponents : List ℕ) (f : ℕ) : Type 0 where
+  pub steps : AreStepsFor a s k
+  pub few : k ≤ most_fast_steps
+  pub exponents : AreExponentsOf d s exponents
+  pub error : run_error_size d (form_of d) (unsigned_abs a.r) k s exponents ≤ 2 ^ 126
+  pub choice : AreFastBitsOf d a s k exponents f
+  pub descent : descent_size (form_of d) f ≤ 2 ^ 126
+  pub width : fast_width_size d (unsigned_abs a.r) s k f ≤ 2 ^ 126
+
+-- it passes every test: the corners have the margin m, the form has the step exponent s, and the excess and R are within their limits
+pub record PassesFast (d : Design) (t : Targets) (plans references : Plans) (m : Margin) (s k : ℕ) (exponents : List ℕ) (f : ℕ) : Type 0 where
+  pub margin : PassesMargin d t plans m
+  pub form : PassesForm d
+  pub exponent : IsExponentOf d s
+  pub excess : policy_excess_size d plans references ≤ 2 ^ 126
+  pub multiplier : fast_multiplier_size_at d t plans references m ≤ 2 ^ 126
+  pub aim : PassesFastAim d (aim_at d t plans references m) s k exponents f
