@@ -95,12 +95,12 @@ module _ (d : Design) (plans : Plans) (after : Margin → Refusal → Type 0) wh
   roomy : (e : Refusal) → HasCornerRoom d plans → Finds Margin (IsShort d plans) (IsWideMargin d plans) after e → OfCorners d plans after e
   roomy e h a = inr (h.prediction, inr (h.slack, inr (h.cost, a)))
 
-  pub short_told : (corner row : ℕ) (slack : Frac) → HasCornerRoom d plans → IsFirstShort d plans corner row slack → OfCorners (NoMargin corner row slack)
+  pub short_told : (corner row : ℕ) (slack : Frac) → HasCornerRoom d plans → IsFirstShort d plans corner row slack → OfCorners d plans after (NoMargin corner row slack)
   short_told corner row slack h short = roomy _ h (inl (corner, row, slack, refl, short))
 
-  pub corner_told : (quantity : Quantity) → IsFirstWideCorner d plans quantity → OfCorners (TooWide quantity)
+  pub corner_told : (quantity : Quantity) → IsFirstWideCorner d plans quantity → OfCorners d plans after (TooWide quantity)
   corner_told =
-      wide_corner d (λ quantity. OfCorners (TooWide quantity)) plans (λ h. inl (refl, h)) (λ h. inr (h.0, inl (refl, h.1)))
+      wide_corner d (λ quantity. OfCorners d plans after (TooWide quantity)) plans (λ h. inl (refl, h)) (λ h. inr (h.0, inl (refl, h.1)))
       (λ h. inr (h.0, inr (h.1.0, inl (refl, h.1.1))))
 
   pub corner_passed : (e : Refusal) (m : Margin) → HasCornerRoom d plans → IsMargin d plans m → pos 1 ≤ℤ m.units → after m e → OfCorners d plans after e
