@@ -40,8 +40,8 @@ use Rattle.step_error.proofs.MachineScales.{scale_is, power_positive, most_over,
 use Rattle.step_error.proofs.MachineSteps.{units, gradient_over, misses_over, slant_scaled}
 use Rattle.step_error.proofs.Slopes.{within_factor, within_same}
 use Rattle.step_error.proofs.StepErrors.{slant_same}
-use Rattle.fast_method.specs.Fast.{HasEvenErrors}
-use Rattle.fast_method.proofs.WeightLaws.{carry_law}
+use Rattle.fast_machine.specs.Fast.{HasEvenErrors}
+use Rattle.fast_machine.proofs.WeightLaws.{carry_law}
 use Rattle.overflow_check.specs.FastMachine.{all_weights, step_weight, mean_at, means_of, mean_divisor, fast_after, fast_plan, fast_denominator}
 use Rattle.overflow_check.specs.FastController.{with_last_version, IsFastController}
 use Rattle.fast_machine.specs.FastErrors.{fast_scale, made_after, plan_factor, fast_plan_over, fast_means_over, fast_residuals_over, step_scale, mean_misses, HasFastErrors, IsFastRunOf, fast_average_over}

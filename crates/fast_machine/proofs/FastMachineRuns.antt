@@ -8,13 +8,13 @@ use Rattle.integer_algebra.proofs.OrderLaws.{le_by, cancel-le_z, mul_nonneg_z, m
 use Rattle.std.proofs.lemmas.Int.{ints}
 use Rattle.qp_model.specs.method.Objective.{Objective, bend, twice_cost}
 use Rattle.qp_model.specs.method.Dual.{Program, row_residual, IsConditioned}
-use Rattle.fast_method.proofs.FastEvenLaws.{even_law}
+use Rattle.fast_machine.proofs.FastEvenLaws.{even_law}
 use Rattle.integer_algebra.proofs.Quoting.{by_ring, quotes}
 use Rattle.qp_model.specs.machine.Controller.{Numbers}
 use Rattle.qp_model.specs.machine.Machine.{loaded, lowering_of, plan_entry, plan_of}
 use Rattle.qp_model.proofs.MagnitudeLaws.{zeros_at}
-use Rattle.fast_method.specs.Fast.{weight, weights, weighted, IsFastRun, run_errors, FastRunBound}
-use Rattle.fast_method.proofs.FastRunLaws.{run_law}
+use Rattle.fast_machine.specs.Fast.{weight, weights, weighted, IsFastRun, run_errors, FastRunBound}
+use Rattle.fast_machine.proofs.FastRunLaws.{run_law}
 use Rattle.overflow_check.specs.FastMachine.{step_weight, all_weights, means_of, fast_after}
 use Rattle.fast_machine.specs.FastErrors.{fast_scale, made_after, plan_factor, fast_plan_over, fast_residuals_over, fast_multipliers_over, step_scale, HasFastErrors, IsFastRunOf, fast_average_over, BoundsAverage, FastPlanBound, FastAverageLaw, FastMachineRunLaw, FastMachineEvenLaw, FastCostLaw}
 use Rattle.fast_machine.proofs.FastRuns.{added_item}

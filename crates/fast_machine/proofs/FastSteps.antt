@@ -20,7 +20,7 @@ use Rattle.qp_model.specs.method.Dual.{Program, row_residual}
 use Rattle.qp_model.specs.machine.Controller.{Numbers}
 use Rattle.qp_model.specs.machine.Machine.{loaded, exponent_of, lowering_of, row_sum}
 use Rattle.qp_model.proofs.MagnitudeLaws.{zeros_at}
-use Rattle.fast_method.specs.Fast.{weight, weights, weighted}
+use Rattle.fast_machine.specs.Fast.{weight, weights, weighted}
 use Rattle.overflow_check.specs.FastMachine.{step_weight, all_weights, mean_divisor, fast_top, mean_at, moved_multipliers, fast_after}
 use Rattle.fast_machine.specs.FastErrors.{fast_scale, made_after, fast_plan_over, fast_means_over, fast_residuals_over, fast_multipliers_over, step_scale, mean_misses, FastMachineStepLaw}
 use Rattle.fast_machine.proofs.WeightSums.{more_weights, divisor_twice}

@@ -1,6 +1,13 @@
 -- The lemmas by topic.
 
--- ---- weights
+-- ---- the method: weights and averages by them, one step, a run, a run with the same bounds at each step
+pub mod WeightLaws
+pub mod MeanLaws
+pub mod FastStepLaws
+pub mod FastRunLaws
+pub mod FastEvenLaws
+mod FastExample
+-- ---- the weights of the machine
 pub mod WeightSums
 -- ---- what a run keeps
 pub mod FastRuns

@@ -9,7 +9,7 @@ use Rattle.qp_model.specs.method.Objective.{gradient, twice_cost}
 use Rattle.qp_model.specs.method.Dual.{InBox, Program, row_residual, IsFeasiblePoint, IsConditioned}
 use Rattle.qp_model.specs.machine.Controller.{Numbers}
 use Rattle.qp_model.specs.machine.Machine.{IsAdmissible, loaded, exponent_of, lowering_of, row_sum}
-use Rattle.fast_method.specs.Fast.{weight, weights, weighted, IsFastStep, run_errors, HasEvenErrors}
+use Rattle.fast_machine.specs.Fast.{weight, weights, weighted, IsFastStep, run_errors, HasEvenErrors}
 use Rattle.overflow_check.specs.FastMachine.{FastIterate, all_weights, fast_after, fast_plan}
 use Rattle.overflow_check.specs.FastController.{IsFastController}
 

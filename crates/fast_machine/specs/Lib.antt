@@ -1,3 +1,4 @@
+pub mod Fast
 pub mod FastReady
 pub mod FastValues
 pub mod FastErrors

@@ -1,7 +1,5 @@
-//! The laws of an accelerated projected dual gradient method with inexact steps, for any quadratic program.
-#![tactic(auto)]
-
-ghost use Rattle.fast_method.specs.Fast.{WeightsLaw, StartLaw, CarryLaw, FastStepLaw, FastRunLaw, FastEvenLaw};
+// The laws of an accelerated projected dual gradient method with inexact steps, for any quadratic program.
+ghost use Rattle.fast_machine.specs.Fast.{WeightsLaw, StartLaw, CarryLaw, FastStepLaw, FastRunLaw, FastEvenLaw};
 
 /// The weights of n steps come to n (n + 3) / 2, no weight's square is above twice all weights with it, and by how much an error accumulates.
 pub fn weights_law()

@@ -14,7 +14,7 @@ use Rattle.qp_model.specs.method.Dual.{InBox, row_residual, distance}
 use Rattle.qp_model.proofs.ObjectiveLaws.{expands_to}
 use Rattle.qp_model.proofs.MethodRowLaws.{row_step}
 use Rattle.qp_model.proofs.StepLaws.{stays}
-use Rattle.fast_method.specs.Fast.{FastStepLaw}
+use Rattle.fast_machine.specs.Fast.{FastStepLaw}
 
 -- ---- one row, one entry
 -- the square of a row's step against n times the row's move

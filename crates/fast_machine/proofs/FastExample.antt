@@ -5,8 +5,8 @@ use Rattle.std.specs.Int.Signed.{≤ℤ_refl}
 use Rattle.integer_algebra.proofs.OrderLaws.{le_by}
 use Rattle.integer_algebra.proofs.Quoting.{by_ring, quotes}
 use Rattle.qp_model.specs.method.Dual.{Program, IsConditioned}
-use Rattle.fast_method.specs.Fast.{weight, weights, weighted, IsFastStep, IsFastRun}
-use Rattle.fast_method.proofs.FastRunLaws.{run_law}
+use Rattle.fast_machine.specs.Fast.{weight, weights, weighted, IsFastStep, IsFastRun}
+use Rattle.fast_machine.proofs.FastRunLaws.{run_law}
 
 abbrev example : Program
 example = record {

@@ -1,5 +1,5 @@
-use Rattle.fast_method.proofs.WeightLaws as laws
-use Rattle.fast_method.proofs.weights_law.Goals as goal
+use Rattle.fast_machine.proofs.WeightLaws as laws
+use Rattle.fast_machine.proofs.method.weights_law.Goals as goal
 
 pub returns-clause-sum : goal.returns-clause-sum
 returns-clause-sum c = laws.weights_law

@@ -6,9 +6,9 @@ use Rattle.integer_algebra.proofs.OrderLaws.{le_trans_z, le_of_lt_z, add-le-add_
 use Rattle.integer_algebra.proofs.SumLaws.{total_add, total_scale, total_mono, total_nonneg}
 use Rattle.integer_algebra.proofs.Quoting.{by_ring, quotes}
 use Rattle.qp_model.specs.method.Dual.{Program}
-use Rattle.fast_method.specs.Fast.{weight, weights, carried, run_errors, HasEvenErrors, FastEvenLaw}
-use Rattle.fast_method.proofs.WeightLaws.{weight_nonneg, weights_nonneg}
-use Rattle.fast_method.proofs.FastRunLaws.{run_law}
+use Rattle.fast_machine.specs.Fast.{weight, weights, carried, run_errors, HasEvenErrors, FastEvenLaw}
+use Rattle.fast_machine.proofs.WeightLaws.{weight_nonneg, weights_nonneg}
+use Rattle.fast_machine.proofs.FastRunLaws.{run_law}
 
 -- ---- the errors
 -- of one step, at numbers alone: n are the weights with its own

@@ -6,7 +6,7 @@ use Rattle.integer_algebra.proofs.OrderLaws.{le_by, mul-le-mul_left_z, cancel-le
 use Rattle.integer_algebra.proofs.SumLaws.{total_nonneg}
 use Rattle.integer_algebra.proofs.RingLaws.{same_by, add_equations}
 use Rattle.integer_algebra.proofs.Quoting.{by_ring, quotes}
-use Rattle.fast_method.specs.Fast.{weight, weights, carried, WeightsLaw, StartLaw, CarryLaw}
+use Rattle.fast_machine.specs.Fast.{weight, weights, carried, WeightsLaw, StartLaw, CarryLaw}
 
 pub weight_positive : (k : ℕ) → pos 0 <ℤ weight k
 weight_positive k = omega (arith, ints)

@@ -10,10 +10,10 @@ use Rattle.integer_algebra.proofs.VectorLaws.{dot_comm, dot_none, dot_same, imag
 use Rattle.integer_algebra.proofs.Quoting.{by_ring, quotes}
 use Rattle.qp_model.specs.method.Objective.{bend, twice_cost, IsUpward}
 use Rattle.qp_model.specs.method.Dual.{InBox, Program, row_residual, IsConditioned, distance}
-use Rattle.fast_method.specs.Fast.{weight, weights, weighted, lagrangian, step_errors, IsFastRun, run_errors, FastRunLaw}
-use Rattle.fast_method.proofs.WeightLaws.{weight_positive, weight_nonneg, weights_nonneg, start_law}
-use Rattle.fast_method.proofs.MeanLaws.{dot_weighted, convex}
-use Rattle.fast_method.proofs.FastStepLaws.{remains, step_law}
+use Rattle.fast_machine.specs.Fast.{weight, weights, weighted, lagrangian, step_errors, IsFastRun, run_errors, FastRunLaw}
+use Rattle.fast_machine.proofs.WeightLaws.{weight_positive, weight_nonneg, weights_nonneg, start_law}
+use Rattle.fast_machine.proofs.MeanLaws.{dot_weighted, convex}
+use Rattle.fast_machine.proofs.FastStepLaws.{remains, step_law}
 
 -- ---- the multipliers
 -- all multipliers of a run lie in the box
