@@ -9,8 +9,7 @@ use Rattle.text_lines.specs.declared.line.Line.{Line}
 use Rattle.text_lines.specs.Grammar.{IsBeginning}
 use Rattle.controller_text.specs.Lines.{keyed_lines}
 use Rattle.controller_file.specs.Following.{IsWhole}
-use Rattle.controller_file.proofs.Blank.{blank, blank_form, blank_fits}
-use Rattle.controller_text.proofs.Blocks.{sizes_small}
+use Rattle.controller_file.proofs.Blank.{blank, plain_blank, blank_fits}
 use Rattle.controller_file.proofs.Again.{small_is}
 use Rattle.cell_file.specs.Cells.{AreAlike}
 use Rattle.cell_file.specs.Alike.{IsAlikeLine}
@@ -33,7 +32,7 @@ same_numbers : (a b : Keyed) → a ≡ b → a.numbers ≡ b.numbers
 same_numbers a b e = ap (λ (k : Keyed). k.numbers) e
 
 version_small : (c : Numbers) → IsInForm c → small (pos c.version) ≡ c.version
-version_small c form = small_is c.version (let z = sizes_small c form in omega (arith, z.version))
+version_small c form = small_is c.version (omega (arith, form.sized.version.1))
 
 -- ---- each line of a controller that is alike is such a line
 pub alike_line : (c d : Numbers) → AreAlike c d → IsInForm d → (tail : List Keyed) (l : Keyed) (m : List Keyed) → keyed_lines d ≡ tail ++ l ∷ m → IsAlikeLine c (length tail) l.numbers
@@ -123,7 +122,7 @@ goes_alike c e own other alike [] l rest lines b h =
     let d = b.whole.numbers in
     let first : version_line d ≡ l = same_line 0 (keyed_lines d) (l ∷ b.more) (whole_lines [] l b) in
     let room : (c.states ≤ most_states d.version) × (c.stages ≤ most_stages d.version) = rw (version_small d b.whole.form) at (subst (IsAlikeLine c 0) (sym (same_numbers (version_line d) l first)) h) in
-    let form = blank_form d.version c.states c.inputs c.stages 1 b.whole.form.sized.version (own.sized.states.0, room.0) own.sized.inputs (own.sized.stages.0, room.1) (omega arith, one_row d.version) in
+    let form = plain_blank d.version c.states c.inputs c.stages 1 b.whole.form.sized.version (own.sized.states.0, room.0) own.sized.inputs (own.sized.stages.0, room.1) (omega arith, one_row d.version) in
     record {
       numbers = on_grid c.grid_bits d.version c.states c.inputs c.stages 1;
       form = on_grid_form c.grid_bits d.version c.states c.inputs c.stages 1 own.sized.grid_bits form;
@@ -138,7 +137,7 @@ goes_alike c e own other alike (a ∷ []) l rest lines b h =
     let first : version_line d ≡ a = same_line 0 (keyed_lines d) (a ∷ l ∷ b.more) (whole_lines (a ∷ []) l b) in
     let sizes : (pos d.states ≡ pos c.states) × (pos d.inputs ≡ pos c.inputs) × (pos d.stages ≡ pos c.stages) = subst (IsAlikeLine c 1) (sym (same_numbers (size_line d) l second)) h in
     let s = b.whole.form.sized in
-    let form = blank_form d.version d.states d.inputs d.stages d.rows s.version s.states s.inputs s.stages s.rows in
+    let form = plain_blank d.version d.states d.inputs d.stages d.rows s.version s.states s.inputs s.stages s.rows in
     record {
       numbers = on_grid c.grid_bits d.version d.states d.inputs d.stages d.rows;
       form = on_grid_form c.grid_bits d.version d.states d.inputs d.stages d.rows own.sized.grid_bits form;

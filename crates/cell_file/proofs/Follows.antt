@@ -12,7 +12,7 @@ use Rattle.text_lines.specs.Blocks.{chained}
 use Rattle.text_lines.specs.Grammar.{IsBeginning}
 use Rattle.controller_text.specs.Lines.{keyed_lines}
 use Rattle.controller_file.specs.Following.{IsWhole}
-use Rattle.controller_file.proofs.Beginnings.{grown}
+use Rattle.text_lines.proofs.Beginnings.{grown}
 use Rattle.controller_file.proofs.Blank.{all_same}
 use Rattle.cell_file.specs.Cells.{AreAlike, AreCells}
 use Rattle.cell_file.specs.Alike.{IsAlikeLine}
@@ -210,7 +210,8 @@ module _ (ls : List Keyed) (p : Place) (placed : Placed ls p) (some : 0 < length
       let e = wider l g in
       let lt = there cells (l ∷ g.more) g.whole.are e not in
       let m = line_there cells ls g.more p l blank_one e (placed cells (l ∷ g.more) g.whole.are e) lt in
-      grown (drop p.start ls) l (get_or cells p.cells blank_one) m.0 (g.whole.are.form p.cells blank_one lt) (g.whole.are.word p.cells blank_one lt) m.1
+      let c = get_or cells p.cells blank_one in
+      grown IsWhole (drop p.start ls) l m.0 (keyed_lines c) (record { numbers = c; form = g.whole.are.form p.cells blank_one lt; word = g.whole.are.word p.cells blank_one lt; lines = refl }) m.1
 
   -- ---- and like the first
   first_there : (cells : List Numbers) (k : ℕ) → 0 < k → k ≤ length cells → suc (length (keyed_lines (get_or cells 0 blank_one))) ≤ lines_before cells k

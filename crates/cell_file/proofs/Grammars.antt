@@ -16,7 +16,8 @@ use Rattle.text_lines.proofs.Beginnings.{begins}
 use Rattle.text_lines.proofs.Chained.{all_append, all_chained}
 use Rattle.text_lines.proofs.Good.{natural_fits, good}
 use Rattle.controller_text.specs.Lines.{keyed_lines}
-use Rattle.controller_file.proofs.Blank.{blank, blank_form, blank_fits, all_same}
+use Rattle.controller_file.proofs.Blank.{blank, plain_blank, blank_fits, all_same}
+use Rattle.controller_text.proofs.Forms.{plain_form}
 use Rattle.controller_text.proofs.Blocks.{few_lines}
 use Rattle.controller_text.proofs.Texts.{good_lines}
 use Rattle.cell_file.specs.Cells.{AreAlike, AreCells}
@@ -27,7 +28,7 @@ abbrev one_blank : Numbers
 one_blank = blank 1 1 1 1 1
 
 blank_is : IsInForm one_blank
-blank_is = blank_form 1 1 1 1 1 (omega arith, omega arith) (omega arith, omega arith) (omega arith, omega arith) (omega arith, omega arith) (omega arith, omega arith)
+blank_is = plain_blank 1 1 1 1 1 (omega arith, omega arith) (omega arith, omega arith) (omega arith, omega arith) (omega arith, omega arith) (omega arith, omega arith)
 
 blanks_alike : (n i : ℕ) (c : Numbers) → i < length (replicate n one_blank) → AreAlike (get_or (replicate n one_blank) 0 c) (get_or (replicate n one_blank) i c)
 blanks_alike n i c lt =
@@ -87,7 +88,7 @@ nothing = begins IsCellsWhole 0 (cells_lines (replicate 1 one_blank)) (record { 
 
 each_good : (cells : List Numbers) → AllByRecursion IsInForm cells → AllByRecursion FitsWord cells → AllByRecursion (AllByRecursion IsKeyedLine) (map keyed_lines cells)
 each_good [] form word = tt
-each_good (c ∷ cells) form word = (recursion_from_All IsKeyedLine (keyed_lines c) (good_lines c form.0 word.0), each_good cells form.1 word.1)
+each_good (c ∷ cells) form word = (recursion_from_All IsKeyedLine (keyed_lines c) (good_lines c (plain_form c form.0) word.0), each_good cells form.1 word.1)
 
 pub cells_good : (cells : List Numbers) → AreCells cells → All IsKeyedLine (cells_lines cells)
 cells_good cells are =
@@ -100,7 +101,7 @@ cells_good cells are =
 
 few_chained : (cells : List Numbers) → AllByRecursion IsInForm cells → length (chained (map keyed_lines cells)) ≤ length cells * 936
 few_chained [] form = omega arith
-few_chained (c ∷ cells) form = omega (arith, length-append (keyed_lines c) (chained (map keyed_lines cells)), few_lines c form.0, few_chained cells form.1)
+few_chained (c ∷ cells) form = omega (arith, length-append (keyed_lines c) (chained (map keyed_lines cells)), few_lines c (plain_form c form.0), few_chained cells form.1)
 
 pub cells_few : (cells : List Numbers) → AreCells cells → length (cells_lines cells) ≤ 60000
 cells_few cells are =

@@ -1,5 +1,5 @@
 -- How long a text of cells is at most.
-use Rattle.std.proofs.Common.{ℕ, suc, ◌+◌, ◌*◌, ◌≤◌, pos, List, [], ◌∷◌, ◌++◌, length, ap, arith}
+use Rattle.std.proofs.Common.{ℕ, suc, ◌*◌, ◌≤◌, pos, List, [], ◌∷◌, ◌++◌, length, ap, arith}
 use Rattle.std.specs.Prelude.{All, codes}
 use Rattle.std.specs.List.{flat_map}
 use Rattle.std.proofs.lemmas.List.{length-append}
@@ -9,6 +9,7 @@ use Rattle.qp_model.specs.text.ControllerText.{controller_text}
 use Rattle.text_lines.proofs.Good.{natural_fits}
 use Rattle.text_lines.proofs.Lengths.{line_length, text_length, number_short}
 use Rattle.controller_text.specs.Laws.{text_limit}
+use Rattle.controller_text.proofs.Forms.{plain_form}
 use Rattle.controller_text.proofs.Lengths.{short_text}
 use Rattle.cell_file.specs.Laws.{CellsLengthLaw}
 
@@ -18,7 +19,7 @@ texts_short (c ∷ cells) form word =
     omega (
       arith,
       length-append (controller_text c) (flat_map controller_text cells),
-      short_text c (form 0 c (omega arith)) (word 0 c (omega arith)),
+      short_text c (plain_form c (form 0 c (omega arith))) (word 0 c (omega arith)),
       texts_short cells (λ k d lt. form (suc k) d (omega (arith, lt))) (λ k d lt. word (suc k) d (omega (arith, lt))),
     )
 

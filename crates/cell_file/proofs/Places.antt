@@ -11,8 +11,9 @@ use Rattle.cell_file.proofs.Chains.{at_cell, at_end, before_next}
 use Rattle.cell_file.proofs.Alikes.{version_line, size_line}
 use Rattle.controller_file.proofs.Again.{small_is}
 use Rattle.controller_file.proofs.Blank.{blank}
+use Rattle.controller_text.proofs.Forms.{plain_form}
 use Rattle.controller_text.proofs.Blocks.{same_sizes, line_count}
-use Rattle.controller_file.specs.Following.{IsWhole}
+use Rattle.controller_file.specs.Following.{IsAnyWhole}
 use Rattle.controller_text.specs.Table.{text_table, Says}
 use Rattle.controller_text.specs.declared.layout.Sizes.{Sizes}
 use Rattle.integer_algebra.specs.Sums.{at}
@@ -89,12 +90,12 @@ slice_views lines s =
     let two : s + 2 - s ≡ 2 = omega arith in
     ap (λ (n : ℕ). views (take n (drop s lines))) two ∙ sym (take-map view 2 (drop s lines)) ∙ ap (take 2) (sym (drop-map view s lines))
 
-pub two_begin : (lines : List Line) (s : ℕ) → s + 2 ≤ length lines → BeginsCell (drop s (views lines)) → IsBeginning IsWhole (views (take (s + 2 - s) (drop s lines)))
+pub two_begin : (lines : List Line) (s : ℕ) → s + 2 ≤ length lines → BeginsCell (drop s (views lines)) → IsBeginning IsAnyWhole (views (take (s + 2 - s) (drop s lines)))
 two_begin lines s long b =
     let c = b.numbers in
     let some : 2 ≤ length (drop s (views lines)) = omega (arith, length-drop s (views lines), length-map lines view, long) in
-    subst (IsBeginning IsWhole) (sym (slice_views lines s ∙ two_lines c (drop s (views lines)) b.more b.rest some b.lines))
-    (begins IsWhole 2 (keyed_lines c) (record { numbers = c; form = b.form; word = b.word; lines = refl }))
+    subst (IsBeginning IsAnyWhole) (sym (slice_views lines s ∙ two_lines c (drop s (views lines)) b.more b.rest some b.lines))
+    (begins IsAnyWhole 2 (keyed_lines c) (record { numbers = c; form = plain_form c b.form; word = b.word; lines = refl }))
 
 pub end_is : (lines : List Line) (s : ℕ) (z : Sizes) (count : ℕ) (c : Numbers) (more rest : List Keyed) → s + 2 ≤ length lines → Says (views (take (s + 2 - s) (drop s lines))) z → count ≡ total_rows (text_table z) →
     IsInForm c → drop s (views lines) ++ more ≡ keyed_lines c ++ rest → count ≡ length (keyed_lines c)
@@ -103,7 +104,7 @@ end_is lines s z count c more rest long says is form e =
     let two = slice_views lines s ∙ two_lines c (drop s (views lines)) more rest some e in
     let said : Says (version_line c ∷ size_line c ∷ []) z = subst (λ (ks : List Keyed). Says ks z) two says in
     let same = same_sizes c z (cc (said.version (omega arith))) (said.sizes (omega arith)) in
-    is ∙ ap (λ (y : Sizes). total_rows (text_table y)) (sym same) ∙ sym (line_count c form)
+    is ∙ ap (λ (y : Sizes). total_rows (text_table y)) (sym same) ∙ sym (line_count c (plain_form c form))
 
 -- ---- as the code has them
 pub tail_views : (lines : List Line) (s : ℕ) → views (take (length lines - s) (drop s lines)) ≡ drop s (views lines)

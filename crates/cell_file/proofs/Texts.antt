@@ -17,6 +17,7 @@ use Rattle.controller_text.specs.Table.{text_table, sizes_of}
 use Rattle.controller_text.specs.declared.layout.Sizes.{Sizes}
 use Rattle.controller_text.specs.declared.bad_controller.BadController.{BadController}
 use Rattle.controller_text.specs.declared.bad_controller.BadController.TheVariants.{Memory, Unsafe, Line}
+use Rattle.controller_text.proofs.Forms.{plain_form}
 use Rattle.controller_text.proofs.Blocks.{same_sizes, line_count}
 use Rattle.controller_text.proofs.Texts.{keyed_text}
 use Rattle.controller_file.proofs.Uniqueness.{one_choice}
@@ -62,10 +63,10 @@ one_cell c d form other more rest e =
     let second : size_line c ≡ size_line d = ap (λ (ks : List Keyed). get_or ks 1 no_line) e in
     let one : pos c.version ∷ [] ≡ pos d.version ∷ [] = ap (λ (k : Keyed). k.numbers) first in
     let sizes = same_sizes c (sizes_of d) (cc one) (ap (λ (k : Keyed). k.numbers) second) in
-    let long : length (keyed_lines c) ≡ length (keyed_lines d) = line_count c form ∙ ap (λ (z : Sizes). total_rows (text_table z)) sizes ∙ sym (line_count d other) in
+    let long : length (keyed_lines c) ≡ length (keyed_lines d) = line_count c (plain_form c form) ∙ ap (λ (z : Sizes). total_rows (text_table z)) sizes ∙ sym (line_count d (plain_form d other)) in
     let lines : keyed_lines c ≡ keyed_lines d = sym (take_at (keyed_lines c) more (length (keyed_lines d)) long) ∙ ap (take (length (keyed_lines d))) e ∙ take_at (keyed_lines d) rest (length (keyed_lines d)) refl in
     let left : more ≡ rest = sym (drop_at (keyed_lines c) more (length (keyed_lines d)) long) ∙ ap (drop (length (keyed_lines d))) e ∙ drop_at (keyed_lines d) rest (length (keyed_lines d)) refl in
-    (one_choice c d form other lines, left)
+    (one_choice c d (plain_form c form) (plain_form d other) lines, left)
 
 -- of as many cells, and lines behind those of the first
 same_rest : (xs ys : List Numbers) (more : List Keyed) → All IsInForm xs → All IsInForm ys → length xs ≡ length ys → rest_lines xs ++ more ≡ rest_lines ys → (xs ≡ ys) × (more ≡ [])

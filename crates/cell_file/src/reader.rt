@@ -10,7 +10,7 @@ ghost use Rattle.cell_file.specs.Text.{IsCellsText, IsBadCellsLine, AreUnsafe};
 
 use crate::grammar::CellsGrammar;
 use crate::place::{count_in, end_from};
-use controller_file::parts_of;
+use controller_file::{parts_of, safe};
 use controller_text::BadController;
 use overflow_check::Controller;
 use std::alloc::{AllocError, Global};
@@ -73,8 +73,5 @@ fn controller_of(alloc: Global, lines: &[Line]) -> Result<Controller, BadControl
     ensures fault { IfErr result (IsNoneOf (views lines.now)) }
 {
     let parts = parts_of(alloc, lines)?;
-    match Controller::from_parts(parts) {
-        Ok(controller) => Ok(controller),
-        Err(_) => Err(BadController::Unsafe),
-    }
+    safe(parts)
 }

@@ -7,7 +7,8 @@ use Rattle.std.proofs.lemmas.Bool.Decides.{nat_tests}
 use Rattle.std.proofs.lemmas.List.Elements.{recursion_from_All}
 use Rattle.mat_int.specs.Matrix.{Matrix}
 use Rattle.qp_model.specs.problem.Range.{LiesIn}
-use Rattle.qp_model.specs.machine.Controller.{Numbers, HasShape, IsInForm}
+use Rattle.qp_model.specs.machine.Controller.{Numbers, HasShape}
+use Rattle.controller_text.specs.TextForm.{plain_version, IsTextForm}
 use Rattle.text_lines.specs.Lines.{keyed_line, line_in, small}
 use Rattle.text_lines.specs.Blocks.{row_lines}
 use Rattle.controller_text.specs.Lines.{keyed_exponents, line_blocks}
@@ -34,14 +35,19 @@ matrix_is key a height breadth cols h e =
     let rows = rows_are key a.rows in
     (λ i. record { cols = width i; rows = rows i })
 
-exponents_are : (version m s : ℕ) (exps : List ℕ) → LiesIn 1 2 version → (version ≡ 1 → exps ≡ replicate m s) → All (λ e. e < 2 ^ 32) exps
+exponents_are : (version m s : ℕ) (exps : List ℕ) → LiesIn 1 3 version → (version ≡ 1 → exps ≡ replicate m s) → All (λ e. e < 2 ^ 32) exps
     → (if version == 1 then replicate m s else map small (line_in (if version == 1 then [] else keyed_line (codes "exps") (map pos exps) ∷ []) 0)) ≡ exps
 exponents_are zero m s exps h same all = absurd (omega (arith, h.0))
 exponents_are (suc zero) m s exps h same all = sym (same refl)
 exponents_are (suc (suc zero)) m s exps h same all = smalls_are exps (recursion_from_All (λ e. e < 2 ^ 32) exps all)
-exponents_are (suc (suc (suc n))) m s exps h same all = absurd (omega (arith, h.1))
+exponents_are (suc (suc (suc zero))) m s exps h same all = smalls_are exps (recursion_from_All (λ e. e < 2 ^ 32) exps all)
+exponents_are (suc (suc (suc (suc n)))) m s exps h same all = absurd (omega (arith, h.1))
 
-pub numbers_again : (c : Numbers) → IsInForm c → numbers_in (line_blocks c) ≡ c
+-- the exponents of the first version
+pub same_first : (c : Numbers) → IsTextForm c → c.version ≡ 1 → c.exponents ≡ replicate c.rows c.step_exponent
+same_first c form first = form.sized.same_exponents (ap plain_version first)
+
+pub numbers_again : (c : Numbers) → IsTextForm c → numbers_in (line_blocks c) ≡ c
 numbers_again c form =
     let h = form.sized.shaped in
     let k = small_form c form in
@@ -59,7 +65,7 @@ numbers_again c form =
     let words = small_is c.words k.words in
     let below : All (λ e. e < 2 ^ 32) c.exponents = λ j d lt. omega (arith, form.sized.exponents j d lt, k.step_exponent) in
     let line = line_in (if c.version == 1 then [] else keyed_line (codes "exps") (map pos c.exponents) ∷ []) 0 in
-    let exponents = (λ i. if version i == 1 then replicate (rows i) (step_exponent i) else map small line) ∙ exponents_are c.version c.rows c.step_exponent c.exponents form.sized.version form.sized.same_exponents below in
+    let exponents = (λ i. if version i == 1 then replicate (rows i) (step_exponent i) else map small line) ∙ exponents_are c.version c.rows c.step_exponent c.exponents form.version (same_first c form) below in
     let state_gains = matrix_is (codes "P") c.state_gains (c.inputs * c.stages) c.states (small (pos c.states)) h.state_gains states in
     let dual_gains = matrix_is (codes "W") c.dual_gains (c.inputs * c.stages) c.rows (small (pos c.rows)) h.dual_gains rows in
     let plan_rows = matrix_is (codes "G") c.plan_rows c.rows (c.inputs * c.stages) (small (pos c.inputs) * small (pos c.stages)) h.plan_rows (λ i. inputs i * stages i) in
@@ -67,7 +73,7 @@ numbers_again c form =
     rw (exponents, state_gains, dual_gains, plan_rows, state_rows, version, states, inputs, stages, rows, fraction_bits, grid_bits, step_exponent, width, steps, words) refl
 
 -- the exponents that stand there
-pub exponents_second : (c : Numbers) → IsInForm c → c.version ≢ 1 → map small (line_in (keyed_exponents c) 0) ≡ c.exponents
+pub exponents_second : (c : Numbers) → IsTextForm c → c.version ≢ 1 → map small (line_in (keyed_exponents c) 0) ≡ c.exponents
 exponents_second c form second =
     let line = keyed_line (codes "exps") (map pos c.exponents) in
     let below : AllByRecursion (λ e. e < 2 ^ 32) c.exponents = recursion_from_All (λ e. e < 2 ^ 32) c.exponents (λ j d lt. omega (arith, form.sized.exponents j d lt, form.sized.step_exponent)) in

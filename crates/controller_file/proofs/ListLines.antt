@@ -5,7 +5,8 @@ use Rattle.std.specs.List.{AllByRecursion}
 use Rattle.std.proofs.lemmas.List.{length-map, map-append, nil_from_length, length-take-le, take-append-drop}
 use Rattle.std.proofs.lemmas.List.Elements.{All-from_recursion, recursion_from_All}
 use Rattle.mat_int.specs.Matrix.{Matrix}
-use Rattle.qp_model.specs.machine.Controller.{Numbers, plan_length, HasShape, IsInForm, FitsWord}
+use Rattle.qp_model.specs.machine.Controller.{Numbers, plan_length, HasShape, FitsWord}
+use Rattle.controller_text.specs.TextForm.{exponent_rows, IsTextForm}
 use Rattle.controller_text.specs.declared.layout.Sizes.{Sizes}
 use Rattle.text_lines.specs.Lines.{Keyed, keyed_line, Fits, Place, place, place_of}
 use Rattle.text_lines.specs.Blocks.{row_lines, chained}
@@ -19,7 +20,7 @@ use Rattle.controller_text.proofs.Blocks.{same_sizes, blocks_placed, lines_place
 use Rattle.controller_file.proofs.Beginnings.{grown, line_is, parted}
 use Rattle.controller_file.proofs.HeadLines.{own_head, own_exponents, own_box, resized_form, tail_lines, up_to, split_at, count_to}
 use Rattle.controller_text.proofs.Texts.{good_lines, fits_word}
-use Rattle.controller_file.specs.Following.{IsWhole}
+use Rattle.controller_file.specs.Following.{IsAnyWhole}
 
 -- ---- their places
 
@@ -27,7 +28,7 @@ use Rattle.controller_file.specs.Following.{IsWhole}
 abbrev tail_places : Sizes → List Place
 tail_places z = spread (drop 9 (text_table z))
 
-tail_placed : (c : Numbers) → IsInForm c → map place_of (tail_lines c) ≡ tail_places (sizes_of c)
+tail_placed : (c : Numbers) → IsTextForm c → map place_of (tail_lines c) ≡ tail_places (sizes_of c)
 tail_placed c form = map_chained place_of
     (row_lines (codes "P") c.state_gains.rows ∷ (keyed_line (codes "T") c.offsets ∷ []) ∷ row_lines (codes "W") c.dual_gains.rows ∷ row_lines (codes "G") c.plan_rows.rows ∷
     row_lines (codes "E") c.state_rows.rows ∷ (keyed_line (codes "b") c.bounds ∷ []) ∷ (keyed_line (codes "end") [] ∷ []) ∷ [])
@@ -107,10 +108,10 @@ joined p w g e t b none r2 r3 r4 r5 r6 r7 r8 r9 t2 t3 t4 t5 t6 t7 t8 empty over 
 -- the same head and box with these lines after them
 record Remade (c : Numbers) (ms : List Keyed) : Type 0 where
   numbers : Numbers
-  form : IsInForm numbers
+  form : IsTextForm numbers
   lines : keyed_lines numbers ≡ up_to 2 c ++ ms
 
-remade : (c : Numbers) (ms : List Keyed) → IsInForm c → map place_of ms ≡ tail_places (sizes_of c) → Remade c ms
+remade : (c : Numbers) (ms : List Keyed) → IsTextForm c → map place_of ms ≡ tail_places (sizes_of c) → Remade c ms
 remade c ms form e =
     let nu = plan_length c in
     let m = c.rows in
@@ -157,24 +158,24 @@ at_line (f ∷ front) more l (suc i) len = at_line front more l i (omega (arith,
 
 -- ---- the sizes
 
-pub version_is : (ls : List Keyed) (b : IsBeginning IsWhole ls) (z : Sizes) → 0 < length ls → Says ls z → b.whole.numbers.version ≡ z.version
+pub version_is : (ls : List Keyed) (b : IsBeginning IsAnyWhole ls) (z : Sizes) → 0 < length ls → Says ls z → b.whole.numbers.version ≡ z.version
 version_is ls b z lt says =
     let one : pos b.whole.numbers.version ∷ [] ≡ pos z.version ∷ [] = ap (λ (k : Keyed). k.numbers) (line_is ls b 0 lt) ∙ says.version lt in
     cc one
 
-pub sizes_are : (ls : List Keyed) (b : IsBeginning IsWhole ls) (z : Sizes) → 1 < length ls → Says ls z → sizes_of b.whole.numbers ≡ z
+pub sizes_are : (ls : List Keyed) (b : IsBeginning IsAnyWhole ls) (z : Sizes) → 1 < length ls → Says ls z → sizes_of b.whole.numbers ≡ z
 sizes_are ls b z lt says =
     let c = b.whole.numbers in
     let four : pos c.states ∷ pos c.inputs ∷ pos c.stages ∷ pos c.rows ∷ [] ≡ pos z.n ∷ pos z.p ∷ pos z.stages ∷ pos z.m ∷ [] = ap (λ (k : Keyed). k.numbers) (line_is ls b 1 lt) ∙ says.sizes lt in
     same_sizes c z (version_is ls b z (omega (arith, lt)) says) four
 
-pub places_are : (ls : List Keyed) (b : IsBeginning IsWhole ls) (z : Sizes) → 1 < length ls → Says ls z → map place_of (ls ++ b.more) ≡ places z
+pub places_are : (ls : List Keyed) (b : IsBeginning IsAnyWhole ls) (z : Sizes) → 1 < length ls → Says ls z → map place_of (ls ++ b.more) ≡ places z
 places_are ls b z lt says = ap (map place_of) (sym b.whole.lines) ∙ lines_placed b.whole.numbers b.whole.form ∙ ap places (sizes_are ls b z lt says)
 
 -- ---- one line more
 
 -- the numbers of lines of which one is another one
-fits_swapped : (ls : List Keyed) (a l : Keyed) (more : List Keyed) (c : Numbers) → IsInForm c → FitsWord c → keyed_lines c ≡ ls ++ (a ∷ more) → Fits l → AllByRecursion Fits (ls ++ (l ∷ more))
+fits_swapped : (ls : List Keyed) (a l : Keyed) (more : List Keyed) (c : Numbers) → IsTextForm c → FitsWord c → keyed_lines c ≡ ls ++ (a ∷ more) → Fits l → AllByRecursion Fits (ls ++ (l ∷ more))
 fits_swapped ls a l more c form word e fits =
     let good = good_lines c form word in
     let all : All Fits (keyed_lines c) = λ k d lt. (good k d lt).fits in
@@ -182,13 +183,13 @@ fits_swapped ls a l more c form word e fits =
     all_append Fits ls (l ∷ more) parts.0 (fits, parts.1.1)
 
 -- where another line stands in a text in form, one with the same word and count can stand
-swapped : (ls : List Keyed) (b : IsBeginning IsWhole ls) (l a : Keyed) (others : List Keyed) → 7 + b.whole.numbers.version ≤ length ls → Fits l → b.more ≡ a ∷ others → place_of a ≡ place_of l → IsBeginning IsWhole (ls ++ l ∷ [])
+swapped : (ls : List Keyed) (b : IsBeginning IsAnyWhole ls) (l a : Keyed) (others : List Keyed) → 8 + exponent_rows b.whole.numbers.version ≤ length ls → Fits l → b.more ≡ a ∷ others → place_of a ≡ place_of l → IsBeginning IsAnyWhole (ls ++ l ∷ [])
 swapped ls b l a others le fits split place =
     let c = b.whole.numbers in
-    let k = 7 + c.version in
+    let k = 8 + exponent_rows c.version in
     let front = drop k ls in
     let begun_lines = b.whole.lines ∙ ap (λ (ms : List Keyed). ms ++ b.more) (sym (take-append-drop k ls)) ∙ append_assoc (take k ls) front b.more in
-    let begun : IsBeginning IsWhole (take k ls) = record { more = front ++ b.more; whole = record { numbers = c; form = b.whole.form; word = b.whole.word; lines = begun_lines } } in
+    let begun : IsBeginning IsAnyWhole (take k ls) = record { more = front ++ b.more; whole = record { numbers = c; form = b.whole.form; word = b.whole.word; lines = begun_lines } } in
     let parts = parted (take k ls) begun (up_to 2 c) (tail_lines c) (split_at 2 c) (omega (arith, length-take-le k ls le, count_to 2 c b.whole.form (omega arith))) in
     let tail : tail_lines c ≡ front ++ (a ∷ others) = parts.1 ∙ ap (λ (ms : List Keyed). front ++ ms) split in
     let same : map place_of (front ++ (l ∷ others)) ≡ map place_of (front ++ (a ∷ others)) =
@@ -199,8 +200,8 @@ swapped ls b l a others le fits split place =
     let all = All-from_recursion Fits (ls ++ (l ∷ others)) (fits_swapped ls a l others c b.whole.form b.whole.word (b.whole.lines ∙ ap (λ (ms : List Keyed). ls ++ ms) split) fits) in
     grown ls l d.numbers others d.form (fits_word d.numbers (subst (λ (ms : List Keyed). All Fits ms) (sym lines) all)) lines
 
-pub list_follows : (ls : List Keyed) (l : Keyed) (z : Sizes) (b : IsBeginning IsWhole ls) → 7 + b.whole.numbers.version ≤ length ls →
-    Says ls z → Fits l → slice_get (places z) (length ls) ≡ Some (place_of l) → IsBeginning IsWhole (ls ++ l ∷ [])
+pub list_follows : (ls : List Keyed) (l : Keyed) (z : Sizes) (b : IsBeginning IsAnyWhole ls) → 8 + exponent_rows b.whole.numbers.version ≤ length ls →
+    Says ls z → Fits l → slice_get (places z) (length ls) ≡ Some (place_of l) → IsBeginning IsAnyWhole (ls ++ l ∷ [])
 list_follows ls l z b le says fits h =
     let at = line_at ls b.more (length ls) (place_of l) refl (ap (λ (ps : List Place). slice_get ps (length ls)) (places_are ls b z (omega (arith, le)) says) ∙ h) in
     swapped ls b l at.first at.others le fits at.split at.place

@@ -4,9 +4,27 @@ use Rattle.integer_algebra.specs.Sums.{at}
 use Rattle.mat_int.specs.Matrix.{Matrix}
 use Rattle.qp_model.specs.problem.Limits.{text_version}
 use Rattle.qp_model.specs.machine.Controller.{Numbers}
+use Rattle.text_lines.specs.FirstLine.{IsBadLineOf}
+use Rattle.text_lines.specs.Grammar.{IsTextOf}
+use Rattle.controller_text.specs.TextForm.{IsTextForm}
+use Rattle.controller_text.specs.Lines.{keyed_lines}
+use Rattle.controller_text.specs.declared.bad_controller.BadController.{BadController}
+use Rattle.controller_text.specs.declared.bad_controller.BadController.TheVariants.{Memory, Line, Unsafe}
+use Rattle.controller_file.specs.FirstLine.{IsTextIn}
 use Rattle.controller_file.specs.declared.parts.Front.{Front}
 use Rattle.controller_file.specs.declared.parts.Back.{Back}
 use Rattle.text_lines.specs.Lines.{Keyed, line_in, small}
+
+-- the bytes are the text of these numbers, whose lines are all lines of a text of a grammar
+pub record IsPartsOf (Whole : List Keyed → Type 0) (bytes : List ℕ) (c : Numbers) : Type 0 where
+  pub form : IsTextIn IsTextForm bytes c
+  pub whole : Whole (keyed_lines c)
+
+-- why bytes are no text of it; out of memory says nothing of them
+abbrev pub IsFaultOf : (Whole : List Keyed → Type 0) → List ℕ → BadController → Type 0
+IsFaultOf Whole bytes Memory = Unit {0}
+IsFaultOf Whole bytes (Line l) = IsBadLineOf (IsTextOf Whole) bytes l
+IsFaultOf Whole bytes Unsafe = ⊥
 
 -- the numbers of the one line of a block
 abbrev pub list_of_block : List (List Keyed) → ℕ → List ℤ

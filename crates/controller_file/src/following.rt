@@ -1,21 +1,46 @@
 // Which lines can stand after others in a text in form.
-ghost use Rattle.std.specs.Prelude.{◌≡◌, ◌<◌, ◌^◌, ◌↔◌, [], ◌∷◌, ◌++◌, length, All, IsTrue, slice_get};
+ghost use Rattle.std.specs.Prelude.{◌≡◌, ◌<◌, ◌≤◌, ◌^◌, ◌↔◌, [], ◌∷◌, ◌++◌, length, All, IsTrue, slice_get};
 ghost use Rattle.text_lines.specs.Lines.{view, views, Fits};
 ghost use Rattle.controller_text.specs.Table.{AreSizesSmall};
+ghost use Rattle.controller_text.specs.TextForm.{most_steps, multiplier_words};
 ghost use Rattle.text_lines.specs.Grammar.{IsBeginning};
-ghost use Rattle.controller_file.specs.Following.{IsFrom, AreSizes, AreBits, AreUpper, word_count, InRange, head_block, head_blocks, IsWhole};
+ghost use Rattle.controller_file.specs.Following.{IsFrom, AreSizes, AreBits, AreUpper, word_count, InRange, head_block, head_blocks, IsWhole, IsAnyWhole, IsPlain};
 
 use crate::sizes::{place_at, sizes_in};
 use controller_text::{BLOCKS, Block, Sizes};
+use overflow_check::{FAST_VERSION, MOST_FAST_STEPS};
 use qp_model::range::{are_highs, are_numerators};
 use qp_model::{FIRST_VERSION, LAST_VERSION, MOST_INPUTS, most_rows, most_stages, most_states};
 use text_lines::{Line, has_place, number_at, number_in, numbers_in};
 
-/// Whether a text in form has this line after these, which are the first lines of one.
+// The most steps of a run of version 1 or 2.
+const MOST_STEPS: u32 = 4194304;
+
+/// Whether a text in form, of version 1 or 2, has this line after these, which are the first lines of one.
 pub fn can_follow(before: &[Line], line: &Line) -> bool
     requires beginning { IsBeginning IsWhole (views before.now) }
     requires fits { Fits (view line.now) }
     ensures { IsTrue result ↔ IsBeginning IsWhole (views before.now ++ view line.now ∷ []) }
+{
+    any_can_follow(before, line) && is_plain(before, line)
+}
+
+// Whether the first of these lines and the one after them says version 1 or 2.
+fn is_plain(before: &[Line], line: &Line) -> bool
+    ensures { IsTrue result ↔ IsPlain (views before.now ++ view line.now ∷ []) }
+{
+    if before.is_empty() {
+        number_at(&line.numbers, 0) <= LAST_VERSION as i128
+    } else {
+        number_in(before, 0, 0) <= LAST_VERSION as i128
+    }
+}
+
+/// The same of a text of any version.
+pub fn any_can_follow(before: &[Line], line: &Line) -> bool
+    requires beginning { IsBeginning IsAnyWhole (views before.now) }
+    requires fits { Fits (view line.now) }
+    ensures { IsTrue result ↔ IsBeginning IsAnyWhole (views before.now ++ view line.now ∷ []) }
 {
     let sizes = sizes_in(before);
     match place_at(sizes, before.len()) {
@@ -35,7 +60,7 @@ fn is_in_range(before: &[Line], sizes: Sizes, numbers: &[i128]) -> bool
     match head_block(sizes, before.len()) {
         Some(Block::Version) => is_from(
             FIRST_VERSION as i128,
-            LAST_VERSION as i128,
+            FAST_VERSION as i128,
             number_at(numbers, 0),
         ),
         Some(Block::Size) => are_sizes(
@@ -51,7 +76,7 @@ fn is_in_range(before: &[Line], sizes: Sizes, numbers: &[i128]) -> bool
             number_at(numbers, 2),
             number_at(numbers, 3),
         ),
-        Some(Block::Steps) => is_from(1, 4194304, number_at(numbers, 0)),
+        Some(Block::Steps) => is_from(1, most_steps(sizes.version) as i128, number_at(numbers, 0)),
         Some(Block::Clamp) => is_from(0, 1 << 126, number_at(numbers, 0)),
         Some(Block::Words) => number_at(numbers, 0) == words(sizes) as i128,
         Some(Block::Exponents) => are_from(0, number_in(before, 2, 2), numbers),
@@ -80,12 +105,35 @@ fn head_at(place: usize) -> Option<Block>
     BLOCKS[..9].get(place).copied()
 }
 
+// The most steps of a version.
+fn most_steps(version: u32) -> u32
+    ensures { result ≡ most_steps version }
+{
+    if version == FAST_VERSION {
+        MOST_FAST_STEPS
+    } else {
+        MOST_STEPS
+    }
+}
+
 // The words of memory of a run.
 fn words(sizes: Sizes) -> usize
     requires { AreSizesSmall sizes }
     ensures { result ≡ word_count sizes }
 {
-    sizes.n + sizes.m + 2 * (sizes.p * sizes.stages)
+    sizes.n + multiplier_words(sizes.version, sizes.m) + 2 * (sizes.p * sizes.stages)
+}
+
+// Those of its multipliers.
+fn multiplier_words(version: u32, rows: usize) -> usize
+    requires { rows ≤ 372 }
+    ensures { result ≡ multiplier_words version rows }
+{
+    if version == FAST_VERSION {
+        3 * rows
+    } else {
+        rows
+    }
 }
 
 // Whether these are sizes.

@@ -1,6 +1,7 @@
 //! A controller read back from its one text, exactly where the bytes are such a text.
 #![tactic(auto)]
 
+mod any_controller;
 mod following;
 mod grammar;
 mod laws;
@@ -8,8 +9,9 @@ mod parts;
 mod reader;
 mod sizes;
 
+pub use any_controller::{AnyController, read_any_controller};
 pub use following::can_follow;
 pub use laws::{one_controller_law, prefix_law};
 pub use parts::parts_of;
-pub use reader::read_controller;
+pub use reader::{read_controller, safe};
 pub use sizes::sizes_in;

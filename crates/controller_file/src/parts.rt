@@ -1,11 +1,12 @@
 // A controller's numbers from the lines of its text.
 ghost use Rattle.std.specs.Prelude.{◌≡◌, ◌<◌, [], IfOk, All, length, map, take, slice_index_or};
-ghost use Rattle.qp_model.specs.machine.Controller.{Numbers, numbers, IsInForm};
+ghost use Rattle.qp_model.specs.machine.Controller.{Numbers, numbers};
 ghost use Rattle.text_lines.specs.Lines.{views, small};
+ghost use Rattle.controller_text.specs.TextForm.{IsTextForm};
 ghost use Rattle.controller_text.specs.Lines.{line_blocks, keyed_lines};
 ghost use Rattle.controller_text.specs.Table.{text_table, block_at, sizes_of, AreSizesSmall};
 ghost use Rattle.text_lines.specs.Blocks.{total_rows};
-ghost use Rattle.controller_file.specs.Following.{IsWhole};
+ghost use Rattle.controller_file.specs.Following.{IsAnyWhole};
 ghost use Rattle.controller_file.specs.Reading.{list_of_block, matrix_in, IsFront, IsBack};
 ghost use Rattle.controller_text.specs.BlockPlace.{place_in_table};
 
@@ -18,8 +19,8 @@ use text_lines::{Line, number_in, numbers_in, rows_before, small};
 
 /// The numbers of the controller whose lines these are.
 pub fn parts_of(alloc: Global, lines: &[Line]) -> Result<ControllerParts, AllocError>
-    requires { IsWhole (views lines.now) }
-    ensures { IfOk result (λ parts. (c : Numbers) → IsInForm c → keyed_lines c ≡ views lines.now → numbers parts ≡ c) }
+    requires { IsAnyWhole (views lines.now) }
+    ensures { IfOk result (λ parts. (c : Numbers) → IsTextForm c → keyed_lines c ≡ views lines.now → numbers parts ≡ c) }
 {
     let front = front_of(alloc, lines)?;
     let back = back_of(alloc, lines)?;
@@ -46,8 +47,8 @@ struct Back {
 }
 
 fn front_of(alloc: Global, lines: &[Line]) -> Result<Front, AllocError>
-    requires { IsWhole (views lines.now) }
-    ensures { IfOk result (λ front. (c : Numbers) → IsInForm c → keyed_lines c ≡ views lines.now → IsFront c front) }
+    requires { IsAnyWhole (views lines.now) }
+    ensures { IfOk result (λ front. (c : Numbers) → IsTextForm c → keyed_lines c ≡ views lines.now → IsFront c front) }
 {
     Ok(Front {
         exps: exponents_of(alloc, lines)?,
@@ -59,8 +60,8 @@ fn front_of(alloc: Global, lines: &[Line]) -> Result<Front, AllocError>
 }
 
 fn back_of(alloc: Global, lines: &[Line]) -> Result<Back, AllocError>
-    requires { IsWhole (views lines.now) }
-    ensures { IfOk result (λ back. (c : Numbers) → IsInForm c → keyed_lines c ≡ views lines.now → IsBack c back) }
+    requires { IsAnyWhole (views lines.now) }
+    ensures { IfOk result (λ back. (c : Numbers) → IsTextForm c → keyed_lines c ≡ views lines.now → IsBack c back) }
 {
     Ok(Back {
         w_mat: matrix_of(alloc, lines, Block::DualGains)?,
@@ -72,8 +73,8 @@ fn back_of(alloc: Global, lines: &[Line]) -> Result<Back, AllocError>
 
 // The exponents of the rows: the numbers of their line, or the greatest one for each row where the version has no such line.
 fn exponents_of(alloc: Global, lines: &[Line]) -> Result<Vec<u32>, AllocError>
-    requires { IsWhole (views lines.now) }
-    ensures { IfOk result (λ v. (c : Numbers) → IsInForm c → keyed_lines c ≡ views lines.now → v.items ≡ c.exponents) }
+    requires { IsAnyWhole (views lines.now) }
+    ensures { IfOk result (λ v. (c : Numbers) → IsTextForm c → keyed_lines c ≡ views lines.now → v.items ≡ c.exponents) }
 {
     let sizes = sizes_in(lines);
     if sizes.version == FIRST_VERSION {
@@ -92,17 +93,17 @@ fn smalls(alloc: Global, numbers: &[i128]) -> Result<Vec<u32>, AllocError>
 
 // The numbers of the one line of a block.
 fn list_of(alloc: Global, lines: &[Line], block: Block) -> Result<Vec<i128>, AllocError>
-    requires { IsWhole (views lines.now) }
+    requires { IsAnyWhole (views lines.now) }
     ensures { IfOk result (λ v.
-        (c : Numbers) → IsInForm c → keyed_lines c ≡ views lines.now → v.items ≡ list_of_block (line_blocks c) (place_in_table block)) }
+        (c : Numbers) → IsTextForm c → keyed_lines c ≡ views lines.now → v.items ≡ list_of_block (line_blocks c) (place_in_table block)) }
 {
     numbers_in(block_in(lines, block), 0).to_vec(alloc)
 }
 
 // The numbers of the lines of a block as rows.
 fn matrix_of(alloc: Global, lines: &[Line], block: Block) -> Result<Mat, AllocError>
-    requires { IsWhole (views lines.now) }
-    ensures { IfOk result (λ m. (c : Numbers) → IsInForm c → keyed_lines c ≡ views lines.now →
+    requires { IsAnyWhole (views lines.now) }
+    ensures { IfOk result (λ m. (c : Numbers) → IsTextForm c → keyed_lines c ≡ views lines.now →
         m ≡ matrix_in (line_blocks c) (place_in_table block) (block_at (sizes_of c) (place_in_table block)).2) }
 {
     rows_of(
@@ -126,8 +127,8 @@ fn rows_of(alloc: Global, cols: usize, lines: &[Line]) -> Result<Mat, AllocError
 
 // The lines of a block of the table.
 fn block_in<'a, 't>(lines: &'a [Line<'t>], block: Block) -> &'a [Line<'t>]
-    requires { IsWhole (views lines.now) }
-    ensures { (c : Numbers) → IsInForm c → keyed_lines c ≡ views lines.now →
+    requires { IsAnyWhole (views lines.now) }
+    ensures { (c : Numbers) → IsTextForm c → keyed_lines c ≡ views lines.now →
         views result.now ≡ slice_index_or (line_blocks c) (place_in_table block) [] }
 {
     let blocks = table(sizes_in(lines));
@@ -138,8 +139,8 @@ fn block_in<'a, 't>(lines: &'a [Line<'t>], block: Block) -> &'a [Line<'t>]
 
 // The controller of the first lines and all lists.
 fn joined(lines: &[Line], front: Front, back: Back) -> ControllerParts
-    requires { IsWhole (views lines.now) }
-    ensures { (c : Numbers) → IsInForm c → keyed_lines c ≡ views lines.now → IsFront c front → IsBack c back → numbers result ≡ c }
+    requires { IsAnyWhole (views lines.now) }
+    ensures { (c : Numbers) → IsTextForm c → keyed_lines c ≡ views lines.now → IsFront c front → IsBack c back → numbers result ≡ c }
 {
     let sizes = sizes_in(lines);
     ControllerParts {

@@ -1,18 +1,21 @@
 // A controller from its text.
-ghost use Rattle.std.specs.Prelude.{◌≡◌, ◌⊎◌, ℕ, Err, IfOk, MatchResult, map};
-ghost use Rattle.number_text.specs.Lines.{text_of};
-ghost use Rattle.qp_model.specs.machine.Controller.{Numbers};
+ghost use Rattle.std.specs.Prelude.{◌≡◌, ◌⊎◌, ℕ, List, Err, IfOk, IfErr, MatchResult};
+ghost use Rattle.qp_model.specs.machine.Controller.{Numbers, numbers};
+ghost use Rattle.qp_model.specs.machine.AbsoluteSums.{IsController};
 ghost use Rattle.qp_model.specs.text.ControllerText.{IsControllerText};
 ghost use Rattle.controller_file.specs.FirstLine.{IsBadLine, IsUnsafe};
-ghost use Rattle.controller_file.specs.Following.{IsWhole};
-ghost use Rattle.text_lines.specs.Lines.{views, spelled};
+ghost use Rattle.controller_file.specs.Following.{IsAnyWhole};
+ghost use Rattle.controller_file.specs.Reading.{IsPartsOf, IsFaultOf};
+ghost use Rattle.text_lines.specs.Lines.{Keyed};
+ghost use Rattle.text_lines.specs.Grammar.{IsGrammar};
 
 use crate::grammar::ControllerGrammar;
 use crate::parts::parts_of;
 use controller_text::BadController;
 use overflow_check::Controller;
-use std::alloc::{AllocError, Global};
-use text_lines::{Line, lines_in};
+use qp_model::ControllerParts;
+use std::alloc::Global;
+use text_lines::{Grammar, lines_in};
 
 /// The controller whose text the bytes are.
 ///
@@ -30,21 +33,32 @@ pub fn read_controller(alloc: Global, bytes: &[u8]) -> Result<Controller, BadCon
     ensures bad_first { (l : ℕ) → IsBadLine bytes.now l → (result ≡ Err (BadController.Line l)) ⊎ (result ≡ Err BadController.Memory) }
     ensures bad_sums { IsUnsafe bytes.now → (result ≡ Err BadController.Unsafe) ⊎ (result ≡ Err BadController.Memory) }
 {
-    match controller_lines(alloc, bytes)? {
-        Ok(lines) => {
-            let parts = parts_of(alloc, &lines)?;
-            match Controller::from_parts(parts) {
-                Ok(controller) => Ok(controller),
-                Err(_) => Err(BadController::Unsafe),
-            }
-        }
-        Err(line) => Err(BadController::Line { line }),
+    match parts_in::<ControllerGrammar>(alloc, bytes) {
+        Ok(parts) => safe(parts),
+        Err(fault) => Err(fault),
     }
 }
 
-// The lines of a text in form, or the number of the first line at which the bytes are none.
-fn controller_lines(alloc: Global, bytes: &[u8]) -> Result<Result<Vec<Line<'_>>, u32>, AllocError>
-    ensures { IfOk result (λ r. MatchResult r (λ v. IsWhole (views v.items) × (bytes.now ≡ text_of (map spelled (views v.items)))) (IsBadLine bytes.now)) }
+/// The controller of the numbers of a text. `Unsafe` where they are no controller's.
+pub fn safe(parts: ControllerParts) -> Result<Controller, BadController>
+    ensures ok { IfOk result (λ o. (o ≡ numbers parts) × IsController (numbers parts)) }
+    ensures fault { IfErr result (λ e. (e ≡ BadController.Unsafe) × (¬ IsController (numbers parts))) }
 {
-    lines_in::<ControllerGrammar>(alloc, bytes)
+    match Controller::from_parts(parts) {
+        Ok(controller) => Ok(controller),
+        Err(_) => Err(BadController::Unsafe),
+    }
+}
+
+/// The numbers of a text of a grammar.
+pub fn parts_in<G: Grammar>(alloc: Global, bytes: &[u8]) -> Result<ControllerParts, BadController>
+    requires grammar { IsGrammar G.whole }
+    requires any { (ls : List Keyed) → G.whole ls → IsAnyWhole ls }
+    ensures found { IfOk result (λ parts. IsPartsOf G.whole bytes.now (numbers parts)) }
+    ensures fault { IfErr result (IsFaultOf G.whole bytes.now) }
+{
+    match lines_in::<G>(alloc, bytes)? {
+        Ok(lines) => Ok(parts_of(alloc, &lines)?),
+        Err(line) => Err(BadController::Line { line }),
+    }
 }

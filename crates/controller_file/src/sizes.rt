@@ -3,14 +3,14 @@ ghost use Rattle.std.specs.Prelude.{◌≡◌, ◌↔◌, IsTrue, None, Some, Ma
 ghost use Rattle.text_lines.specs.Lines.{views, place};
 ghost use Rattle.controller_text.specs.Table.{places, AreSizesSmall, Says};
 ghost use Rattle.text_lines.specs.Grammar.{IsBeginning};
-ghost use Rattle.controller_file.specs.Following.{IsWhole};
+ghost use Rattle.controller_file.specs.Following.{IsAnyWhole};
 
 use controller_text::{Sizes, table};
 use text_lines::{Line, number_in, place_in, small};
 
 /// The version and the sizes that the first of these lines say: 0 each where they aren't there.
 pub fn sizes_in(lines: &[Line]) -> Sizes
-    requires { IsBeginning IsWhole (views lines.now) }
+    requires { IsBeginning IsAnyWhole (views lines.now) }
     ensures { Says (views lines.now) result }
 {
     Sizes {
@@ -32,8 +32,8 @@ pub fn place_at(sizes: Sizes, index: usize) -> Option<(&'static str, usize)>
 
 /// Whether these lines, with which a text in form begins, are all lines of one.
 pub fn is_whole(lines: &[Line]) -> bool
-    requires { IsBeginning IsWhole (views lines.now) }
-    ensures { IsTrue result ↔ IsWhole (views lines.now) }
+    requires { IsBeginning IsAnyWhole (views lines.now) }
+    ensures { IsTrue result ↔ IsAnyWhole (views lines.now) }
 {
     place_at(sizes_in(lines), lines.len()).is_none()
 }

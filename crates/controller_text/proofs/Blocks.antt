@@ -6,66 +6,69 @@ use Rattle.std.proofs.lemmas.List.{length-map, length-replicate, take-map, drop-
 use Rattle.std.proofs.lemmas.List.Elements.{recursion_from_All}
 use Rattle.mat_int.specs.Matrix.{Matrix}
 use Rattle.qp_model.specs.problem.Range.{LiesIn}
-use Rattle.qp_model.specs.machine.Controller.{Numbers, HasShape, IsInForm}
+use Rattle.qp_model.specs.machine.Controller.{Numbers, HasShape}
 use Rattle.qp_model.proofs.VersionLaws.{states_le, stages_le, limits_le}
 use Rattle.controller_text.specs.declared.layout.Sizes.{Sizes}
 use Rattle.text_lines.specs.declared.line.Line.{Line}
 use Rattle.text_lines.specs.Lines.{Keyed, keyed_line, view, views, line_in, Place, place, place_of}
 use Rattle.text_lines.specs.Blocks.{row_lines, chained, blocks_of, Row}
+use Rattle.controller_text.specs.TextForm.{exponent_rows, as_plain, IsTextForm}
 use Rattle.controller_text.specs.Lines.{line_blocks, keyed_lines}
 use Rattle.text_lines.specs.Blocks.{Block, block_places, total_rows}
 use Rattle.controller_text.specs.Table.{text_table, places, sizes_of, AreSizesSmall, Says, block_at}
+use Rattle.controller_text.proofs.Forms.{either_le}
 use Rattle.text_lines.proofs.Chained.{map_chained}
 use Rattle.text_lines.proofs.Blocks.{block_is, rows_more, rows_placed, rows_up_to, lengths_from, spread_length, no_row}
 
 matrix_placed : (key : List ℕ) (height breadth : ℕ) (a : Matrix) → HasShape a height breadth → map place_of (row_lines key a.rows) ≡ replicate height (place key breadth)
 matrix_placed key height breadth a h = rows_placed key breadth a.rows (recursion_from_All (λ row. length row ≡ breadth) a.rows h.each) ∙ ap (λ (n : ℕ). replicate n (place key breadth)) h.rows
 
-exponents_placed : (version m : ℕ) (exps : List ℕ) → LiesIn 1 2 version → length exps ≡ m → map place_of (if version == 1 then [] else keyed_line (codes "exps") (map pos exps) ∷ []) ≡ replicate (version - 1) (place (codes "exps") m)
+exponents_placed : (version m : ℕ) (exps : List ℕ) → LiesIn 1 3 version → length exps ≡ m → map place_of (if version == 1 then [] else keyed_line (codes "exps") (map pos exps) ∷ []) ≡ replicate (exponent_rows version) (place (codes "exps") m)
 exponents_placed zero m exps h len = absurd (omega (arith, h.0))
 exponents_placed (suc zero) m exps h len = refl
 exponents_placed (suc (suc zero)) m exps h len = ap (λ (n : ℕ). place (codes "exps") n ∷ []) (length-map exps pos ∙ len)
-exponents_placed (suc (suc (suc n))) m exps h len = absurd (omega (arith, h.1))
+exponents_placed (suc (suc (suc zero))) m exps h len = ap (λ (n : ℕ). place (codes "exps") n ∷ []) (length-map exps pos ∙ len)
+exponents_placed (suc (suc (suc (suc n)))) m exps h len = absurd (omega (arith, h.1))
 
-pub blocks_placed : (c : Numbers) → IsInForm c → map (map place_of) (line_blocks c) ≡ map block_places (text_table (sizes_of c))
+pub blocks_placed : (c : Numbers) → IsTextForm c → map (map place_of) (line_blocks c) ≡ map block_places (text_table (sizes_of c))
 blocks_placed c form =
     let h = form.sized.shaped in
     let nu = c.inputs * c.stages in
-    let e6 = exponents_placed c.version c.rows c.exponents form.sized.version h.exponents in
+    let e6 = exponents_placed c.version c.rows c.exponents form.version h.exponents in
     let e9 = matrix_placed (codes "P") nu c.states c.state_gains h.state_gains in
     let e11 = matrix_placed (codes "W") nu c.rows c.dual_gains h.dual_gains in
     let e12 = matrix_placed (codes "G") c.rows nu c.plan_rows h.plan_rows in
     let e13 = matrix_placed (codes "E") c.rows c.states c.state_rows h.state_rows in
     rw (e6, h.low, h.high, e9, h.offsets, e11, e12, e13, h.bounds) refl
 
-pub lines_placed : (c : Numbers) → IsInForm c → map place_of (keyed_lines c) ≡ places (sizes_of c)
+pub lines_placed : (c : Numbers) → IsTextForm c → map place_of (keyed_lines c) ≡ places (sizes_of c)
 lines_placed c form = map_chained place_of (line_blocks c) ∙ ap chained (blocks_placed c form)
 
 -- ---- how many lines there are
 
-pub block_lengths : (c : Numbers) → IsInForm c → map length (line_blocks c) ≡ map (λ t. t.1) (text_table (sizes_of c))
+pub block_lengths : (c : Numbers) → IsTextForm c → map length (line_blocks c) ≡ map (λ t. t.1) (text_table (sizes_of c))
 block_lengths c form = lengths_from (line_blocks c) (text_table (sizes_of c)) (blocks_placed c form)
 
-pub sizes_small : (c : Numbers) → IsInForm c → AreSizesSmall (sizes_of c)
-sizes_small c form = record { version = form.sized.version.1; n = states_le c form.sized; p = form.sized.inputs.1; stages = stages_le c form.sized; m = limits_le c form.sized }
+pub sizes_small : (c : Numbers) → IsTextForm c → AreSizesSmall (sizes_of c)
+sizes_small c form = record { version = form.version.1; n = states_le (as_plain c) form.sized; p = form.sized.inputs.1; stages = stages_le (as_plain c) form.sized; m = limits_le (as_plain c) form.sized }
 
-pub line_count : (c : Numbers) → IsInForm c → length (keyed_lines c) ≡ total_rows (text_table (sizes_of c))
+pub line_count : (c : Numbers) → IsTextForm c → length (keyed_lines c) ≡ total_rows (text_table (sizes_of c))
 line_count c form = sym (length-map (keyed_lines c) place_of) ∙ ap length (lines_placed c form) ∙ spread_length (text_table (sizes_of c))
 
 pub few_rows : (z : Sizes) → AreSizesSmall z → total_rows (text_table z) ≤ 936
-few_rows z small = omega (arith, mul-le-mul small.p small.stages, small.m, small.version)
+few_rows z small = omega (arith, mul-le-mul small.p small.stages, small.m, either_le (z.version == 1) 0 1 1 (omega arith) (omega arith))
 
-pub few_lines : (c : Numbers) → IsInForm c → length (keyed_lines c) ≤ 936
+pub few_lines : (c : Numbers) → IsTextForm c → length (keyed_lines c) ≤ 936
 few_lines c form = omega (arith, line_count c form, few_rows (sizes_of c) (sizes_small c form))
 
 -- ---- the lines of a block
 
 -- the lines in the place of a block are those of the block
-pub block_there : (c : Numbers) (z : Sizes) (k : ℕ) (d : Block) → IsInForm c → sizes_of c ≡ z → k < 16 → take (get_or (text_table z) k d).1 (drop (total_rows (take k (text_table z))) (keyed_lines c)) ≡ get_or (line_blocks c) k []
+pub block_there : (c : Numbers) (z : Sizes) (k : ℕ) (d : Block) → IsTextForm c → sizes_of c ≡ z → k < 16 → take (get_or (text_table z) k d).1 (drop (total_rows (take k (text_table z))) (keyed_lines c)) ≡ get_or (line_blocks c) k []
 block_there c z k d form e lt = block_is (line_blocks c) (text_table z) k d (block_lengths c form ∙ ap (λ (y : Sizes). map (λ t. t.1) (text_table y)) e) lt
 
 -- each has as many numbers as the table says
-pub block_breadth : (c : Numbers) (z : Sizes) (k : ℕ) (d : Block) → IsInForm c → sizes_of c ≡ z → k < 16 → All (λ l. length l.numbers ≡ (get_or (text_table z) k d).2) (get_or (line_blocks c) k [])
+pub block_breadth : (c : Numbers) (z : Sizes) (k : ℕ) (d : Block) → IsTextForm c → sizes_of c ≡ z → k < 16 → All (λ l. length l.numbers ≡ (get_or (text_table z) k d).2) (get_or (line_blocks c) k [])
 block_breadth c z k d form e lt = breadth (get_or (line_blocks c) k []) (get_or (text_table z) k d) (
     sym (get_or-map (map place_of) (line_blocks c) k [] [] (omega (arith, lt)))
     ∙ ap (λ (ps : List (List Place)). get_or ps k []) (blocks_placed c form ∙ ap (λ (y : Sizes). map block_places (text_table y)) e)
@@ -103,13 +106,13 @@ row_at rs z k e lt =
     (ap (λ (t : Block). t.0) same, ap (λ (t : Block). t.1) same, ap (λ (t : Block). t.2) same)
 
 -- a part of lines
-pub part_is : (lines : List Line) (c : Numbers) (z : Sizes) (k s n m : ℕ) → IsInForm c → keyed_lines c ≡ views lines → sizes_of c ≡ z → k < 16 → s ≡ total_rows (take k (text_table z)) → n ≡ (block_at z k).1 → m ≡ s + n
+pub part_is : (lines : List Line) (c : Numbers) (z : Sizes) (k s n m : ℕ) → IsTextForm c → keyed_lines c ≡ views lines → sizes_of c ≡ z → k < 16 → s ≡ total_rows (take k (text_table z)) → n ≡ (block_at z k).1 → m ≡ s + n
     → views (take (m - s) (drop s lines)) ≡ get_or (line_blocks c) k []
 part_is lines c z k s n m form e same lt start rows end =
     let count : m - s ≡ (block_at z k).1 = omega (arith, rows, end) in
     sym (take-map view (m - s) (drop s lines)) ∙ ap (take (m - s)) (sym (drop-map view s lines) ∙ ap (drop s) (sym e)) ∙ (λ i. take (count i) (drop (start i) (keyed_lines c))) ∙ block_there c z k ([], 0, 0) form same lt
 
-pub part_within : (lines : List Line) (c : Numbers) (z : Sizes) (k : ℕ) → IsInForm c → keyed_lines c ≡ views lines → sizes_of c ≡ z → k < 16 → total_rows (take k (text_table z)) + (block_at z k).1 ≤ length lines
+pub part_within : (lines : List Line) (c : Numbers) (z : Sizes) (k : ℕ) → IsTextForm c → keyed_lines c ≡ views lines → sizes_of c ≡ z → k < 16 → total_rows (take k (text_table z)) + (block_at z k).1 ≤ length lines
 part_within lines c z k form e same lt = omega (arith, rows_more (text_table z) k ([], 0, 0) lt, rows_up_to (text_table z) (suc k), line_count c form, ap (λ (y : Sizes). total_rows (text_table y)) same, ap length e, length-map lines view)
 
 -- ---- what a call answers

@@ -1,5 +1,5 @@
 -- The lines of a controller are its text, and each of them can be read.
-use Rattle.std.proofs.Common.{◌≡◌, ℕ, ◌^◌, ◌<◌, ◌≤◌, Bool, true, false, ltb, ℤ, pos, List, [], ◌∷◌, get_or, map, FitsSigned, refl, ap, ◌∙◌, append_assoc, arith}
+use Rattle.std.proofs.Common.{◌≡◌, ℕ, ◌*◌, ◌^◌, ◌<◌, ◌≤◌, Bool, true, false, ltb, ℤ, pos, List, [], ◌∷◌, get_or, map, FitsSigned, refl, ap, ◌∙◌, append_assoc, arith}
 use Rattle.std.specs.Prelude.{All, codes, ◌==◌, if◌then◌else◌}
 use Rattle.std.specs.Int.{w128}
 use Rattle.std.specs.List.{list_all, AllByRecursion}
@@ -7,14 +7,16 @@ use Rattle.std.proofs.Math.Nat.{mul-le-mul}
 use Rattle.std.proofs.lemmas.List.Elements.{All-map, All-from_recursion, recursion_from_All}
 use Rattle.mat_int.specs.Matrix.{Matrix}
 use Rattle.number_text.specs.Lines.{line_of, text_of}
-use Rattle.qp_model.specs.machine.Controller.{Numbers, IsInForm, FitsWord}
+use Rattle.qp_model.specs.machine.Controller.{Numbers, FitsWord}
 use Rattle.qp_model.specs.text.ControllerText.{controller_lines, controller_text}
 use Rattle.text_lines.specs.Lines.{Keyed, keyed_line, spelled, Fits, IsKeyedLine}
 use Rattle.text_lines.specs.Blocks.{row_lines}
+use Rattle.controller_text.specs.TextForm.{IsTextForm}
 use Rattle.controller_text.specs.Lines.{line_blocks, keyed_lines}
 use Rattle.controller_text.specs.Table.{AreSizesSmall}
 use Rattle.text_lines.proofs.Chained.{all_chained, all_blocks, map_chained}
 use Rattle.text_lines.proofs.Good.{natural_fits, half_words_fit, quarter_fits, word, good}
+use Rattle.controller_text.proofs.Forms.{either_le}
 use Rattle.controller_text.proofs.Blocks.{sizes_small}
 
 -- ---- the text
@@ -51,7 +53,7 @@ pub record IsSmall (c : Numbers) : Type 0 where
   pub steps : c.steps ≤ 4194304
   pub words : c.words < 2 ^ 32
 
-pub small_form : (c : Numbers) → IsInForm c → IsSmall c
+pub small_form : (c : Numbers) → IsTextForm c → IsSmall c
 small_form c form =
     let sized = form.sized in
     let sizes = sizes_small c form in
@@ -62,7 +64,7 @@ small_form c form =
       step_exponent = sized.step_exponent;
       width = form.width.1;
       steps = sized.steps.1;
-      words = omega (arith, sized.words, sizes.n, sizes.m, mul-le-mul sizes.p sizes.stages);
+      words = omega (arith, form.words, sizes.n, sizes.m, mul-le-mul sizes.p sizes.stages, either_le (c.version == 3) (3 * c.rows) c.rows (3 * c.rows) (omega arith) (omega arith));
     }
 
 -- ---- the lines
@@ -82,7 +84,7 @@ exponents_good true exps h = tt
 exponents_good false exps h = (record { key = word (codes "exps") refl; fits = All-map (FitsSigned w128) pos exps (λ i d lt. natural_fits (get_or exps i d) (h i d lt)) }, tt)
 
 -- each line of a controller can be read
-pub blocks_good : (c : Numbers) → IsInForm c → FitsWord c → AllByRecursion (AllByRecursion IsKeyedLine) (line_blocks c)
+pub blocks_good : (c : Numbers) → IsTextForm c → FitsWord c → AllByRecursion (AllByRecursion IsKeyedLine) (line_blocks c)
 blocks_good c form fits =
     let small = small_form c form in
     let z = small.sizes in
@@ -108,7 +110,7 @@ blocks_good c form fits =
     let g15 = good (codes "end") [] refl tt in
     ((g0, tt), ((g1, tt), ((g2, tt), ((g3, tt), ((g4, tt), ((g5, tt), (g6, ((g7, tt), ((g8, tt), (g9, ((g10, tt), (g11, (g12, (g13, ((g14, tt), ((g15, tt), tt))))))))))))))))
 
-pub good_lines : (c : Numbers) → IsInForm c → FitsWord c → All IsKeyedLine (keyed_lines c)
+pub good_lines : (c : Numbers) → IsTextForm c → FitsWord c → All IsKeyedLine (keyed_lines c)
 good_lines c form fits = All-from_recursion IsKeyedLine (keyed_lines c) (all_chained IsKeyedLine (line_blocks c) (blocks_good c form fits))
 
 -- the numbers of lines that were read fit

@@ -1,3 +1,4 @@
+pub mod TextForm
 pub mod Lines
 pub mod Table
 pub mod BlockPlace

@@ -1,6 +1,7 @@
 -- Which lines a text has, by its version and its sizes.
-use Rattle.std.specs.Prelude.{◌≡◌, ℕ, ◌-◌, ◌*◌, ◌<◌, ◌≤◌, pos, List, [], ◌∷◌, length, codes, slice_index_or}
+use Rattle.std.specs.Prelude.{◌≡◌, ℕ, ◌*◌, ◌<◌, ◌≤◌, pos, List, [], ◌∷◌, length, codes, slice_index_or}
 use Rattle.qp_model.specs.machine.Controller.{Numbers}
+use Rattle.controller_text.specs.TextForm.{exponent_rows}
 use Rattle.controller_text.specs.declared.layout.Sizes.{Sizes}
 use Rattle.text_lines.specs.Lines.{Keyed, Place, line_in}
 use Rattle.text_lines.specs.Blocks.{spread, Block}
@@ -13,7 +14,7 @@ text_table z =
     ∷ (codes "steps", 1, 1)
     ∷ (codes "clamp", 1, 1)
     ∷ (codes "words", 1, 1)
-    ∷ (codes "exps", z.version - 1, z.m)
+    ∷ (codes "exps", exponent_rows z.version, z.m)
     ∷ (codes "lo", 1, z.n)
     ∷ (codes "hi", 1, z.n)
     ∷ (codes "P", z.p * z.stages, z.n)
@@ -35,7 +36,7 @@ sizes_of c = record { version = c.version; n = c.states; p = c.inputs; stages = 
 
 -- none is above the greatest of any version
 pub record AreSizesSmall (z : Sizes) : Type 0 where
-  pub version : z.version ≤ 2
+  pub version : z.version ≤ 3
   pub n : z.n ≤ 6
   pub p : z.p ≤ 3
   pub stages : z.stages ≤ 30

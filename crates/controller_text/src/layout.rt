@@ -2,7 +2,9 @@
 ghost use Rattle.std.specs.Prelude.{◌≡◌, map};
 ghost use Rattle.text_lines.specs.Blocks.{total_rows};
 ghost use Rattle.controller_text.specs.Table.{text_table, AreSizesSmall};
+ghost use Rattle.controller_text.specs.TextForm.{exponent_rows};
 
+use qp_model::FIRST_VERSION;
 use text_lines::rows_before;
 
 /// The version of a text, and its numbers of states, of inputs a stage, of stages and of rows.
@@ -35,7 +37,7 @@ pub fn table(sizes: Sizes) -> [(&'static str, usize, usize); 16]
         ("steps", 1, 1),
         ("clamp", 1, 1),
         ("words", 1, 1),
-        ("exps", (version as usize).saturating_sub(1), m),
+        ("exps", exponent_rows(version), m),
         ("lo", 1, n),
         ("hi", 1, n),
         ("P", nu, n),
@@ -46,6 +48,13 @@ pub fn table(sizes: Sizes) -> [(&'static str, usize, usize); 16]
         ("b", 1, m),
         ("end", 1, 0),
     ]
+}
+
+// How many lines say the exponents of the rows.
+fn exponent_rows(version: u32) -> usize
+    ensures { result ≡ exponent_rows version }
+{
+    if version == FIRST_VERSION { 0 } else { 1 }
 }
 
 /// How many lines a text of such sizes has.

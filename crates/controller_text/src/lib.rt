@@ -9,6 +9,6 @@ mod writer;
 
 pub use bad_controller::BadController;
 pub use block::{BLOCKS, Block, place_of};
-pub use laws::text_length_law;
+pub use laws::{text_form_law, text_length_law};
 pub use layout::{Sizes, line_count, table};
-pub use writer::write_controller;
+pub use writer::{write_controller, write_fast_controller};

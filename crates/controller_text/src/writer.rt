@@ -1,19 +1,20 @@
 // The text of a controller.
 ghost use Rattle.std.specs.Prelude.{◌≡◌, ◌<◌, ◌++◌, IfOk, OnOk, All, FitsSigned, pos, string_bytes, codes, map, slice_index_or, []};
 ghost use Rattle.std.specs.Int.{w128};
-ghost use Rattle.qp_model.specs.machine.Controller.{numbers, IsInForm, FitsWord};
+ghost use Rattle.qp_model.specs.machine.Controller.{numbers, FitsWord};
 ghost use Rattle.number_text.specs.Lines.{text_of};
 ghost use Rattle.qp_model.specs.text.ControllerText.{matrix_lines, controller_text, IsControllerText};
 ghost use Rattle.text_lines.specs.Lines.{Fits, spelled};
 ghost use Rattle.controller_text.specs.Lines.{line_blocks};
 ghost use Rattle.controller_text.specs.Table.{text_table, sizes_of};
 ghost use Rattle.controller_text.specs.BlockPlace.{place_in_table};
+ghost use Rattle.controller_text.specs.TextForm.{IsTextForm, IsFastControllerText};
 
 use crate::block::{BLOCKS, Block, place_of};
 use crate::layout::{Sizes, table};
 use mat_int::Mat;
 use number_text::push_line;
-use overflow_check::Controller;
+use overflow_check::{Controller, FastController};
 use qp_model::{ControllerParts, FIRST_VERSION};
 use std::alloc::{AllocError, Global};
 
@@ -24,9 +25,19 @@ pub fn write_controller(alloc: Global, controller: &Controller) -> Result<Vec<u8
     Ok(parts_text(alloc, controller.parts())?.into_bytes())
 }
 
+/// The one text of a controller of the accelerated machine: the same lines, under version 3.
+pub fn write_fast_controller(
+    alloc: Global,
+    controller: &FastController,
+) -> Result<Vec<u8>, AllocError>
+    ensures { IfOk result (λ v. IsFastControllerText v.items controller.now) }
+{
+    Ok(parts_text(alloc, controller.parts())?.into_bytes())
+}
+
 // The text that these numbers make.
 fn parts_text(alloc: Global, parts: &ControllerParts) -> Result<String, AllocError>
-    requires { IsInForm (numbers parts.now) }
+    requires { IsTextForm (numbers parts.now) }
     ensures text { IfOk result (λ text. string_bytes text ≡ controller_text (numbers parts.now)) }
     ensures word { OnOk result (FitsWord (numbers parts.now)) }
 {

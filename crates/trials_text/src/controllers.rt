@@ -1,11 +1,11 @@
 // Texts of controllers.
-use controller_file::read_controller;
-use controller_text::{BadController, write_controller};
+use controller_file::{AnyController, read_any_controller, read_controller};
+use controller_text::{BadController, write_controller, write_fast_controller};
 use overflow_check::Controller;
 use qp_model::ControllerParts;
 use std::alloc::{AllocError, Global};
 use std::test::Fail;
-use trials_worked_designs::{CONTROLLER, CONTROLLER_OF_TWO, has_rows};
+use trials_worked_designs::{CONTROLLER, CONTROLLER_OF_TWO, LEAN_CONTROLLER, has_rows};
 
 // What stands in place of a part of the first text, and why it is refused then, none where it is a controller's text.
 static CHANGES: [(&str, &str, Option<BadController>); 39] = [
@@ -323,5 +323,87 @@ fn second_version_cut(rt: HostRuntime) -> Result<(), Fail> {
 #[test]
 fn other_bytes(rt: HostRuntime) -> Result<(), Fail> {
     assert!(rt; is_bad_at(rt.alloc(), &[255], 1)?);
+    Ok(())
+}
+
+// The worked text of the accelerated machine: the lean controller's under version 3.
+fn third_version(alloc: Global) -> Result<String, AllocError> {
+    let text = LEAN_CONTROLLER.replace(alloc, "mpc-controller 1", "mpc-controller 3")?;
+    text.replace(alloc, "words 6\n", "words 12\nexps 0 1 1\n")
+}
+
+// What stands in place of a part of it, and why it is refused then by the reader of any version: at 10 steps the sum of the multipliers reached is 33280,
+// above the 32767 of its width, and at 9 it is 27648.
+static THIRD_CHANGES: [(&str, &str, Option<BadController>); 8] = [
+    ("steps 1", "steps 9", None),
+    ("steps 1", "steps 10", Some(BadController::Unsafe)),
+    ("steps 1", "steps 65534", Some(BadController::Unsafe)),
+    (
+        "steps 1",
+        "steps 65535",
+        Some(BadController::Line { line: 4 }),
+    ),
+    ("words 12", "words 6", Some(BadController::Line { line: 6 })),
+    ("exps 0 1 1\n", "", Some(BadController::Line { line: 7 })),
+    (
+        "mpc-controller 3",
+        "mpc-controller 4",
+        Some(BadController::Line { line: 1 }),
+    ),
+    (
+        "mpc-controller 3",
+        "mpc-controller 2",
+        Some(BadController::Line { line: 6 }),
+    ),
+];
+
+// Why bytes are refused by the reader of any version.
+fn any_refusal(alloc: Global, bytes: &[u8]) -> Result<Option<BadController>, AllocError> {
+    match read_any_controller(alloc, bytes) {
+        Ok(_) => Ok(None),
+        Err(BadController::Memory) => Err(AllocError),
+        Err(bad) => Ok(Some(bad)),
+    }
+}
+
+fn third_refusal(alloc: Global, old: &str, new: &str) -> Result<Option<BadController>, AllocError> {
+    let text = third_version(alloc)?;
+    let changed = text.replace(alloc, old, new)?;
+    any_refusal(alloc, changed.as_bytes())
+}
+
+#[test]
+fn third_changed(rt: HostRuntime) -> Result<(), Fail> {
+    for (old, new, answer) in &THIRD_CHANGES {
+        assert!(rt; third_refusal(rt.alloc(), old, new)? == *answer);
+    }
+    Ok(())
+}
+
+// Whether a text is a controller's of the accelerated machine, and written as it was read.
+fn is_fast(alloc: Global, text: &str) -> Result<bool, BadController> {
+    match read_any_controller(alloc, text.as_bytes())? {
+        AnyController::Fast(controller) => {
+            let written = write_fast_controller(alloc, &controller)?;
+            Ok(written.as_slice() == text.as_bytes())
+        }
+        AnyController::Plain(_) => Ok(false),
+    }
+}
+
+// Whether it is one of version 1 or 2.
+fn is_plain(alloc: Global, text: &str) -> Result<bool, BadController> {
+    match read_any_controller(alloc, text.as_bytes())? {
+        AnyController::Plain(controller) => is_written(alloc, &controller, text),
+        AnyController::Fast(_) => Ok(false),
+    }
+}
+
+#[test]
+fn of_either_machine(rt: HostRuntime) -> Result<(), Fail> {
+    let text = third_version(rt.alloc())?;
+    assert!(rt; is_fast(rt.alloc(), &text)?);
+    assert!(rt; is_plain(rt.alloc(), CONTROLLER)?);
+    assert!(rt; refusal_of(rt.alloc(), text.as_bytes())? == Some(BadController::Line { line: 1 }));
     Ok(())
 }

@@ -2,9 +2,11 @@ use Rattle.std.proofs.Common.{◌^◌, pos, ◌∙◌, ap, All, Option, Some, sy
 use Rattle.std.specs.Prelude.{◌↔◌, IsTrue}
 use Rattle.integer_algebra.specs.Sums.{at}
 use Rattle.text_lines.specs.Lines.{views, line_in}
-use Rattle.qp_model.specs.problem.Limits.{text_version, last_version}
+use Rattle.qp_model.specs.problem.Limits.{text_version}
 use Rattle.qp_model.specs.problem.Range.{IsNumerator}
 use Rattle.controller_text.specs.declared.block.Block.{Block}
+use Rattle.overflow_check.specs.FastController.{fast_version}
+use Rattle.controller_text.specs.TextForm.{most_steps}
 use Rattle.controller_file.specs.Following.{IsFrom, AreSizes, AreBits, InRange}
 use Rattle.controller_file.proofs.following.is_in_range.Goals as goal
 
@@ -23,13 +25,13 @@ returns-in-Some-Bits c =
 pub returns-in-Some-Version : goal.returns-in-Some-Version
 returns-in-Some-Version c =
     let zs = c.args.numbers.now in
-    let version : IsTrue c.is_from.result ↔ IsFrom (pos text_version) (pos last_version) (at zs 0) = search rules in
+    let version : IsTrue c.is_from.result ↔ IsFrom (pos text_version) (pos fast_version) (at zs 0) = search rules in
     subst (λ (b : Option Block). IsTrue c.is_from.result ↔ InRange b (views c.args.before.now) c.args.sizes zs) (sym (sym c.head_block.ensures ∙ c.in-Some-Version.is ∙ ap (λ (b : Block). Some b) c.in-Some-Version.field-0-is)) version
 
 pub returns-in-Some-Steps : goal.returns-in-Some-Steps
 returns-in-Some-Steps c =
     let zs = c.args.numbers.now in
-    let steps : IsTrue c.is_from-in-Some-Steps.result ↔ IsFrom (pos 1) (pos 4194304) (at zs 0) = search rules in
+    let steps : IsTrue c.is_from-in-Some-Steps.result ↔ IsFrom (pos 1) (pos (most_steps c.args.sizes.version)) (at zs 0) = search rules in
     subst (λ (b : Option Block). IsTrue c.is_from-in-Some-Steps.result ↔ InRange b (views c.args.before.now) c.args.sizes zs) (sym (sym c.head_block.ensures ∙ c.in-Some-Steps.is ∙ ap (λ (b : Block). Some b) c.in-Some-Steps.field-0-is)) steps
 
 pub returns-in-Some-Clamp : goal.returns-in-Some-Clamp

@@ -6,7 +6,7 @@ use Rattle.text_lines.specs.Blocks.{Block, Row, blocks_of, total_rows}
 use Rattle.text_lines.proofs.Blocks.{no_row}
 use Rattle.controller_text.specs.Lines.{line_blocks}
 use Rattle.controller_text.specs.Table.{text_table, AreSizesSmall, Says}
-use Rattle.controller_file.specs.Following.{IsWhole}
+use Rattle.controller_file.specs.Following.{IsAnyWhole}
 use Rattle.controller_text.proofs.Blocks.{said_sizes, row_at, part_is, part_within, few_rows}
 use Rattle.text_lines.proofs.Beginnings.{begun}
 use Rattle.controller_file.proofs.parts.block_in.Goals as goal
@@ -16,7 +16,7 @@ before : (rs : List Row) (z : Sizes) (k start : ℕ) → blocks_of rs ≡ text_t
 before rs z k start same e = e ∙ ap (λ (ts : List Block). total_rows (take k ts)) same
 
 -- the lines of a block are there
-room : (lines : List Line) (rs : List Row) (z : Sizes) (k start : ℕ) → IsWhole (views lines) → Says (views lines) z → blocks_of rs ≡ text_table z → k < 16 → start ≡ total_rows (take k (blocks_of rs))
+room : (lines : List Line) (rs : List Row) (z : Sizes) (k start : ℕ) → IsAnyWhole (views lines) → Says (views lines) z → blocks_of rs ≡ text_table z → k < 16 → start ≡ total_rows (take k (blocks_of rs))
     → start + (get_or rs k no_row).1 ≤ length lines
 room lines rs z k start w says same lt e =
     omega (arith, (row_at rs z k same lt).1, part_within lines w.numbers z k w.form w.lines (said_sizes (views lines) z w.numbers w.lines says) lt, before rs z k start same e)
@@ -48,4 +48,4 @@ returns c = λ d form e.
     ∙ ap (λ (j : ℕ). get_or (line_blocks d) j []) c.place_of-place.ensures.value
 
 pub sizes_in-requires : goal.sizes_in-requires
-sizes_in-requires c = begun IsWhole (views c.args.lines.now) c.requires
+sizes_in-requires c = begun IsAnyWhole (views c.args.lines.now) c.requires

@@ -3,7 +3,7 @@ use Rattle.controller_text.specs.declared.layout.Sizes.{Sizes}
 use Rattle.text_lines.specs.Lines.{Keyed, views, line_in, small}
 use Rattle.controller_text.proofs.Blocks.{said_sizes, if_ok}
 use Rattle.controller_file.proofs.Again.{exponents_second}
-use Rattle.controller_file.specs.Following.{IsWhole}
+use Rattle.controller_file.specs.Following.{IsAnyWhole}
 use Rattle.text_lines.proofs.Beginnings.{begun}
 use Rattle.controller_file.proofs.parts.exponents_of.Goals as goal
 
@@ -14,4 +14,4 @@ returns-else-sizes-eq-FIRST_VERSION c = if_ok c.smalls.result c.smalls.ensures (
     made ∙ ap (map small) (c.numbers_in.ensures ∙ ap (λ (ls : List Keyed). line_in ls 0) (c.block_in.ensures d form e)) ∙ exponents_second d form second)
 
 pub sizes_in-sizes-requires : goal.sizes_in-sizes-requires
-sizes_in-sizes-requires c = begun IsWhole (views c.args.lines.now) c.requires
+sizes_in-sizes-requires c = begun IsAnyWhole (views c.args.lines.now) c.requires

@@ -5,7 +5,7 @@ use Rattle.text_lines.specs.Lines.{Keyed, views}
 use Rattle.controller_text.specs.Table.{block_at, sizes_of}
 use Rattle.controller_text.specs.Lines.{line_blocks}
 use Rattle.controller_text.proofs.Blocks.{said_sizes, row_at, block_breadth, if_ok}
-use Rattle.controller_file.specs.Following.{IsWhole}
+use Rattle.controller_file.specs.Following.{IsAnyWhole}
 use Rattle.text_lines.proofs.Beginnings.{begun}
 use Rattle.controller_file.proofs.parts.matrix_of.Goals as goal
 
@@ -32,4 +32,4 @@ returns c =
     made ∙ (λ i. record { cols = wide i; rows = map (λ l. l.numbers) (lines i) }))
 
 pub sizes_in-requires : goal.sizes_in-requires
-sizes_in-requires c = begun IsWhole (views c.args.lines.now) c.requires
+sizes_in-requires c = begun IsAnyWhole (views c.args.lines.now) c.requires

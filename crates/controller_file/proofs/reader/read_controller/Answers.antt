@@ -1,88 +1,71 @@
-use Rattle.std.proofs.Common.{◌≡◌, ◌∙◌, ℕ, List, Result, Ok, map, refl, sym, ap, subst, rules}
-use Rattle.std.specs.Prelude.{MatchResult}
-use Rattle.std.specs.Global.{Vec}
-use Rattle.std.proofs.lemmas.Bool.{false≢true}
-use Rattle.number_text.specs.Lines.{text_of}
-use Rattle.qp_model.specs.declared.controller_parts.ControllerParts.{ControllerParts}
+use Rattle.std.proofs.Common.{◌≡◌, ℕ, List, Result, Ok, Err, sym, subst}
+use Rattle.std.specs.Prelude.{IfOk, IfErr}
 use Rattle.qp_model.specs.machine.Controller.{Numbers, numbers, IsInForm}
 use Rattle.qp_model.specs.machine.AbsoluteSums.{IsController}
 use Rattle.qp_model.specs.text.ControllerText.{IsControllerText}
-use Rattle.text_lines.specs.declared.line.Line.{Line}
-use Rattle.controller_file.specs.FirstLine.{IsTextInForm, IsBadLine}
-use Rattle.text_lines.specs.Lines.{Keyed, views, spelled}
-use Rattle.controller_text.specs.Lines.{keyed_lines}
+use Rattle.controller_text.specs.declared.bad_controller.BadController.{BadController}
+use Rattle.controller_text.specs.declared.bad_controller.BadController.TheVariants.{Unsafe}
+use Rattle.controller_text.proofs.Forms.{plain_form}
 use Rattle.controller_file.specs.Following.{IsWhole}
-use Rattle.controller_text.proofs.Texts.{keyed_text}
-use Rattle.controller_file.proofs.Uniqueness.{one_form, in_form}
+use Rattle.controller_file.specs.FirstLine.{IsTextIn}
+use Rattle.controller_file.specs.Reading.{IsPartsOf, IsFaultOf}
+use Rattle.controller_file.proofs.Beginnings.{grammar}
+use Rattle.controller_file.proofs.Plain.{any_whole}
+use Rattle.controller_file.proofs.Reading.{IsRead, read_safe, read_fault}
 use Rattle.controller_file.proofs.reader.read_controller.Goals as goal
 
--- what was read are the numbers of bytes in form
-read : (bytes : List ℕ) (told : Result (Vec Line) ℕ) (v : Vec Line) (lines : List Line) (parts : ControllerParts) →
-    MatchResult told (λ v. IsWhole (views v.items) × (bytes ≡ text_of (map spelled (views v.items)))) (IsBadLine bytes) → told ≡ Ok v → lines ≡ v.items
-    → ((c : Numbers) → IsInForm c → keyed_lines c ≡ views lines → numbers parts ≡ c) → IsTextInForm bytes (numbers parts)
-read bytes told v lines parts h is same made =
-    let both : IsWhole (views v.items) × (bytes ≡ text_of (map spelled (views v.items))) =
-    subst (λ (r : Result (Vec Line) ℕ). MatchResult r (λ v. IsWhole (views v.items) × (bytes ≡ text_of (map spelled (views v.items)))) (IsBadLine bytes)) is h in
-    let w = both.0 in
-    let formed : IsTextInForm bytes w.numbers = record { form = w.form; word = w.word; text = both.1 ∙ ap (λ (ls : List Keyed). text_of (map spelled ls)) (sym w.lines) ∙ keyed_text w.numbers } in
-    subst (λ (c : Numbers). IsTextInForm bytes c) (sym (made w.numbers w.form (w.lines ∙ ap views (sym same)))) formed
+abbrev IsPlainRead : List ℕ → Result Numbers BadController → Type 0
+IsPlainRead bytes r = IsRead IsInForm IsController Numbers (λ c. c) bytes r
 
-pub returns-in-Ok-from_parts-clause-found : goal.returns-in-Ok-from_parts-clause-found
-returns-in-Ok-from_parts-clause-found c =
-    let formed = read c.args.bytes.now c.in_ok-lines.field-0 c.in-Ok.lines c.deref.result.now c.in_ok-parts-in-Ok.parts c.in_ok-lines.ensures c.in-Ok.is c.deref.ensures.value c.in_ok-parts-in-Ok.ensures in
-    subst (λ (d : Numbers). IsControllerText c.args.bytes.now d) (sym c.in-Ok-from_parts.ensures.kept) (record { controller = c.in-Ok-from_parts.ensures.ok.0 refl; word = formed.word; text = formed.text })
+read : (bytes : List ℕ) (c : Numbers) (r : Result Numbers BadController) → IsPartsOf IsWhole bytes c → IfOk r (λ o. (o ≡ c) × IsController c) → IfErr r (λ e. (e ≡ Unsafe) × (¬ IsController c)) → IsPlainRead bytes r
+read bytes = read_safe IsInForm IsController plain_form (λ c k. k.form) Numbers (λ c. c) bytes
 
-pub returns-in-Ok-from_parts-clause-right : goal.returns-in-Ok-from_parts-clause-right
-returns-in-Ok-from_parts-clause-right c = λ d text.
-    let formed = read c.args.bytes.now c.in_ok-lines.field-0 c.in-Ok.lines c.deref.result.now c.in_ok-parts-in-Ok.parts c.in_ok-lines.ensures c.in-Ok.is c.deref.ensures.value c.in_ok-parts-in-Ok.ensures in
-    c.in-Ok-from_parts.ensures.kept ∙ one_form c.args.bytes.now (numbers c.in_ok-parts-in-Ok.parts) d formed (in_form c.args.bytes.now d text)
+fault : (bytes : List ℕ) (e : BadController) → IsFaultOf IsWhole bytes e → IsPlainRead bytes (Err e)
+fault bytes = read_fault IsInForm IsController plain_form (λ c k. k.form) Numbers (λ c. c) bytes
 
-pub returns-in-Ok-from_parts-clause-bad_first : goal.returns-in-Ok-from_parts-clause-bad_first
-returns-in-Ok-from_parts-clause-bad_first c = λ l bad.
-    absurd (bad.none (record { numbers = numbers c.in_ok-parts-in-Ok.parts; form = read c.args.bytes.now _ _ _ c.in_ok-parts-in-Ok.parts c.in_ok-lines.ensures c.in-Ok.is c.deref.ensures.value c.in_ok-parts-in-Ok.ensures }))
+found : (bytes : List ℕ) (c : Numbers) (r : Result Numbers BadController) → IsPartsOf IsWhole bytes c → IfOk r (λ o. (o ≡ c) × IsController c) → IfOk r (IsControllerText bytes)
+found bytes c (Ok o) parts ok = subst (IsControllerText bytes) (sym ok.0) (record { controller = ok.1; word = parts.form.word; text = parts.form.text })
+found bytes c (Err e) parts ok = tt
 
-pub returns-in-Ok-from_parts-clause-bad_sums : goal.returns-in-Ok-from_parts-clause-bad_sums
-returns-in-Ok-from_parts-clause-bad_sums c = λ u.
-    let formed = read c.args.bytes.now c.in_ok-lines.field-0 c.in-Ok.lines c.deref.result.now c.in_ok-parts-in-Ok.parts c.in_ok-lines.ensures c.in-Ok.is c.deref.ensures.value c.in_ok-parts-in-Ok.ensures in
-    absurd (u.wide (subst (λ (d : Numbers). IsController d) (one_form c.args.bytes.now (numbers c.in_ok-parts-in-Ok.parts) u.numbers formed u.form) (c.in-Ok-from_parts.ensures.ok.0 refl)))
+in_safe : (bytes : List ℕ) (c : Numbers) → IsControllerText bytes c → IsTextIn IsController bytes c
+in_safe bytes c text = record { form = text.controller; word = text.word; text = text.text }
 
-pub returns-in-Ok-clause-wide : goal.returns-in-Ok-clause-wide
-returns-in-Ok-clause-wide c = λ is.
-    let formed = read c.args.bytes.now c.in_ok-lines.field-0 c.in-Ok.lines c.deref.result.now c.in_ok-parts-in-Ok.parts c.in_ok-lines.ensures c.in-Ok.is c.deref.ensures.value c.in_ok-parts-in-Ok.ensures in
-    record { numbers = numbers c.in_ok-parts-in-Ok.parts; form = formed; wide = λ k. false≢true (c.in-Err-from_parts.ensures.ok.1 k) }
+pub parts_in-requires-clause-grammar : goal.parts_in-requires-clause-grammar
+parts_in-requires-clause-grammar c = grammar
 
-pub returns-in-Ok-clause-right : goal.returns-in-Ok-clause-right
-returns-in-Ok-clause-right c = λ d text.
-    let formed = read c.args.bytes.now c.in_ok-lines.field-0 c.in-Ok.lines c.deref.result.now c.in_ok-parts-in-Ok.parts c.in_ok-lines.ensures c.in-Ok.is c.deref.ensures.value c.in_ok-parts-in-Ok.ensures in
-    absurd (false≢true (c.in-Err-from_parts.ensures.ok.1 (subst (λ (n : Numbers). IsController n) (sym (one_form c.args.bytes.now (numbers c.in_ok-parts-in-Ok.parts) d formed (in_form c.args.bytes.now d text))) text.controller)))
+pub parts_in-requires-clause-any : goal.parts_in-requires-clause-any
+parts_in-requires-clause-any c = any_whole
 
-pub returns-in-Ok-clause-bad_first : goal.returns-in-Ok-clause-bad_first
-returns-in-Ok-clause-bad_first c = λ l bad.
-    absurd (bad.none (record { numbers = numbers c.in_ok-parts-in-Ok.parts; form = read c.args.bytes.now _ _ _ c.in_ok-parts-in-Ok.parts c.in_ok-lines.ensures c.in-Ok.is c.deref.ensures.value c.in_ok-parts-in-Ok.ensures }))
-
-pub returns-in-Ok-from_parts-clause-bad_line : goal.returns-in-Ok-from_parts-clause-bad_line
-returns-in-Ok-from_parts-clause-bad_line c = search rules
-
-pub returns-in-Ok-from_parts-clause-wide : goal.returns-in-Ok-from_parts-clause-wide
-returns-in-Ok-from_parts-clause-wide c = search rules
+pub returns-in-Ok-clause-found : goal.returns-in-Ok-clause-found
+returns-in-Ok-clause-found c = found c.args.bytes.now (numbers c.in-Ok.parts) c.safe.result c.in-Ok.ensures.found c.safe.ensures.ok
 
 pub returns-in-Ok-clause-bad_line : goal.returns-in-Ok-clause-bad_line
-returns-in-Ok-clause-bad_line c = search rules
+returns-in-Ok-clause-bad_line c = (read c.args.bytes.now (numbers c.in-Ok.parts) c.safe.result c.in-Ok.ensures.found c.safe.ensures.ok c.safe.ensures.fault).bad_line
+
+pub returns-in-Ok-clause-wide : goal.returns-in-Ok-clause-wide
+returns-in-Ok-clause-wide c = (read c.args.bytes.now (numbers c.in-Ok.parts) c.safe.result c.in-Ok.ensures.found c.safe.ensures.ok c.safe.ensures.fault).wide
+
+pub returns-in-Ok-clause-right : goal.returns-in-Ok-clause-right
+returns-in-Ok-clause-right c =
+    λ d text. (read c.args.bytes.now (numbers c.in-Ok.parts) c.safe.result c.in-Ok.ensures.found c.safe.ensures.ok c.safe.ensures.fault).right d (in_safe c.args.bytes.now d text)
+
+pub returns-in-Ok-clause-bad_first : goal.returns-in-Ok-clause-bad_first
+returns-in-Ok-clause-bad_first c = (read c.args.bytes.now (numbers c.in-Ok.parts) c.safe.result c.in-Ok.ensures.found c.safe.ensures.ok c.safe.ensures.fault).bad_first
 
 pub returns-in-Ok-clause-bad_sums : goal.returns-in-Ok-clause-bad_sums
-returns-in-Ok-clause-bad_sums c = search rules
+returns-in-Ok-clause-bad_sums c = (read c.args.bytes.now (numbers c.in-Ok.parts) c.safe.result c.in-Ok.ensures.found c.safe.ensures.ok c.safe.ensures.fault).bad_sums
 
-pub returns-clause-bad_line : goal.returns-clause-bad_line
-returns-clause-bad_line c = search rules
+pub returns-in-Err-clause-bad_line : goal.returns-in-Err-clause-bad_line
+returns-in-Err-clause-bad_line c = (fault c.args.bytes.now c.in-Err.fault c.in-Err.ensures.fault).bad_line
 
-pub returns-clause-wide : goal.returns-clause-wide
-returns-clause-wide c = search rules
+pub returns-in-Err-clause-wide : goal.returns-in-Err-clause-wide
+returns-in-Err-clause-wide c = (fault c.args.bytes.now c.in-Err.fault c.in-Err.ensures.fault).wide
 
-pub returns-clause-right : goal.returns-clause-right
-returns-clause-right c = search rules
+pub returns-in-Err-clause-right : goal.returns-in-Err-clause-right
+returns-in-Err-clause-right c = λ d text. (fault c.args.bytes.now c.in-Err.fault c.in-Err.ensures.fault).right d (in_safe c.args.bytes.now d text)
 
-pub returns-clause-bad_first : goal.returns-clause-bad_first
-returns-clause-bad_first c = search rules
+pub returns-in-Err-clause-bad_first : goal.returns-in-Err-clause-bad_first
+returns-in-Err-clause-bad_first c = (fault c.args.bytes.now c.in-Err.fault c.in-Err.ensures.fault).bad_first
 
-pub returns-clause-bad_sums : goal.returns-clause-bad_sums
-returns-clause-bad_sums c = search rules
+pub returns-in-Err-clause-bad_sums : goal.returns-in-Err-clause-bad_sums
+returns-in-Err-clause-bad_sums c = (fault c.args.bytes.now c.in-Err.fault c.in-Err.ensures.fault).bad_sums

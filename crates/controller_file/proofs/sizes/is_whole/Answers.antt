@@ -4,7 +4,7 @@ use Rattle.std.proofs.lemmas.Bool.{false≢true}
 use Rattle.std.proofs.lemmas.List.{length-map}
 use Rattle.text_lines.specs.Lines.{view, views, place}
 use Rattle.controller_text.specs.Table.{places}
-use Rattle.controller_file.specs.Following.{IsWhole}
+use Rattle.controller_file.specs.Following.{IsAnyWhole}
 use Rattle.controller_file.proofs.Follows.{whole_if, whole_only}
 use Rattle.controller_file.proofs.sizes.is_whole.Goals as goal
 
@@ -20,6 +20,6 @@ returns c =
     let z = c.sizes_in.result in
     let says = c.sizes_in.ensures in
     let at = ap (slice_get (places z)) (length-map c.args.lines.now view) in
-    none_where c.place_at.result c.is_none.result (slice_get (places z) (length c.args.lines.now) ≡ None) (IsWhole ls) (λ p. slice_get (places z) (length c.args.lines.now) ≡ Some (place p.0.now p.1)) c.is_none.ensures c.place_at.ensures
+    none_where c.place_at.result c.is_none.result (slice_get (places z) (length c.args.lines.now) ≡ None) (IsAnyWhole ls) (λ p. slice_get (places z) (length c.args.lines.now) ≡ Some (place p.0.now p.1)) c.is_none.ensures c.place_at.ensures
     (λ none. whole_if ls z c.requires says (at ∙ none))
     (λ p some w. (let wrong : None ≡ Some (place p.0.now p.1) = sym (whole_only ls z says w) ∙ at ∙ some in cc wrong))
