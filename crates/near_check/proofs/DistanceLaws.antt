@@ -4,7 +4,7 @@ use mathlib.Core.Path.{fun_ext}
 use Rattle.std.proofs.lemmas.Int.{ints, by_lt_z}
 use Rattle.std.proofs.lemmas.Nat.{mod-mul-add, mul-le, pow_pos}
 use Rattle.std.proofs.Math.Nat.{one-le-mul}
-use Rattle.integer_algebra.specs.Sums.{total, dot, image, square, none}
+use Rattle.integer_algebra.specs.Sums.{total, dot, square, none}
 use Rattle.integer_algebra.specs.Sizes.{amount}
 use Rattle.integer_algebra.specs.Bounds.{absolute, IsWithin}
 use Rattle.integer_algebra.proofs.RingLaws.{add_difference, add_equations, same_by}
@@ -12,7 +12,7 @@ use Rattle.integer_algebra.proofs.OrderLaws.{pos_positive, le_by, le_of_lt_z, ad
 use Rattle.integer_algebra.proofs.SumLaws.{total_same, total_add, total_scale, total_mono, total_nonneg, term-le-total}
 use Rattle.integer_algebra.proofs.SizeLaws.{total_amount}
 use Rattle.integer_algebra.proofs.BlockLaws.{total_blocks}
-use Rattle.integer_algebra.proofs.BoundLaws.{absolute_nonneg, absolute_square, within_times}
+use Rattle.integer_algebra.proofs.BoundLaws.{absolute_square, within_times}
 use Rattle.integer_algebra.proofs.DivisionLaws.{le-mul-ceil_div}
 use Rattle.integer_algebra.proofs.PowerLaws.{pow-two, pow_positive}
 use Rattle.integer_algebra.proofs.VectorLaws.{image_scale}
@@ -229,7 +229,7 @@ module _ (d : Design) (sound : IsSound d (input_floor d)) (xi : ℕ → ℤ) (q 
       let unit = pos_positive (cost_scale d) (scale_some d sound) in
       let heavy = sound.input_weight l inside in
       let positive = mul_pos_z q r pq pr in
-      let little = all_entries (pos (2 ^ 20)) (pos (cost_scale d)) (pos d.cost_denominator) over (pos more) _ _ _ _ unit (omega (arith, ints)) (square_nonneg_z (pos (2 ^ 20)))
+      let little : all ≤ℤ (pos d.cost_denominator *ℤ pos more *ℤ square over) = all_entries (pos (2 ^ 20)) (pos (cost_scale d)) (pos d.cost_denominator) over (pos more) _ _ _ _ unit (omega (arith, ints)) (square_nonneg_z (pos (2 ^ 20)))
       costs_little (weights_law d (input_floor d) sound step) slopes_along in
       within_beta (d.input_weight l) (pos d.cost_denominator) (pos (slope l)) over (far l) (pos (more + down)) (pos beta)
       (weighty _ _ heavy sound.rho_positive) (omega (arith, ints)) (omega (arith, ints)) positive (pos_positive beta covers.some)

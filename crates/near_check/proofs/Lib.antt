@@ -1,2 +1,10 @@
 -- The lemmas by topic.
+-- ---- one plan
 pub mod DistanceLaws
+pub mod NearLaws
+-- ---- loops
+pub mod FarRowLaws
+pub mod FarTubeLaws
+pub mod FarSettlingLaws
+-- ---- a worked loop
+pub mod WorkedFacts

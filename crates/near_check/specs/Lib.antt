@@ -1,1 +1,6 @@
 pub mod Distance
+pub mod Near
+pub mod FarRows
+pub mod FarTube
+pub mod FarSettling
+pub mod Worked
