@@ -14,7 +14,7 @@ use Rattle.integer_algebra.proofs.DivisionLaws.{round_of_bounds}
 use Rattle.integer_algebra.proofs.OrderLaws.{le_by, le_of_lt_z, add-le-add_z, mul-le-mul_left_z, mul_nonneg_z, mul_pos_z, cancel-le_z}
 use Rattle.integer_algebra.proofs.SumLaws.{total_same, total_zero, total_add, total_mono, total_scale, total_scale_right}
 use Rattle.integer_algebra.proofs.SizeLaws.{amount_term, at_size, total_amount}
-use Rattle.integer_algebra.proofs.VectorLaws.{dot_same, dot_add_right, dot_sub, dot_scale, dot_scale_right, dot_image, dot_total_left, image_same, image_scale}
+use Rattle.integer_algebra.proofs.VectorLaws.{dot_same, dot_add_right, dot_sub, dot_scale, dot_scale_right, dot_image, dot_total_left}
 use Rattle.integer_algebra.proofs.Quoting.{by_ring, quotes}
 use Rattle.mat_int.specs.Matrix.{entry_of}
 use Rattle.qp_model.specs.problem.Design.{Design}
