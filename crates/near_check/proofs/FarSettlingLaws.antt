@@ -1,8 +1,8 @@
 -- Loops that begin where limits bind settle: by induction over their first turns, and then as those that begin where no multiplier moves.
-use Rattle.std.proofs.Common.{◌≡◌, inl, inr, ℕ, zero, suc, ◌+◌, ◌-◌, ◌<◌, ◌≤◌, Bool, true, false, ℤ, ◌≤ℤ◌, List, length, le_refl, if◌then◌else◌, nat_lt, arith, subst, sym, ◌∙◌}
+use Rattle.std.proofs.Common.{◌≡◌, inl, inr, ℕ, zero, suc, ◌+◌, ◌-◌, ◌<◌, ◌≤◌, Bool, true, false, ℤ, ◌≤ℤ◌, List, length, le_refl, if◌then◌else◌, nat_lt, arith, ap, subst, sym, ◌∙◌}
 use Rattle.std.proofs.lemmas.Int.{ints}
 use Rattle.std.proofs.lemmas.Bool.{cases_lt, le-ltb}
-use Rattle.integer_algebra.specs.Sums.{at}
+use Rattle.integer_algebra.specs.Sums.{dot, at}
 use Rattle.qp_model.specs.problem.Design.{Design}
 use Rattle.qp_model.specs.problem.Parts.{design_of}
 use Rattle.qp_model.specs.machine.Controller.{Numbers}
@@ -11,13 +11,19 @@ use Rattle.qp_model.proofs.SoundLaws.{sound}
 use Rattle.stay_check.specs.LoopStay.{state_under, AreShiftsUpTo}
 use Rattle.settle_check.specs.Still.{Box, box_of, LiesInBox, IsPartOf}
 use Rattle.settle_check.specs.ClosedRows.{IsLoopFor}
-use Rattle.settle_check.specs.Settling.{Certificate, Settles, IsSettledAt}
+use Rattle.settle_check.specs.Settling.{Certificate, Settles, IsSettledAt, settled_box, told_rows, cost_numbers, cost_box}
 use Rattle.settle_check.proofs.TubeLaws.{state_long}
-use Rattle.settle_check.proofs.SettlingLaws.{wider, goes_on, grid_state, settling_law}
+use Rattle.settle_check.proofs.SettlingLaws.{wider, goes_on, grid_state, costs_from, settling_law}
 use Rattle.near_check.specs.FarTube.{FirstTurns, AreNear, box_at, IsThrough, far_tube}
-use Rattle.near_check.specs.FarSettling.{FarSettles, IsFarSettledAt, FarSettlingLaw, CertifiedFarLaw}
+use Rattle.near_check.specs.FarSettling.{FarSettles, FarSettlingLaw, CertifiedFarLaw}
 use Rattle.near_check.proofs.FarTubeLaws.{far_tube_law}
 use Rattle.near_check.proofs.NearLaws.{certified_near_law}
+
+-- all but the rows of the cost
+record Lies (d : Design) (c : Numbers) (shifts : Box) (s : Certificate) (g : FirstTurns) (turn : ℕ) (xi : List ℤ) : Type 0 where
+  admissible : IsAdmissible c xi
+  inside : g.count ≤ turn → LiesInBox d.states s.still (at xi)
+  settled : s.turns ≤ turn → LiesInBox d.states (settled_box d c shifts s) (at xi)
 
 module _ (d : Design) (c : Numbers) (shifts : Box) (s : Certificate) (g : FirstTurns) (loop : IsLoopFor d c) (near : AreNear d c g) (settles : FarSettles d c shifts s g) where
   -- before each turn up to the last the loop lies in its box
@@ -42,7 +48,7 @@ module _ (d : Design) (c : Numbers) (shifts : Box) (s : Certificate) (g : FirstT
 
   -- before the last turn
   early : (start : List ℤ) → length start ≡ d.states → LiesInBox d.states s.start (at start) → (w : ℕ → ℕ → ℤ) (t : ℕ) → t < s.turns →
-      AreShiftsUpTo d shifts.low shifts.high w t → IsFarSettledAt d c shifts s g t (state_under d c start w t)
+      AreShiftsUpTo d shifts.low shifts.high w t → Lies d c shifts s g t (state_under d c start w t)
   early start long lies w t h within =
       let x = state_under d c start w t in
       let here : LiesInBox d.states (box_at g s.still t) (at x) =
@@ -55,7 +61,6 @@ module _ (d : Design) (c : Numbers) (shifts : Box) (s : Certificate) (g : FirstT
         };
         inside = λ k. subst (λ (b : Bool). LiesInBox d.states (if b then g.outer else s.still) (at x)) (le-ltb t g.count k) here;
         settled = λ k. absurd (omega (arith, h, k));
-        costs = λ k. absurd (omega (arith, h, k));
       }
     where
       in_box : (b : Bool) → IsPartOf d.states (box_of c.low c.high) (if b then g.outer else s.still)
@@ -80,7 +85,7 @@ module _ (d : Design) (c : Numbers) (shifts : Box) (s : Certificate) (g : FirstT
 
   -- from it on
   late : (start : List ℤ) → length start ≡ d.states → LiesInBox d.states s.start (at start) → (w : ℕ → ℕ → ℤ) (t : ℕ) →
-      AreShiftsUpTo d shifts.low shifts.high w (t + s.turns) → IsFarSettledAt d c shifts s g (t + s.turns) (state_under d c start w (t + s.turns))
+      AreShiftsUpTo d shifts.low shifts.high w (t + s.turns) → Lies d c shifts s g (t + s.turns) (state_under d c start w (t + s.turns))
   late start long lies w t within =
       let there = state_under d c start w s.turns in
       let arrived = wider d.states s.rest _ (at there) settles.to (in_tube start long lies w s.turns (le_refl s.turns) (λ k l. within k (omega (arith, l)))) in
@@ -91,16 +96,42 @@ module _ (d : Design) (c : Numbers) (shifts : Box) (s : Certificate) (g : FirstT
         admissible = here.admissible;
         inside = λ k. here.inside;
         settled = λ k. here.settled (omega arith);
-        costs = λ k. here.costs (omega (arith, k));
       }
 
+  -- at any turn
+  lies_at : (start : List ℤ) → length start ≡ d.states → LiesInBox d.states s.start (at start) → (w : ℕ → ℕ → ℤ) (turns : ℕ) →
+      AreShiftsUpTo d shifts.low shifts.high w turns → Lies d c shifts s g turns (state_under d c start w turns)
+  lies_at start long lies w turns within = elim (cases_lt turns s.turns) [
+    | inl o ↦ early start long lies w turns o within
+    | inr o ↦ (let e : turns - s.turns + s.turns ≡ turns = omega (arith, o) in
+        subst (λ t. Lies d c shifts s g t (state_under d c start w t)) e
+        (late start long lies w (turns - s.turns) (λ k l. within k (omega (arith, l, e)))))
+  ]
+
+  -- the rows of the cost, as of a loop that begins after the first turns
+  costs_at : (start : List ℤ) → length start ≡ d.states → LiesInBox d.states s.start (at start) → (w : ℕ → ℕ → ℤ) (turns : ℕ) →
+      AreShiftsUpTo d shifts.low shifts.high w turns → g.count + s.after ≤ turns →
+      LiesInBox (told_rows d s.after) (cost_box d c s.still shifts s.after) (λ k. dot d.states (cost_numbers d k) (at (state_under d c start w turns)))
+  costs_at start long lies w turns within h =
+      let q = g.count in
+      let t = turns - q in
+      let e : t + q ≡ turns = omega (arith, h) in
+      let there = state_under d c start w q in
+      subst (λ (x : List ℤ). LiesInBox (told_rows d s.after) (cost_box d c s.still shifts s.after) (λ k. dot d.states (cost_numbers d k) (at x)))
+      (goes_on d c start w q t ∙ ap (state_under d c start w) e)
+      (costs_from d c shifts s loop settles.still there (state_long d c start w q long) (λ k. w (k + q)) t (λ k l. within (k + q) (omega (arith, l, e)))
+      (λ k l. subst (λ (x : List ℤ). LiesInBox d.states s.still (at x)) (sym (goes_on d c start w q k))
+      ((lies_at start long lies w (k + q) (λ j o. within j (omega (arith, o, l, e)))).inside (omega arith))) (omega (arith, h)))
+
 pub far_settling_law : FarSettlingLaw
-far_settling_law d c shifts s g loop near settles start long lies w turns within = elim (cases_lt turns s.turns) [
-  | inl o ↦ early d c shifts s g loop near settles start long lies w turns o within
-  | inr o ↦ (let e : turns - s.turns + s.turns ≡ turns = omega (arith, o) in
-      subst (λ t. IsFarSettledAt d c shifts s g t (state_under d c start w t)) e
-      (late d c shifts s g loop near settles start long lies w (turns - s.turns) (λ k l. within k (omega (arith, l, e)))))
-]
+far_settling_law d c shifts s g loop near settles start long lies w turns within =
+    let here = lies_at d c shifts s g loop near settles start long lies w turns within in
+    record {
+      admissible = here.admissible;
+      inside = here.inside;
+      settled = here.settled;
+      costs = costs_at d c shifts s g loop near settles start long lies w turns within;
+    }
 
 -- ---- a certified controller
 pub certified_far_law : CertifiedFarLaw

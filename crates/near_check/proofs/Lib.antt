@@ -2,6 +2,7 @@
 -- ---- one plan
 pub mod DistanceLaws
 pub mod NearLaws
+pub mod LeanNearLaws
 -- ---- loops
 pub mod FarRowLaws
 pub mod FarTubeLaws

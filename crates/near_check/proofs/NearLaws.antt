@@ -142,7 +142,8 @@ module _ (p : DesignParts) (h : Form) (r : ℕ) (c : Numbers) (xi : List ℤ) (r
   cheap gap excess units some costs near =
       joined (pos (2 ^ 16)) (pos (2 ^ 24)) (pos (cost_scale d)) (cost d (pos (average_denominator c)) (at xi) (at (averaged_plan c xi))) (cost d near.denominator (at xi) near.plan)
       (cost d (machine_scale c) (at xi) (lifted_plan c xi 0)) (pos gap) (pos excess) (pos (average_denominator c)) near.denominator (machine_scale c) near.positive (omega (arith, ints))
-      (costs near.denominator near.plan near.positive (λ i l. feasible units (pos (residual_scale d)) near.denominator (residual d near.denominator (at xi) near.plan i) some (omega (arith, ints)) (le_of_lt_z near.positive) (near.slacks i l)))
+      (costs near.denominator near.plan near.positive
+      (λ i l. feasible units (pos (residual_scale d)) near.denominator (residual d near.denominator (at xi) near.plan i) some (omega (arith, ints)) (le_of_lt_z near.positive) (near.slacks i l)))
       (near.best (machine_scale c) (lifted_plan c xi 0) (pos_positive (2 ^ (c.fraction_bits + c.step_exponent)) (pow_pos (c.fraction_bits + c.step_exponent))))
     where
       feasible : (k s q y : ℤ) → pos 0 ≤ℤ k → pos 0 ≤ℤ s → pos 0 ≤ℤ q → (k *ℤ (s *ℤ q)) ≤ℤ (pos (2 ^ 16) *ℤ neg_ℤ y) → y ≤ℤ pos 0
@@ -168,6 +169,7 @@ certified_near_law p h r c b plans units excess beta by xi long inside =
     let d = design_of p in
     let run : IsRunOf p h r c xi = record { design = by.design; bound = by.bound; form = by.form; controller = by.controller; made = by.made; long = long; inside = inside } in
     near_law p h r c xi run (real_errors d h r c) (carried p h r c xi run 0) (unsigned_abs b.gap) excess units by.feasible
-    (λ o t po feasible. no_more (pos (2 ^ 40)) (cost d (pos (average_denominator c)) (at xi) (at (averaged_plan c xi))) (cost d o (at xi) t) b.gap (pos (unsigned_abs b.gap)) (pos (cost_scale d)) (pos (average_denominator c)) o (omega (arith, ints)) (omega (arith, ints))
+    (λ o t po feasible. no_more (pos (2 ^ 40)) (cost d (pos (average_denominator c)) (at xi) (at (averaged_plan c xi))) (cost d o (at xi) t) b.gap (pos (unsigned_abs b.gap))
+    (pos (cost_scale d)) (pos (average_denominator c)) o (omega (arith, ints)) (omega (arith, ints))
     ((by.certified xi long inside).plan.costs o t po feasible))
     (excess_box_law d (input_floor d) plans units (pos excess) (sound p by.design) by.policy by.corners (at xi) inside) beta by.far

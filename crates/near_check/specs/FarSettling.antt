@@ -33,7 +33,7 @@ pub record IsFarSettledAt (d : Design) (c : Numbers) (shifts : Box) (s : Certifi
   pub admissible : IsAdmissible c xi
   pub inside : g.count ≤ turn → LiesInBox d.states s.still (at xi)
   pub settled : s.turns ≤ turn → LiesInBox d.states (settled_box d c shifts s) (at xi)
-  pub costs : s.turns + s.after ≤ turn → LiesInBox (told_rows d s.after) (cost_box d c s.still shifts s.after) (λ k. dot d.states (cost_numbers d k) (at xi))
+  pub costs : g.count + s.after ≤ turn → LiesInBox (told_rows d s.after) (cost_box d c s.still shifts s.after) (λ k. dot d.states (cost_numbers d k) (at xi))
 
 abbrev pub FarSettlingLaw : Type 0
 FarSettlingLaw = (d : Design) (c : Numbers) (shifts : Box) (s : Certificate) (g : FirstTurns) → IsLoopFor d c → AreNear d c g → FarSettles d c shifts s g →
@@ -46,7 +46,8 @@ pub record IsFarKeptAt (d : Design) (c : Numbers) (b : Printed) (shifts : Box) (
   pub kept : IsKeptAt d c b xi
 
 abbrev pub CertifiedFarLaw : Type 0
-CertifiedFarLaw = (p : DesignParts) (h : Form) (r : ℕ) (c : Numbers) (b : Printed) (plans : Plans) (units : ℤ) (excess : ℕ) (shifts : Box) (s : Certificate) (g : FirstTurns) →
+CertifiedFarLaw = (p : DesignParts) (h : Form) (r : ℕ) (c : Numbers) (b : Printed) (plans : Plans) (units : ℤ) (excess : ℕ) →
+    (shifts : Box) (s : Certificate) (g : FirstTurns) →
     IsNearBy p h r c b plans units excess g.distance → FarSettles (design_of p) c shifts s g →
     (start : List ℤ) → length start ≡ (design_of p).states → LiesInBox (design_of p).states s.start (at start) → (disturbances : ℕ → ℕ → ℤ) (turns : ℕ) →
     AreShiftsUpTo (design_of p) shifts.low shifts.high disturbances turns →

@@ -1,5 +1,6 @@
 pub mod Distance
 pub mod Near
+pub mod LeanNear
 pub mod FarRows
 pub mod FarTube
 pub mod FarSettling

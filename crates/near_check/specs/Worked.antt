@@ -21,7 +21,8 @@ worked_turns = record { outer = worked_box (negsuc 39) (pos 40); distance = λ l
 
 -- one turn from the whole box, and then where no multiplier moves: -31 .. 32
 abbrev pub worked_tube : ℕ → Box
-worked_tube = far_tube worked_plant worked_controller (worked_box (negsuc 30) (pos 32)) (worked_box (pos 0) (pos 0)) (worked_box (negsuc 39) (pos 40)) worked_turns
+worked_tube =
+    far_tube worked_plant worked_controller (worked_box (negsuc 30) (pos 32)) (worked_box (pos 0) (pos 0)) (worked_box (negsuc 39) (pos 40)) worked_turns
 
 -- The distance is the least that is far enough: its square is no less than what is asked of it, and that of the number before it is. With it the loop lies
 -- where no multiplier moves from turn 1 on, and within 2 from turn 5 on.

@@ -3,6 +3,7 @@
 
 ghost use Rattle.near_check.specs.Distance.{DistanceLaw};
 ghost use Rattle.near_check.specs.Near.{NearLaw, CertifiedNearLaw};
+ghost use Rattle.near_check.specs.LeanNear.{LeanNearLaw};
 ghost use Rattle.near_check.specs.FarRows.{FarRowLaw};
 ghost use Rattle.near_check.specs.FarTube.{FarTubeLaw};
 ghost use Rattle.near_check.specs.FarSettling.{FarSettlingLaw, CertifiedFarLaw};
@@ -22,6 +23,11 @@ pub fn near_law()
 /// So are those of a certified controller from every grid state of the box, where a policy's excess shows it.
 pub fn certified_near_law()
     ensures { CertifiedNearLaw }
+{}
+
+/// And those of a lean controller, by any policy and references.
+pub fn lean_near_law()
+    ensures { LeanNearLaw }
 {}
 
 /// From a state at which the plan is near, what the plant's next state has of a whole row, with any shift between two lists, is at most what the state

@@ -117,7 +117,7 @@ row_settling_law d c shifts s loop still settles start long lies w turns within 
     row_from d c shifts s.still loop still start long w turns within (λ k l. (settles start long lies w k (λ j o. within j (omega (arith, o, l)))).inside) row back h
 
 -- the rows of the cost
-costs_from : (d : Design) (c : Numbers) (shifts : Box) (s : Certificate) → IsLoopFor d c → IsStill c s.still → (start : List ℤ) → length start ≡ d.states → (w : ℕ → ℕ → ℤ) (turns : ℕ) →
+pub costs_from : (d : Design) (c : Numbers) (shifts : Box) (s : Certificate) → IsLoopFor d c → IsStill c s.still → (start : List ℤ) → length start ≡ d.states → (w : ℕ → ℕ → ℤ) (turns : ℕ) →
     AreShiftsUpTo d shifts.low shifts.high w turns → ((k : ℕ) → k ≤ turns → LiesInBox d.states s.still (at (state_under d c start w k))) → s.after ≤ turns →
     LiesInBox (told_rows d s.after) (cost_box d c s.still shifts s.after) (λ k. dot d.states (cost_numbers d k) (at (state_under d c start w turns)))
 costs_from d c shifts s loop still start long w turns within inside h k l =
