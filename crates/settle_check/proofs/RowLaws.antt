@@ -14,14 +14,15 @@ use Rattle.integer_algebra.proofs.DivisionLaws.{round_of_bounds}
 use Rattle.integer_algebra.proofs.OrderLaws.{le_by, le_of_lt_z, add-le-add_z, mul-le-mul_left_z, mul_nonneg_z, mul_pos_z, cancel-le_z}
 use Rattle.integer_algebra.proofs.SumLaws.{total_same, total_zero, total_add, total_mono, total_scale, total_scale_right}
 use Rattle.integer_algebra.proofs.SizeLaws.{amount_term, at_size, total_amount}
-use Rattle.integer_algebra.proofs.VectorLaws.{dot_same, dot_add_right, dot_sub, dot_scale, dot_scale_right, dot_image, dot_total_left, image_same, image_scale}
+use Rattle.integer_algebra.proofs.VectorLaws.{dot_same, dot_add_right, dot_sub, dot_scale, dot_scale_right, dot_image, dot_total_left}
 use Rattle.integer_algebra.proofs.Quoting.{by_ring, quotes}
 use Rattle.mat_int.specs.Matrix.{entry_of}
 use Rattle.qp_model.specs.problem.Design.{Design}
 use Rattle.qp_model.specs.machine.Controller.{Numbers}
 use Rattle.qp_model.specs.machine.Machine.{averaged_plan}
 use Rattle.qp_model.specs.machine.Successor.{grid_scale, next_sum, next_over, successor}
-use Rattle.settle_check.specs.Still.{Box, LiesInBox, fraction_unit, IsStill, still_entry}
+use Rattle.stay_check.specs.LoopStay.{shifted_successor}
+use Rattle.settle_check.specs.Still.{Box, LiesInBox, greatest_over, fraction_unit, IsStill, still_entry}
 use Rattle.settle_check.specs.ClosedRows.{loop_over, through_loop, turn_rest, parted, rounded_row, rounded_size, IsLoopFor, RowLaw}
 use Rattle.settle_check.proofs.FloorLaws.{le-floor, multiple, round_of_whole}
 use Rattle.settle_check.proofs.StillLaws.{dot_le-greatest, first_inputs, plan_most, still_law}
@@ -104,7 +105,7 @@ through_is d c row j =
     turn b p y = by_ring (b ∷ p ∷ y ∷ []) (search quotes depth 60 fits 20000) refl
 
 -- what is left of it at a state
-rest_is : (d : Design) (c : Numbers) (row next xi : ℕ → ℤ) →
+pub rest_is : (d : Design) (c : Numbers) (row next xi : ℕ → ℤ) →
     dot d.states (λ j. through_loop d c row j -ℤ pos (loop_over d c) *ℤ next j) xi ≡
     pos (fraction_unit c) *ℤ dot d.states (coimage d.states d.plant_a row) xi
     -ℤ dot d.states (coimage d.inputs (entry_of c.state_gains) (coimage d.states d.plant_b row)) xi -ℤ pos (loop_over d c) *ℤ dot d.states next xi
@@ -117,18 +118,28 @@ rest_is d c row next xi =
     (dot_scale d.states (pos (loop_over d c)) next xi)
 
 -- ---- a turn
--- the numerators of the next state under sums that are K times u
+-- the numerators of the next state
+pub numerators_are : (d : Design) (c : Numbers) (row : ℕ → ℤ) (xi : List ℤ) →
+    dot d.states row (next_sum d c xi) ≡
+    pos (grid_scale c) *ℤ dot d.states (coimage d.states d.plant_a row) (at xi) +ℤ dot d.inputs (coimage d.states d.plant_b row) (at (averaged_plan c xi))
+numerators_are d c row xi =
+    let A = image d.states d.plant_a (at xi) in
+    let B = image d.inputs d.plant_b (at (averaged_plan c xi)) in
+    dot_same d.states row _ (λ i. pos (grid_scale c) *ℤ A i +ℤ B i) (λ i l. ap (λ (z : ℤ). z +ℤ B i) (*ℤ_comm (A i) (pos (grid_scale c))))
+    ∙ dot_add_right d.states row (λ i. pos (grid_scale c) *ℤ A i) B
+    ∙ add_equations
+    (dot_scale_right d.states (pos (grid_scale c)) row A ∙ ap (λ (z : ℤ). pos (grid_scale c) *ℤ z) (dot_image d.states d.states d.plant_a row (at xi)))
+    (dot_image d.states d.inputs d.plant_b row (at (averaged_plan c xi)))
+
+-- under sums that are K times u
 sums_are : (d : Design) (c : Numbers) (row u : ℕ → ℤ) (xi : List ℤ) → ((l : ℕ) → l < d.inputs → at (averaged_plan c xi) l ≡ pos c.steps *ℤ u l) →
     dot d.states row (next_sum d c xi) ≡
     pos (grid_scale c) *ℤ dot d.states (coimage d.states d.plant_a row) (at xi) +ℤ pos c.steps *ℤ dot d.inputs (coimage d.states d.plant_b row) u
 sums_are d c row u xi same =
-    let A = image d.states d.plant_a (at xi) in
-    dot_same d.states row _ (λ i. pos (grid_scale c) *ℤ A i +ℤ pos c.steps *ℤ image d.inputs d.plant_b u i)
-    (λ i l. add_equations (*ℤ_comm (A i) (pos (grid_scale c))) (image_same d.inputs d.plant_b _ _ i same ∙ image_scale d.inputs d.plant_b (pos c.steps) u i))
-    ∙ dot_add_right d.states row (λ i. pos (grid_scale c) *ℤ A i) (λ i. pos c.steps *ℤ image d.inputs d.plant_b u i)
-    ∙ add_equations
-    (dot_scale_right d.states (pos (grid_scale c)) row A ∙ ap (λ (z : ℤ). pos (grid_scale c) *ℤ z) (dot_image d.states d.states d.plant_a row (at xi)))
-    (dot_scale_right d.states (pos c.steps) row (image d.inputs d.plant_b u) ∙ ap (λ (z : ℤ). pos c.steps *ℤ z) (dot_image d.states d.inputs d.plant_b row u))
+    let input = coimage d.states d.plant_b row in
+    numerators_are d c row xi
+    ∙ ap (λ (z : ℤ). pos (grid_scale c) *ℤ dot d.states (coimage d.states d.plant_a row) (at xi) +ℤ z)
+    (dot_same d.inputs input _ _ same ∙ dot_scale_right d.inputs (pos c.steps) input u)
 
 -- the sum of all: y of the next state and x of the state; alpha and w of the plant and of the gains, beta of the inputs; m is rounded
 one_turn : (a K s D F : ℕ) (y x alpha beta v w g rho m sum : ℤ) → F ≡ s * D → 1 ≤ K → 1 ≤ s →
@@ -149,10 +160,24 @@ one_turn a K s D F y x alpha beta v w g rho m sum e k l h f i j r =
         (add-le-add_z (mul-le-mul_left_z (pos 2 *ℤ K) (omega (arith, ints, k)) i) (mul-le-mul_left_z (pos 2 *ℤ (K *ℤ s)) (omega (arith, ints, p)) j)))
         (by_ring (a ∷ K ∷ s ∷ D ∷ y ∷ x ∷ alpha ∷ beta ∷ v ∷ w ∷ g ∷ m ∷ []) (search quotes depth 60 fits 20000) refl))
 
-unit_is : (d : Design) (c : Numbers) → IsLoopFor d c → fraction_unit c ≡ 2 ^ (c.fraction_bits - c.grid_bits) * 2 ^ d.grid
+pub unit_is : (d : Design) (c : Numbers) → IsLoopFor d c → fraction_unit c ≡ 2 ^ (c.fraction_bits - c.grid_bits) * 2 ^ d.grid
 unit_is d c loop =
     let split : c.fraction_bits ≡ c.fraction_bits - c.grid_bits + d.grid = omega (arith, loop.sized.fraction_bits, loop.sizes.grid) in
     ap (λ n. 2 ^ n) split ∙ pow-add 2 (c.fraction_bits - c.grid_bits) d.grid
+
+-- what the next state has of a row, by its numerators
+pub turn_rounded : (d : Design) (c : Numbers) → IsLoopFor d c → (row : ℕ → ℤ) (xi : List ℤ) →
+    (pos 2 *ℤ (pos (next_over d c) *ℤ dot d.states row (λ i. round_of (next_sum d c xi i) (next_over d c)))) ≤ℤ
+    (pos 2 *ℤ dot d.states row (next_sum d c xi) +ℤ pos (next_over d c) *ℤ pos (rounded_size d row))
+turn_rounded d c loop row xi =
+    let over : 0 < next_over d c = omega (arith, one-le-mul loop.plant (one-le-mul loop.sized.steps.0 (pow_pos (c.fraction_bits - c.grid_bits)))) in
+    rounded_most d.states row (next_sum d c xi) (rounded_row d row) (next_over d c) over (λ i l. charged i)
+  where
+    charged : (i : ℕ) → (rounded_row d row i ≡ row i) ⊎ ((rounded_row d row i ≡ pos 0) × (q : ℤ) × (next_sum d c xi i ≡ q *ℤ pos (next_over d c)))
+    charged i = elim (cases_eq (parted d i) 0) [
+      | inl e ↦ (let none : rounded_row d row i ≡ pos 0 = grind arith in let whole = next_whole d c xi i (omega (arith, loop.plant)) e in inr (none, whole.0, whole.1))
+      | inr n ↦ (let own : rounded_row d row i ≡ row i = grind arith in inl own)
+    ]
 
 -- before the shift
 turn_most : (d : Design) (c : Numbers) (z : Box) → IsLoopFor d c → IsStill c z → (row next : ℕ → ℤ) (xi : List ℤ) → length xi ≡ d.states → LiesInBox d.states z (at xi) →
@@ -161,7 +186,6 @@ turn_most : (d : Design) (c : Numbers) (z : Box) → IsLoopFor d c → IsStill c
 turn_most d c z loop still row next xi long inside =
     let s = 2 ^ (c.fraction_bits - c.grid_bits) in
     let some : 1 ≤ s = omega (arith, pow_pos (c.fraction_bits - c.grid_bits)) in
-    let over : 0 < next_over d c = omega (arith, one-le-mul loop.plant (one-le-mul loop.sized.steps.0 some)) in
     let wide : 0 < 2 * loop_over d c = omega (arith, one-le-mul loop.plant (pow_pos c.fraction_bits)) in
     let input = coimage d.states d.plant_b row in
     let small = first_inputs c d.inputs loop.sized loop.sizes.inputs in
@@ -170,31 +194,31 @@ turn_most d c z loop still row next xi long inside =
     let run = still_law c z loop.sized still xi length_c in_c in
     le-floor _ _ (2 * loop_over d c) wide (one_turn d.plant_denominator c.steps s (2 ^ d.grid) (fraction_unit c) _ (dot d.states next (at xi)) _ _ _ _ _ _ (pos (rounded_size d row)) _
     (unit_is d c loop) loop.sized.steps.0 some
-    (rounded_most d.states row (next_sum d c xi) (rounded_row d row) (next_over d c) over (λ i l. charged i))
+    (turn_rounded d c loop row xi)
     (sums_are d c row (still_entry c xi) xi (λ l o. run.average l (omega (arith, o, small))))
     (over_states _ _ (pos s) _ _ (ap (λ n. dot n (coimage d.inputs (entry_of c.state_gains) input) (at xi)) loop.sizes.states) (plan_most c xi d.inputs input loop.sized length_c small))
     (dot_le-greatest d.states z (λ j. through_loop d c row j -ℤ pos (loop_over d c) *ℤ next j) (at xi) inside)
     (rest_is d c row next (at xi)))
   where
-    charged : (i : ℕ) → (rounded_row d row i ≡ row i) ⊎ ((rounded_row d row i ≡ pos 0) × (q : ℤ) × (next_sum d c xi i ≡ q *ℤ pos (next_over d c)))
-    charged i = elim (cases_eq (parted d i) 0) [
-      | inl e ↦ (let none : rounded_row d row i ≡ pos 0 = grind arith in let whole = next_whole d c xi i (omega (arith, loop.plant)) e in inr (none, whole.0, whole.1))
-      | inr n ↦ (let own : rounded_row d row i ≡ row i = grind arith in inl own)
-    ]
-
     over_states : (b v s w x : ℤ) → w ≡ x → b ≤ℤ (v -ℤ s *ℤ x) → b ≤ℤ (v -ℤ s *ℤ w)
     over_states b v s w x e h = rw e h
 
-pub row_law : RowLaw
-row_law d c z shifts loop still row next xi shift long inside within =
+-- and after it
+pub shifted_most : (d : Design) (c : Numbers) (shifts : Box) (row : ℕ → ℤ) (xi : List ℤ) (shift : ℕ → ℤ) (from most : ℤ) → LiesInBox d.states shifts shift →
+    (dot d.states row (λ i. round_of (next_sum d c xi i) (next_over d c)) -ℤ from) ≤ℤ most →
+    dot d.states row (at (shifted_successor d c xi shift)) ≤ℤ (from +ℤ (most +ℤ greatest_over d.states shifts row))
+shifted_most d c shifts row xi shift from most within h =
     let y : ℕ → ℤ = λ i. round_of (next_sum d c xi i) (next_over d c) in
     let outer : ℕ → ℤ = λ i. at (successor d c xi) i +ℤ shift i in
     joined _ _ _ _ _ _
     (dot_same d.states row _ (λ i. y i +ℤ shift i) (λ i l. get_or-map-range_with_len outer 0 d.states i i (pos 0) l (omega arith)
     ∙ ap (λ (z : ℤ). z +ℤ shift i) (get_or-map-range_with_len y 0 d.states i i (pos 0) l (omega arith)))
     ∙ dot_add_right d.states row y shift)
-    (turn_most d c z loop still row next xi long inside)
-    (dot_le-greatest d.states shifts row shift within)
+    h (dot_le-greatest d.states shifts row shift within)
   where
     joined : (t y s x f g : ℤ) → t ≡ y +ℤ s → (y -ℤ x) ≤ℤ f → s ≤ℤ g → t ≤ℤ (x +ℤ (f +ℤ g))
     joined t y s x f g e h k = omega (arith, ints, e, h, k)
+
+pub row_law : RowLaw
+row_law d c z shifts loop still row next xi shift long inside within =
+    shifted_most d c shifts row xi shift _ _ within (turn_most d c z loop still row next xi long inside)

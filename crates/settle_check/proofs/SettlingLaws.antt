@@ -18,7 +18,7 @@ use Rattle.settle_check.specs.Settling.{Certificate, Leads, Settles, hull, settl
 use Rattle.settle_check.proofs.TubeLaws.{state_long, row_bound, tube_law}
 
 -- ---- boxes
-wider : (n : ℕ) (z part : Box) (x : ℕ → ℤ) → IsPartOf n z part → LiesInBox n part x → LiesInBox n z x
+pub wider : (n : ℕ) (z part : Box) (x : ℕ → ℤ) → IsPartOf n z part → LiesInBox n part x → LiesInBox n z x
 wider n z part x h k i l = let a = h i l in let b = k i l in (omega (arith, ints, a.0, b.0), omega (arith, ints, a.1, b.1))
 
 hull_holds : (n : ℕ) (boxes : ℕ → Box) (x : ℕ → ℤ) (k t : ℕ) → t ≤ k → LiesInBox n (boxes t) x → LiesInBox n (hull boxes k) x
@@ -37,7 +37,7 @@ hull_holds n boxes x (suc k) t h lies i l = elim (cases_lt t (suc k)) [
     high a b x (inr h) = omega (arith, ints, clamps, h)
 
 -- ---- a loop that goes on
-goes_on : (d : Design) (c : Numbers) (start : List ℤ) (w : ℕ → ℕ → ℤ) (n t : ℕ) →
+pub goes_on : (d : Design) (c : Numbers) (start : List ℤ) (w : ℕ → ℕ → ℤ) (n t : ℕ) →
     state_under d c (state_under d c start w n) (λ k. w (k + n)) t ≡ state_under d c start w (t + n)
 unfolding state_under
 goes_on d c start w n zero = ap (state_under d c start w) (omega arith)
@@ -117,7 +117,7 @@ row_settling_law d c shifts s loop still settles start long lies w turns within 
     row_from d c shifts s.still loop still start long w turns within (λ k l. (settles start long lies w k (λ j o. within j (omega (arith, o, l)))).inside) row back h
 
 -- the rows of the cost
-costs_from : (d : Design) (c : Numbers) (shifts : Box) (s : Certificate) → IsLoopFor d c → IsStill c s.still → (start : List ℤ) → length start ≡ d.states → (w : ℕ → ℕ → ℤ) (turns : ℕ) →
+pub costs_from : (d : Design) (c : Numbers) (shifts : Box) (s : Certificate) → IsLoopFor d c → IsStill c s.still → (start : List ℤ) → length start ≡ d.states → (w : ℕ → ℕ → ℤ) (turns : ℕ) →
     AreShiftsUpTo d shifts.low shifts.high w turns → ((k : ℕ) → k ≤ turns → LiesInBox d.states s.still (at (state_under d c start w k))) → s.after ≤ turns →
     LiesInBox (told_rows d s.after) (cost_box d c s.still shifts s.after) (λ k. dot d.states (cost_numbers d k) (at (state_under d c start w turns)))
 costs_from d c shifts s loop still start long w turns within inside h k l =
@@ -161,7 +161,7 @@ settling_law d c shifts s loop settles start long lies w turns within =
     }
 
 -- ---- a controller that is certified
-grid_state : (d : Design) (c : Numbers) → HasSizesOf d c → (xi : List ℤ) → IsAdmissible c xi → IsGridState d (at xi)
+pub grid_state : (d : Design) (c : Numbers) → HasSizesOf d c → (xi : List ℤ) → IsAdmissible c xi → IsGridState d (at xi)
 grid_state d c sizes xi h i l =
     let inside = h.each i (omega (arith, l, sizes.states)) in
     (rw (← sizes.low i l) inside.low, rw (← sizes.high i l) inside.high)

@@ -45,7 +45,7 @@ raised_zeros c l h i =
       | inr le ↦ get_or_past (raised c l) i (pos 0) (omega (arith, length-map-range_with_len f 0 (length c.bounds), le))
     ]
 
-entry_is : (c : Numbers) (xi l : List ℤ) → ((i : ℕ) → at l i ≡ pos 0) → (j : ℕ) → j < length c.offsets → at (plan_of c (loaded c xi) (raised c l)) j ≡ still_entry c xi j
+pub entry_is : (c : Numbers) (xi l : List ℤ) → ((i : ℕ) → at l i ≡ pos 0) → (j : ℕ) → j < length c.offsets → at (plan_of c (loaded c xi) (raised c l)) j ≡ still_entry c xi j
 entry_is c xi l h j inside =
     get_or-map-range_with_len (plan_entry c (loaded c xi) (raised c l)) 0 (length c.offsets) j j (pos 0) inside (omega arith)
     ∙ unscaled _ _ (fraction_unit c) (2 ^ c.step_exponent) _ (dot_zeros (row_of c.dual_gains j) (raised c l) (raised_zeros c l h))

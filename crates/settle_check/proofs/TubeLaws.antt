@@ -20,7 +20,7 @@ use Rattle.settle_check.proofs.StillLaws.{dot_le-greatest}
 use Rattle.settle_check.proofs.RowLaws.{row_law}
 
 -- ---- a sum by its first term
-total_first : (n : ℕ) (f : ℕ → ℤ) → total (suc n) f ≡ f 0 +ℤ total n (λ k. f (suc k))
+pub total_first : (n : ℕ) (f : ℕ → ℤ) → total (suc n) f ≡ f 0 +ℤ total n (λ k. f (suc k))
 total_first zero f = omega (arith, ints)
 total_first (suc n) f = omega (arith, ints, total_first n f)
 
@@ -62,7 +62,7 @@ row_bound d c z shifts from loop still start w turns long lies within inside row
     joined a b s g t e h k = omega (arith, ints, e, h, k)
 
 -- ---- the tube
-coordinate_dot : (n i : ℕ) (f : ℤ) (x : ℕ → ℤ) → i < n → dot n (coordinate_row i f) x ≡ f *ℤ x i
+pub coordinate_dot : (n i : ℕ) (f : ℤ) (x : ℕ → ℤ) → i < n → dot n (coordinate_row i f) x ≡ f *ℤ x i
 coordinate_dot n i f x l = total_same n _ _ (λ j o. choose_times (nat_eq j i) f (x j)) ∙ total_single n i (λ j. f *ℤ x j) l
 
 -- an end of a coordinate
