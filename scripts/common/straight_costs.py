@@ -12,34 +12,37 @@ from .texts import Controller
 
 # the widest that `c` writes
 MOST_WIDTH = 64
-# numbers that one instruction has, and numbers of the loop that the registers hold
-SHORT, HELD = range(-256, 65536), 10
+# numbers that one instruction has, numbers of the loop that the registers hold, and the most digits of a factor that are shifted
+SHORT, HELD, SHIFTED = range(-256, 65536), 10, 5
 # cycles, bytes of code and bytes of stack of each
 START = {
-    "average": (0.0, 189.4, 0.0),
-    "average by a shift": (0, 0, 0),
-    "coordinate": (1.3, 30.0, 0.0),
-    "entry": (10.9, 11.2, 0.0),
-    "entry's coefficient": (5.0, 9.2, 0.0),
-    "row's coefficient": (6.3, 17.2, 1.7),
+    "average": (0.0, 192.9, 0.0),
+    "average by a shift": (0.0, 15.8, 0.0),
+    "coordinate": (2.3, 34.0, 0.8),
+    "entry": (12.9, 0.0, 0.0),
+    "entry's coefficient": (4.5, 10.7, 0.0),
+    "row's coefficient": (5.2, 15.8, 1.9),
 }
 STEP = {
-    "entry": (1.3, 0.0, 13.0),
-    "entry's product": (5.4, 13.7, 0.0),
-    "entry's product of 64 bits": (14.6, 40.8, 3.1),
-    "entry's product, long factor": (6.4, 19.2, 0.1),
-    "number beyond the registers": (0.7, 2.6, 0.4),
-    "pair": (12.7, 18.2, 0.0),
-    "pair of 64 bits": (15.9, 10.8, 2.8),
-    "residual of 64 bits": (4.3, 19.4, 3.2),
-    "row": (0.0, 0.0, 5.5),
-    "row of 64 bits": (12.9, 21.5, 9.0),
-    "row's product": (2.1, 14.2, 2.0),
-    "row's product of 64 bits": (14.3, 38.8, 2.4),
-    "row's product, long factor": (4.2, 13.5, 0.0),
-    "row's sum": (1.6, 27.8, 3.3),
-    "row's sum of 64 bits": (7.5, 15.0, 4.1),
-    "sum of a run of 64 bits": (6.7, 34.1, 6.2),
+    "entry": (0.7, 5.1, 12.6),
+    "entry's digit of 64 bits": (6.5, 17.4, 0.6),
+    "entry's product": (4.9, 13.7, 0.1),
+    "entry's product of 64 bits": (14.3, 39.7, 3.5),
+    "entry's product, long factor": (6.2, 19.5, 0.1),
+    "number beyond the registers": (1.2, 3.8, 0.3),
+    "pair": (9.5, 10.0, 0.0),
+    "pair of 64 bits": (21.8, 34.9, 3.7),
+    "residual of 64 bits": (4.5, 7.8, 1.6),
+    "residual of 64 bits, shifted": (5.9, 21.6, 2.4),
+    "row": (0.0, 0.0, 6.4),
+    "row of 64 bits": (9.3, 15.6, 8.5),
+    "row's digit of 64 bits": (4.3, 14.5, 0.0),
+    "row's product": (3.2, 12.4, 0.8),
+    "row's product of 64 bits": (12.3, 34.5, 3.0),
+    "row's product, long factor": (4.9, 13.1, 0.2),
+    "row's sum": (4.4, 30.3, 1.0),
+    "row's sum of 64 bits": (5.4, 26.0, 4.0),
+    "sum of a run of 64 bits": (3.3, 22.7, 4.8),
 }
 
 Interval = tuple[int, int]
@@ -99,11 +102,19 @@ class Rows:
             left |= found
 
 
-def product(factor: int, is_wide: bool) -> str:
-    """The kind of a product of a factor with a variable of 64 bits or of 32."""
+def digits(factor: int) -> int:
+    """How many powers of two a factor is the fewest sum or difference of."""
+    triple = 3 * abs(factor)
+    return ((triple ^ abs(factor)) >> 1).bit_count()
+
+
+def product(factor: int, is_wide: bool) -> list[str]:
+    """What a product of a factor with a variable of 64 bits or of 32 takes. Of 64 bits gcc makes one of few digits by shifts and sums, though that takes longer."""
     if abs(factor) == 1:
-        return "sum of 64 bits" if is_wide else "sum"
-    return "product of 64 bits" if is_wide or is_long(abs(factor)) else "product" if factor in SHORT else "product, long factor"
+        return ["sum of 64 bits" if is_wide else "sum"]
+    if is_wide or is_long(abs(factor)):
+        return ["digit of 64 bits"] * digits(factor) if digits(factor) <= SHIFTED else ["product of 64 bits"]
+    return ["product" if factor in SHORT else "product, long factor"]
 
 
 class StraightCosts:
@@ -127,14 +138,14 @@ class StraightCosts:
     def counted_step(self) -> Counter[str]:
         c, rows, count = self.c, self.rows, Counter({"entry": self.c.entries})
         for row in rows.gains:
-            count.update("entry's " + product(row[i], is_long(rows.tops[i])) for i in rows.left if row[i] and i not in rows.seconds)
+            count.update("entry's " + what for i in rows.left if row[i] and i not in rows.seconds for what in product(row[i], is_long(rows.tops[i])))
         for i in rows.left:
             if i not in rows.seconds:
                 factors = [(v >> rows.shared[i], most) for v, most in zip(c.G[i], self.plan) if v * most]
-                count.update("row's " + product(factor, is_long(most)) for factor, most in factors)
+                count.update("row's " + what for factor, most in factors for what in product(factor, is_long(most)))
             long = " of 64 bits"
             count["row" + long * is_long(self.moved[i])] += 1
-            count["residual of 64 bits"] += is_long(self.moved[i] << c.bits - rows.shared[i])
+            count["residual of 64 bits" + ", shifted" * (rows.shared[i] < c.bits)] += is_long(self.moved[i] << c.bits - rows.shared[i])
         count.update("pair" + " of 64 bits" * is_long(rows.tops[i]) for i in rows.firsts)
         count["sum of a run of 64 bits"] = sum(map(is_long, self.sums))
         own = sum(self.of_state(c.E[i]) > 0 for i in rows.left)

@@ -192,8 +192,12 @@ class StraightCosts(unittest.TestCase):
         self.assertEqual(list(c_costs.c_words(self.costs(steps=1).c, None, 100))[0], "as C (./mpc c): no tables; 0 products a step")
 
     def test_kinds_of_products(self):
-        told = [straight_costs.product(factor, wide) for factor, wide in ((1, False), (-1, True), (-256, False), (-257, False), (65535, False), (65536, False), (2**31 - 1, False), (2**31, False), (2, True))]
-        self.assertEqual(told, ["sum", "sum of 64 bits", "product", "product, long factor", "product", "product, long factor", "product, long factor", "product of 64 bits", "product of 64 bits"])
+        told = [straight_costs.product(factor, False) for factor in (1, -256, -257, 65535, 65536, 2**31 - 1)]
+        self.assertEqual(told, [["sum"], ["product"], ["product, long factor"], ["product"], ["product, long factor"], ["product, long factor"]])
+        # 1001010101b has five digits, and one more is none of shifts
+        told = [straight_costs.product(factor, True) for factor in (-1, 2, 7, 0b1001010101, 0b101001010101)]
+        self.assertEqual(told, [["sum of 64 bits"], ["digit of 64 bits"], ["digit of 64 bits"] * 2, ["digit of 64 bits"] * 5, ["product of 64 bits"]])
+        self.assertEqual(straight_costs.product(2**31, False), ["digit of 64 bits"])
 
 
 class Texts(unittest.TestCase):
