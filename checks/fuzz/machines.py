@@ -40,11 +40,6 @@ class Plain:
         return [0] * len(form.q)
 
     @staticmethod
-    def tops(c):
-        """The greatest multipliers."""
-        return [c.clamp >> c.s - exponent for exponent in c.exps]
-
-    @staticmethod
     def multiplier_sums(clamp, _, residuals):
         """What multipliers come to at most before they are clamped, by what residuals do."""
         return [clamp + v for v in residuals]
@@ -52,7 +47,7 @@ class Plain:
     @staticmethod
     def run(c, plan_at, residuals_at):
         """The sums of all plans: `plan_at` is of multipliers, and `residuals_at` of a plan, rounded down."""
-        tops, multipliers, sums = Plain.tops(c), [0] * c.m, [0] * c.nu
+        tops, multipliers, sums = [c.clamp >> c.s - exponent for exponent in c.exps], [0] * c.m, [0] * c.nu
         for _ in range(c.steps):
             plan = plan_at(multipliers)
             multipliers = [min(top, max(0, old + v)) for top, old, v in zip(tops, multipliers, residuals_at(plan))]
@@ -103,10 +98,6 @@ class Accelerated:
     def mean_errors(form, s, exponents):
         missed = lambda column: sum(2 ** (s - exponent) * v.far for exponent, v in zip(exponents, column, strict=True))
         return [ceil_div(missed(column), 2**s * form.row_den) for column in zip(*form.g)]
-
-    @staticmethod
-    def tops(c):
-        return [2 * c.clamp >> c.s - exponent for exponent in c.exps]
 
     @staticmethod
     def multiplier_sums(clamp, steps, residuals):

@@ -1,8 +1,10 @@
 """The model of the accelerated machine against worked rows, whose numbers another program computed in exact whole numbers."""
 import unittest
 from fractions import Fraction
+from types import SimpleNamespace
 
 from checks.fuzz import control, model, program
+from checks.fuzz.forms import Enclosure
 from checks.fuzz.machines import ALL_VERSIONS, Accelerated
 from checks.rows.lean_rows import LEAN
 from checks.rows.worked_texts import DESIGN, LEAN_CONTROLLER, POLICY, REFERENCE
@@ -133,6 +135,16 @@ class Refused(unittest.TestCase):
         made = choice(design, POLICY, REFERENCE).report
         self.assertEqual([made[key] for key in ("multiplier", "steps", "bits")], [3, 7326, 30])
 
+    def test_too_wide_multipliers(self):
+        """Of R above 2^42, whose steps would be too many, the quantity is told: at the second corner the last row's slack is 1 / 65536, and the plan costs nearly 2^27."""
+        design = third(DESIGN.replace("stage = [[1, 0, 1]]", "stage = [[1, 0, 2147483647]]").replace("den = 1\nviolation = 16", "den = 1048576\nviolation = 1"))
+        policy = "1,0\n65536,-49153\n"
+        self.refused(GENERATE, "10 too-wide multiplier", d=design, p=policy)
+        self.refused(LEAN, "10 too-wide multiplier", d=design, p=policy, q="1,0\n1,-1\n")
+        second = design.replace("version = 3", "version = 2")
+        for words in (GENERATE, LEAN):
+            self.assertEqual(answer(words, d=second, p=policy, q="1,0\n1,-1\n").status, 8)
+
     def test_texts(self):
         text = answer(LEAN, d=third(DESIGN), p=POLICY, q=REFERENCE).written["c"].decode()
         refused = lambda old, new, line: self.refused(["solve", "c", "s"], f"11 controller 1 {line}", c=text.replace(old, new), s="1\n")
@@ -181,6 +193,53 @@ class Commands(unittest.TestCase):
         text = said.written["c"].decode()
         self.assertEqual((text.count("mpc-controller 3\n"), said.written["r"].decode().count("mpc-report 3\n")), (2, 2))
         self.assertEqual(answer(["serve", "c", "s"], c=text, s="1\n").out, [b"9216 -4960\n"])
+
+
+class Parts(unittest.TestCase):
+    """What the worked rows don't tell apart."""
+
+    def test_greatest_multipliers(self):
+        c, made = SimpleNamespace(clamp=5, s=2, exps=[0, 2], m=2, nu=1, steps=2), []
+        sums = Accelerated.after(c, lambda means: [sum(means)], lambda plan: [100, 100], lambda v: v, lambda *step: made.append(step))
+        # 10 over 4 and over 1; means are (4 + 3 * 2) / 10 and (20 + 3 * 10) / 10
+        self.assertEqual((made, sums), ([([0, 0], [0], [2, 10], [4, 20]), ([1, 5], [6], [2, 10], [10, 50])], [18]))
+
+    def test_clamp_that_binds(self):
+        text = answer(LEAN, d=third(COARSE), p=POLICY, q=REFERENCE).written["c"].decode().replace("clamp 2048\n", "clamp 200\n")
+        # the third multiplier is 256, 400, 400: means of 0, 128, 184
+        self.assertEqual(answer(["solve", "c", "s"], c=text, s="1\n").out, [b"4608 %d\n" % (2 * -256 + 3 * -272 + 4 * -279)])
+
+    def test_absolute_sums(self):
+        self.assertEqual(Accelerated.multiplier_sums(100, 3, [7, 0]), [200 + 4 * 7, 200, 200 * 9])
+        c = control.read_controller(answer(LEAN, d=third(COARSE), p=POLICY, q=REFERENCE).written["c"], ALL_VERSIONS)
+        _, _, plan, rows, multipliers, sums = control.absolute_sums(c)
+        self.assertEqual(multipliers, [4096 - 4 * (-v // 512) for v in rows] + [4096 * 9])
+        self.assertEqual(sums, [9 * v for v in plan])
+
+    def test_what_means_miss(self):
+        column = [[Enclosure(4)], [Enclosure(-4)], [Enclosure(3, 1)]]
+        missed = lambda s, exponents, rows: Accelerated.mean_errors(SimpleNamespace(g=rows, row_den=4), s, exponents)
+        # 4 / 4 over 2^0, 2^1 and 2^2
+        self.assertEqual(missed(2, [0, 1, 2], column), [2])
+        self.assertEqual(missed(2, [2, 2, 2], column), [1])
+        self.assertEqual(missed(0, [0, 0, 0], [*column[:2], [Enclosure(3, 2)]]), [4])
+
+    def test_errors_of_the_gradient_count_more_often(self):
+        """In each class: those of rounding and of radii, in epsilon and in the quantity."""
+        rounded = FINE.replace("a = [[1048576]]\nb = [[1048576]]", "a = [[1048577]]\nb = [[1048573]]")
+        for design in (DESIGN, rounded):
+            d = model.read_design(design.encode())
+            form = model.form_of(d)
+            once, often = (model.Errors(d, form, 2**30, [0] * d.entries, carry) for carry in (1, 5))
+            of_radii = d.entries * d.cost_den * once.by_radii(once.plan(0)) ** 2
+            self.assertEqual(often.size - once.size, 4 * (once.twice**2 * 2**40 * once.first + of_radii))
+            f, plan = 6, once.plan(6)
+            rest = -(-(2**40 * once.top * d.rows * once.residual(plan)) // 2 ** (f + 1)) - -once.of_rows(plan) // d.limit_den
+            of_radii = d.entries * d.cost_den * once.by_radii(plan) ** 2
+            wanted = -(-(5 * once.twice * 2**40 * once.first) // 4**f) + -(-(5 * of_radii) // (2**40 * once.rho)) + rest
+            self.assertEqual(often.epsilon(f), wanted)
+            self.assertEqual(form.is_fine, design == rounded)
+            self.assertEqual(of_radii > 2**40, form.is_fine)
 
 
 class Weights(unittest.TestCase):
