@@ -110,6 +110,15 @@ def size_of(folder, symbol):
     return int(re.search(rf"^\S+ (\S+) \S {symbol}$", got, re.M)[1], 16)
 
 
+def stack_of(folder, board, optimise="-O2", name="mpc"):
+    """The bytes of stack of NAME_solve, by the compiler."""
+    source = os.path.join(folder, name + ".c")
+    command = ["arm-none-eabi-gcc", "-mthumb", f"-mcpu={BOARDS[board].processor}", optimise, "-std=c99", "-ffreestanding", "-fstack-usage", f"-I{folder}", "-c", source, "-o", os.path.join(folder, "stack.o")]
+    subprocess.run(command, check=True)
+    with open(os.path.join(folder, "stack.su"), encoding="utf-8") as file:
+        return int(re.search(rf":{name}_solve\t(\d+)\t", file.read())[1])
+
+
 def counter(folder):
     """The plugin of the emulator that counts, built."""
     path = os.path.join(folder, "count.so")

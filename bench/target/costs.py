@@ -1,16 +1,18 @@
-"""costs.py [COUNT]: how near `scripts/common/c_costs.py` comes to what is measured on an emulated Cortex-M4, on COUNT controllers of each kind (4 where none is given).
+"""costs.py [COUNT]: how near `scripts/common/c_costs.py` and `straight_costs.py` come to what is measured on an emulated Cortex-M4, on COUNT controllers of each kind (4 where none is given).
 
 The controllers have random numbers in the shape of a design's: rows on inputs that count one entry, rows on states that count all entries before them, most in pairs of opposite rows.
-For each kind of words it prints the least and the greatest ratio of what is said to what is measured, of cycles and of flash; RAM must be the same. Needs gcc-arm-none-eabi,
-qemu-system-arm and cc.
+For each kind of words it prints the least and the greatest ratio of what is said to what is measured, of cycles and of flash; RAM of tables must be the same. The straight C, of controllers of at most
+64 bits, is the model's in checks/fuzz, which has the program's bytes. Needs gcc-arm-none-eabi, qemu-system-arm and cc.
 """
 import random
 import sys
 import tempfile
 
+from checks.fuzz import compiled, control
 from scripts.common.c_costs import Costs
+from scripts.common.straight_costs import MOST_WIDTH, StraightCosts
 from scripts.common.texts import Controller
-from scripts.tests.controllers import with_width
+from scripts.tests.controllers import text_of, with_width
 
 from . import board
 
@@ -65,18 +67,39 @@ def ratios(controller):
     return said.cycles / cycles, said.flash / flash
 
 
+def straight_ratios(controller):
+    """The same of its straight C, and of RAM."""
+    said = StraightCosts(controller)
+    with tempfile.TemporaryDirectory() as folder:
+        source, header = compiled.texts_of("mpc", control.read_controller(text_of(controller).encode()))
+        for name, text in (("mpc.c", source), ("mpc.h", header)):
+            board.write(folder, name, text.decode())
+        board.solve(folder, controller, [controller.hi], "m4", straight=True)
+        ((_, cycles),) = board.counts(folder, "m4")
+        held = board.stack_of(folder, "m4") + board.size_of(folder, "sums")
+        return said.cycles / cycles, said.flash / board.sizes(folder)[0], said.ram / held
+
+
+def told(name, found):
+    ranges = ", ".join(f"{what} {min(some):.2f} to {max(some):.2f}" for what, some in zip(("cycles", "flash", "RAM"), zip(*found)))
+    print(f"{name}: said over measured, {ranges}", flush=True)
+
+
 def main():
     if board.lacking():
         sys.exit(f"costs.py: nothing was measured: apt-get install {' '.join(board.lacking())}")
     count, r = int(sys.argv[1]) if len(sys.argv) > 1 else 4, random.Random(47)
+    straight = []
     for name, sizes in KINDS.items():
         found = []
         while len(found) < count:
             controller = shaped(r, *sizes)
             if controller is not None:
                 found.append(ratios(controller))
-        cycles, flash = zip(*found)
-        print(f"{name}: said over measured, cycles {min(cycles):.2f} to {max(cycles):.2f}, flash {min(flash):.2f} to {max(flash):.2f}", flush=True)
+                if controller.width <= MOST_WIDTH:
+                    straight.append(straight_ratios(controller))
+        told(name, found)
+    told(f"straight C of {len(straight)} of these", straight)
 
 
 if __name__ == "__main__":

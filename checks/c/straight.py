@@ -1,9 +1,13 @@
-"""straight.py PROGRAM [--count 30] [--seed 1] [CONTROLLER ..]: the C that PROGRAM's `c` writes of these controllers, or of random ones, by compilers and by a second reader.
+"""straight.py PROGRAM [--count 300] [--seed 1] [--jobs 4] [CONTROLLER ..]: the C that PROGRAM's `c` writes of these controllers, or of random ones, by compilers and by a second reader.
 
 gcc and clang, those that are installed, compile it as C99 at -O0 to -O3, and as C++17, with every warning an error, and under their sanitizers; from states in the box, at its ends, one beside them and at the ends
-of int32_t it must answer what the machine makes, and so must the text as pycparser reads it, where that is installed. Ends with 1 at the first that differs, whose text it prints.
+of int32_t it must answer what the machine makes, and so must the text as pycparser reads it, where that is installed. Of the random controllers half have a number at the end of its type: a clamp, a plan entry, a
+moved multiplier, the sum of a run, a row of 64 bits. A batch of them is compiled as one text, so that 300 take minutes. Says what controllers they were, and ends with 1 at the first that differs, whose text it prints.
 """
 import argparse
+import collections
+import itertools
+import multiprocessing
 import os
 import random
 import shutil
@@ -11,9 +15,9 @@ import subprocess
 import sys
 import tempfile
 
-from scripts.common.strict_texts import safe_controller
+from scripts.common.strict_texts import absolute_sums, ceil_div, safe_controller
 from scripts.tests import c_trials
-from scripts.tests.controllers import random_controller, run, text_of
+from scripts.tests.controllers import first_inputs, random_controller, run, text_of, with_width
 
 try:
     from . import reading
@@ -21,9 +25,59 @@ except ImportError:
     reading = None
 
 WARN = "-Wall -Wextra -Wconversion -Wsign-conversion -Wpedantic -Werror".split()
-WAYS = [["-std=c99", level] for level in ("-O0", "-O1", "-O2", "-O3")] + [["-std=c99", "-O1", "-fsanitize=undefined,address", "-fno-sanitize-recover=all"], ["-x", "c++", "-std=c++17", "-O2"]]
+SANITIZED = ["-std=c99", "-O1", "-fno-sanitize-recover=all"]
+WAYS = [["-std=c99", level] for level in ("-O0", "-O1", "-O2", "-O3")] + [[*SANITIZED, "-fsanitize=undefined,address"], ["-x", "c++", "-std=c++17", "-O2"]]
+# clang's group tells each implicit conversion that changes a value, too; shifts of negative numbers are not in it
+OWN_WAYS = {"gcc": [], "clang": [[*SANITIZED, "-fsanitize=integer"]]}
 # runs of the second reader are slow
 READ_STEPS = 64
+BATCH = 20
+MOST_WIDTH = 64
+
+
+# ---- controllers
+
+
+def at_end(c, r):
+    """A controller with one number brought to the end of its type, or by 1 beside it, and which; None where that takes more than 64 bits."""
+    end, what = 2**31 - 1 + r.choice([-1, 0, 0, 1, 1, 2]), r.choice(["clamp", "entry", "moved", "sum", "row", "state"])
+    i, j = r.randrange(c.rows), r.randrange(c.entries)
+    _, _, plan, rows, moved, _ = absolute_sums(c)
+    to = lambda number, most: r.choice([-1, 1]) * (abs(number) + most)
+    if what == "clamp":
+        lowered = c.step - c.exps[i]
+        c.clamp = (end << lowered) + r.randrange(1 << lowered)
+    elif what == "entry":
+        c.T[j] = to(c.T[j], end - plan[j])
+    elif what == "sum":
+        c.steps = r.choice([1, 2, 3, 8, c.steps])
+        c.T[j] = to(c.T[j], end // c.steps + r.choice([0, 1]) - plan[j])
+    elif what == "moved":
+        c.b[i] = to(c.b[i], end - moved[i])
+    elif what == "row":
+        c.b[i] = to(c.b[i], ((2**63 - 1 - rows[i]) >> c.bits) - r.choice([0, 0, 1]))
+    else:
+        c.lo[0], c.hi[0] = r.choice([(-(2**31) + 1, 2**31 - 1), (2**31 - 1, 2**31 - 1), (-(2**31) + 1, -(2**31) + 1), (0, 2**31 - 1)])
+    return with_width(c), what
+
+
+def drawn(r):
+    """Random controllers of at most 64 bits, each with what was brought to an end."""
+    while True:
+        c, what = random_controller(r.randrange(10**9)), "nothing"
+        if c is not None and r.random() < 0.5:
+            c, what = at_end(c, r)
+        if c is not None and c.width <= MOST_WIDTH:
+            yield c, what
+
+
+def read_controllers(paths):
+    for path in paths:
+        with open(path, encoding="ascii") as file:
+            yield safe_controller(file.read()), "nothing"
+
+
+# ---- what must be answered
 
 
 def states_of(c, r):
@@ -32,85 +86,112 @@ def states_of(c, r):
     outside = []
     for i in range(c.states):
         for value in (c.lo[i] - 1, c.hi[i] + 1, -(2**31), 2**31 - 1):
-            if not c.lo[i] <= value <= c.hi[i]:
+            if not c.lo[i] <= value <= c.hi[i] and -(2**31) <= value < 2**31:
                 outside.append(([*inside[0][:i], value, *inside[-1][i + 1 :]], i + 1))
     return [(state, 0) for state in inside] + outside
-
-
-def rounded(value, steps):
-    """To the nearest, ties upward."""
-    return (2 * value + steps) // (2 * steps)
 
 
 def expected(c, r):
     for state, first in states_of(c, r):
         sums = [] if first else run(c, state)
-        yield state, first, sums, [rounded(v, c.steps) for v in sums[: c.inputs]]
+        yield state, first, sums, first_inputs(c, sums)
 
 
-def harness(c, cases):
-    """A main that prints for each state what is answered, the sums and the averages."""
-    rows = "".join("{" + ", ".join(f"{v}" if v > -(2**31) else "INT32_MIN" for v in state) + "}," for state, *_ in cases)
-    return (
-        f'#include <stdio.h>\n#include "mpc.h"\nstatic const int32_t states[{len(cases)}][{c.states}] = {{{rows}}};\n'
-        f"int main(void)\n{{\n    int64_t sums[{c.entries}] = {{0}}, inputs[{c.inputs}] = {{0}};\n    int k, j;\n    for (k = 0; k < {len(cases)}; k++) {{\n"
-        f'        const int found = mpc_solve(states[k], sums);\n        printf("%d", found);\n        if (found == 0) {{\n            mpc_first_inputs(sums, inputs);\n'
-        f'            for (j = 0; j < {c.entries}; j++) {{ printf(" %lld", (long long)sums[j]); }}\n            for (j = 0; j < {c.inputs}; j++) {{ printf(" %lld", (long long)inputs[j]); }}\n'
-        '        }\n        printf("\\n");\n    }\n    return 0;\n}\n'
-    )
+def harness(names, controllers, cases):
+    """A text of all programs, with a main that prints for each state of each controller what is answered, the sums and the averages."""
+    number = lambda v: f"{v}" if v > -(2**31) else "INT32_MIN"
+    yield "#include <stdio.h>"
+    for name, c, its in zip(names, controllers, cases):
+        yield f'#include "{name}.c"'
+        rows = "".join("{" + ", ".join(map(number, state)) + "}," for state, *_ in its)
+        yield f"static const int32_t states_{name}[{len(its)}][{c.states}] = {{{rows}}};"
+        yield f"static void try_{name}(void)\n{{\n    int64_t sums[{c.entries}] = {{0}}, inputs[{c.inputs}] = {{0}};\n    int k, j;\n    for (k = 0; k < {len(its)}; k++) {{"
+        yield f'        const int found = {name}_solve(states_{name}[k], sums);\n        printf("%d", found);\n        if (found == 0) {{\n            {name}_first_inputs(sums, inputs);'
+        for array, count in (("sums", c.entries), ("inputs", c.inputs)):
+            yield f'            for (j = 0; j < {count}; j++) {{ printf(" %lld", (long long){array}[j]); }}'
+        yield '        }\n        printf("\\n");\n    }\n}'
+    yield "int main(void)\n{\n" + "".join(f"    try_{name}();\n" for name in names) + "    return 0;\n}"
 
 
-def tried(folder, c, r):
-    """Raises where the C in a folder isn't the machine's."""
-    cases = list(expected(c, r))
-    wanted = [[first, *sums, *averages] for _, first, sums, averages in cases]
-    c_trials.write(folder, "main.c", harness(c, cases))
-    for compiler in filter(shutil.which, ("gcc", "clang")):
-        for way in WAYS:
-            command = [compiler, *WARN, *way, f"-I{folder}", os.path.join(folder, "mpc.c"), os.path.join(folder, "main.c"), "-o", os.path.join(folder, "run")]
-            subprocess.run([*command, *(["-lstdc++"] if "c++" in way else [])], check=True)
-            told = subprocess.run([os.path.join(folder, "run")], capture_output=True, text=True, check=True).stdout
-            if [[int(v) for v in line.split()] for line in told.splitlines()] != wanted:
-                raise AssertionError(f"{compiler} {' '.join(way)} answers otherwise")
-    if reading and c.steps <= READ_STEPS:
-        with open(os.path.join(folder, "mpc.c"), encoding="ascii") as file:
-            functions = reading.parsed(file.read())
-        for state, first, sums, averages in cases:
-            if reading.solved(functions, "mpc", state, c.entries, c.inputs) != (first, sums, averages):
-                raise AssertionError(f"the second reader answers otherwise from {state}")
+# ---- trials
 
 
-def controllers(paths, count, r):
-    for path in paths:
-        with open(path, encoding="ascii") as file:
-            yield safe_controller(file.read())
-    while count > 0 and not paths:
-        c = random_controller(r.randrange(10**9))
-        if c is not None and c.width <= 64:
-            count -= 1
-            yield c
+def compiled(folder, compiler, way, allowed):
+    """What the programs answer, compiled so, with these warnings allowed."""
+    out = os.path.join(folder, "run")
+    command = [compiler, *WARN, *allowed, *way, f"-I{folder}", os.path.join(folder, "main.c"), "-o", out, *(["-lstdc++"] if "c++" in way else [])]
+    for words in (command, [out]):
+        told = subprocess.run(words, capture_output=True, text=True)
+        if told.returncode:
+            raise AssertionError(f"{compiler} {' '.join(way)}: {told.stdout[-200:]}{told.stderr[:2000]}")
+    return [[int(v) for v in line.split()] for line in told.stdout.splitlines()]
+
+
+def read(folder, name, c, cases):
+    """Raises where the second reader of a program's text answers otherwise than the machine."""
+    with open(os.path.join(folder, name + ".c"), encoding="ascii") as file:
+        functions = reading.parsed(file.read())
+    for state, first, sums, averages in cases:
+        if reading.solved(functions, name, state, c.entries, c.inputs) != (first, sums, averages):
+            raise AssertionError(f"the second reader answers otherwise from {state}")
+
+
+def tried(program, controllers, seed):
+    """Raises where the C of one of these controllers isn't the machine's."""
+    with tempfile.TemporaryDirectory() as folder:
+        r, path = random.Random(seed), lambda name: os.path.join(folder, name)
+        names = [f"mpc_{k}" for k in range(len(controllers))]
+        cases = [list(expected(c, r)) for c in controllers]
+        for name, c in zip(names, controllers):
+            c_trials.write(folder, "controller", text_of(c))
+            subprocess.run([program, "c", path("controller"), name, path(name + ".c"), path(name + ".h")], check=True)
+        c_trials.write(folder, "main.c", "\n".join(harness(names, controllers, cases)) + "\n")
+        wanted = [[first, *sums, *averages] for its in cases for _, first, sums, averages in its]
+        # no state is above a box that ends at 2^31 - 1, which gcc says of the comparison
+        allowed = ["-Wno-type-limits"] if any(2**31 - 1 in c.hi for c in controllers) else []
+        for compiler in filter(shutil.which, OWN_WAYS):
+            for way in WAYS + OWN_WAYS[compiler]:
+                if compiled(folder, compiler, way, allowed) != wanted:
+                    raise AssertionError(f"{compiler} {' '.join(way)} answers otherwise")
+        for name, c, its in zip(names, controllers, cases):
+            if reading and c.steps <= READ_STEPS:
+                read(folder, name, c, its)
+
+
+class Trial:
+    """One batch, for a pool: nothing, or the first controller that fails with why."""
+
+    def __init__(self, program):
+        self.program = program
+
+    def __call__(self, batch):
+        seed, controllers = batch
+        try:
+            tried(self.program, controllers, seed)
+            return None
+        except (AssertionError, subprocess.CalledProcessError, reading.Fault if reading else AssertionError) as why:
+            if len(controllers) == 1:
+                return controllers[0], why
+        return next(filter(None, (self((seed, [c])) for c in controllers)), (controllers[0], "this batch fails, and none of it alone"))
 
 
 def main():
     parser = argparse.ArgumentParser(prog="python3 -m checks.c.straight", description=__doc__, formatter_class=argparse.RawDescriptionHelpFormatter)
     parser.add_argument("program")
     parser.add_argument("controllers", nargs="*")
-    parser.add_argument("--count", type=int, default=30)
-    parser.add_argument("--seed", type=int, default=1)
+    for name, value in (("--count", 300), ("--seed", 1), ("--jobs", os.cpu_count())):
+        parser.add_argument(name, type=int, default=value)
     given = parser.parse_args()
-    r, number = random.Random(given.seed), 0
-    for c in controllers(given.controllers, given.count, r):
-        with tempfile.TemporaryDirectory() as folder:
-            path = lambda name: os.path.join(folder, name)
-            c_trials.write(folder, "controller", text_of(c))
-            try:
-                subprocess.run([given.program, "c", path("controller"), "mpc", path("mpc.c"), path("mpc.h")], check=True)
-                tried(folder, c, r)
-            except Exception as why:
-                print(text_of(c))
-                sys.exit(f"straight.py: {why}")
-        number += 1
-    print(f"{number} controllers: equal{'' if reading else ', without a second reader: apt-get install python3-pycparser'}")
+    some = list(read_controllers(given.controllers) if given.controllers else itertools.islice(drawn(random.Random(given.seed)), given.count))
+    batches = [(f"{given.seed} {at}", [c for c, _ in some[at : at + BATCH]]) for at in range(0, len(some), BATCH)]
+    with multiprocessing.Pool(given.jobs) as pool:
+        for failed in pool.imap_unordered(Trial(os.path.abspath(given.program)), batches):
+            if failed:
+                print(text_of(failed[0]))
+                sys.exit(f"straight.py: {failed[1]}")
+    count = lambda words: ", ".join(f"{word} {number}" for word, number in sorted(collections.Counter(words).items()))
+    print(f"versions {count(c.version for c, _ in some)}; widths {count(f'to {8 * ceil_div(c.width, 8)}' for c, _ in some)}; at its type's end {count(what for _, what in some)}")
+    print(f"{len(some)} controllers: equal{'' if reading else ', without a second reader: apt-get install python3-pycparser'}")
 
 
 if __name__ == "__main__":

@@ -5,6 +5,7 @@ from fractions import Fraction
 from math import ceil
 
 from . import at_corners, control, forms, model, program
+from .machines import VERSIONS
 
 EXAMPLES = os.path.join(os.path.dirname(os.path.abspath(__file__)), "..", "..", "examples")
 PIECES = [b"-", b"0", b"1", b"9", b",", b" ", b"\n", b"\r", b"\r\n", b'"', b"[", b"]", b".", b"=", b"#", b"\xff", b"\x00", b"_", b"x", b"e", b"\t", b"'", b"{", b"}",
@@ -419,11 +420,28 @@ def small_controllers(base):
                 break
 
 
-def random_controller(pick, like=None):
-    """A controller in form whose width is near the least one. Some have sums near 2^126, some entries of any size that are only ever multiplied by 0. With another one
-    that it must be like, its sizes but for the rows, and its grid, are those."""
-    version = pick.choice([1, 2]) if like is None or like.n <= 4 else 2
-    n, p, stages, m = pick.choice([1, 1, 2, 3, 4 if version == 1 else 6]), pick.choice([1, 1, 2, 3]), pick.choice([1, 1, 2, 3]), pick.choice([1, 1, 2, 3, 5, 8])
+def accelerated(pick, text):
+    """The text of a controller, or of cells, as one of version 3 of the same numbers: of what can be read with the words and exponents of that, and mostly the width."""
+    first, *parts = text.split(b"mpc-controller ")
+    return first + b"".join(accelerated_part(pick, b"mpc-controller " + part) for part in parts)
+
+
+def accelerated_part(pick, text):
+    reader = control.Reader(text)
+    try:
+        c = control.controller_in(reader)
+    except model.Refused:
+        return re.sub(rb"^mpc-controller [12]\n", b"mpc-controller 3\n", text)
+    c.version = 3
+    c.w = max(2, min(128, (control.least_width(c) or 128) + pick.choice([0, 0, 0, 0, 1, 9, -1])))
+    return control.text_of(c) + b"".join(line + b"\n" for line in reader.lines[reader.at :]) + reader.rest
+
+
+def random_controller(pick, like=None, versions=VERSIONS):
+    """A controller in form whose width is near the least one, of one of these versions. Some have sums near 2^126, some entries of any size that are only ever multiplied by 0. With another
+    one that it must be like, its sizes but for the rows, and its grid, are those."""
+    version = pick.choice(versions) if like is None or like.n <= 4 else max(versions)
+    n, p, stages, m = pick.choice([1, 1, 2, 3, model.STATES[version]]), pick.choice([1, 1, 2, 3]), pick.choice([1, 1, 2, 3]), pick.choice([1, 1, 2, 3, 5, 8])
     g = pick.choice([0, 0, 2, 4, 24])
     if like is not None:
         n, p, stages, g = like.n, like.p, like.stages, like.g
@@ -436,7 +454,7 @@ def random_controller(pick, like=None):
     hi = [pick.choice([side, max(low, 0), pick.randrange(low, side + 1)]) for low in lo]
     clamp = pick.choice([0, 1, 1 << f, pick.randrange(1 << room), 1 << min(126, f + s + 5)])
     c = control.Controller(n, p, stages, m, f, g, s, 128, pick.choice([1, 1, 2, 3, 5, 9]), clamp, lo, hi, matrix(nu, n), [number() for _ in range(nu)], matrix(nu, m),
-                           matrix(m, nu), matrix(m, n), [number() for _ in range(m)], version, [pick.choice([s, 0, pick.randrange(s + 1)]) for _ in range(m)] if version == 2 else None)
+                           matrix(m, nu), matrix(m, n), [number() for _ in range(m)], version, [pick.choice([s, 0, pick.randrange(s + 1)]) for _ in range(m)] if version > 1 else None)
     any_number = lambda: pick.choice([-(2**127), 2**127 - 1, pick.randrange(-(2**127), 2**127)])
     kind = pick.choice(["plain", "plain", "near", "near", "idle"])
     if kind == "idle":

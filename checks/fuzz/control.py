@@ -6,6 +6,7 @@ import re
 from dataclasses import dataclass
 from operator import mul
 
+from .machines import MACHINES, VERSIONS
 from .model import LIMIT, Refused, ceil_div
 
 EVERY_FILE = 4194304
@@ -44,8 +45,17 @@ class Controller:
         return self.p * self.stages
 
     @property
+    def machine(self):
+        return MACHINES[self.version]
+
+    @property
+    def total(self):
+        """What the sums of the plans are over, beside 2^f."""
+        return self.machine.total(self.steps)
+
+    @property
     def words(self):
-        return self.n + self.m + 2 * self.nu
+        return self.n + self.machine.lists * self.m + 2 * self.nu
 
 
 # ---- the text
@@ -117,21 +127,22 @@ class Reader:
         self.finish()
 
 
-def controller_in(text, like=None):
-    """The controller whose lines are the next of a text, the first at which no text goes on is refused. Where there is one that it must be like, the sizes but for the
-    rows, and the grid, are those."""
+def controller_in(text, like=None, versions=VERSIONS):
+    """The controller of one of these versions whose lines are the next of a text, the first at which no text goes on is refused. Where there is one that it must be like, the sizes but
+    for the rows, and the grid, are those."""
     within = lambda *ranges: lambda numbers: all(low <= v <= high for v, (low, high) in zip(numbers, ranges))
-    limits = {1: (4, 20, 252), 2: (6, 30, 372)}
-    one_of = [it for it, most in limits.items() if like is None or like.n <= most[0] and like.stages <= most[1]]
+    limits = {1: (4, 20, 252), 2: (6, 30, 372), 3: (6, 30, 372)}
+    one_of = [it for it, most in limits.items() if it in versions and (like is None or like.n <= most[0] and like.stages <= most[1])]
     (version,) = text.take(b"mpc-controller", 1, lambda v: v[0] in one_of)
     most_states, most_stages, most_rows = limits[version]
     is_like = lambda v: like is None or v[:3] == [like.n, like.p, like.stages]
     n, p, stages, m = text.take(b"size", 4, lambda v: within((1, most_states), (1, 3), (1, most_stages), (1, most_rows))(v) and is_like(v))
     f, g, s, w = text.take(b"bits", 4, lambda v: within((v[1], 48), (0, 24), (0, 40), (2, 128))(v) and (like is None or v[1] == like.g))
-    (steps,) = text.take(b"steps", 1, within((1, 2**22)))
+    (steps,) = text.take(b"steps", 1, within((1, MACHINES[version].most_steps)))
     (clamp,) = text.take(b"clamp", 1, within((0, LIMIT)))
     nu = p * stages
-    text.take(b"words", 1, within((n + m + 2 * nu, n + m + 2 * nu)))
+    words = n + MACHINES[version].lists * m + 2 * nu
+    text.take(b"words", 1, within((words, words)))
     exps = text.take(b"exps", m, within(*[(0, s)] * m)) if version > 1 else None
     side = (-(2**31) + 1, 2**31 - 1)
     lo = text.take(b"lo", n, within(*[side] * n))
@@ -148,10 +159,10 @@ def refuse_unsafe(c):
         raise Refused(11, "unsafe")
 
 
-def read_controller(data):
+def read_controller(data, versions=VERSIONS):
     """The controller, or the status 11 with the first line that no controller text has there, or unsafe."""
     text = Reader(data)
-    c = controller_in(text)
+    c = controller_in(text, versions=versions)
     text.finish()
     refuse_unsafe(c)
     return c
@@ -161,20 +172,19 @@ def read_controller(data):
 
 
 def absolute_sums(c):
-    """The lists X, A, U, c, d and e."""
+    """The lists of the state, of what each plan entry is made of, of the plan, of the rows, of the multipliers, and of the sums of a run."""
     dot = lambda xs, ys: sum(abs(x) * y for x, y in zip(xs, ys))
     x = [max(abs(low), abs(high)) * 2 ** (c.f - c.g) for low, high in zip(c.lo, c.hi)]
     a = [2**c.s * (dot(c.p_mat[j], x) + abs(c.t[j]) * 2**c.f) + dot(c.w_mat[j], [c.clamp] * c.m) for j in range(c.nu)]
     u = [ceil_div(v, 2 ** (c.f + c.s)) for v in a]
     rows = [dot(c.g_mat[i], u) + dot(c.e_mat[i], x) + 2**c.f * abs(c.bound[i]) for i in range(c.m)]
-    d = [c.clamp + ceil_div(v, 2**c.f) for v in rows]
-    e = [c.steps * v for v in u]
-    return x, a, u, rows, d, e
+    multipliers = c.machine.multiplier_sums(c.clamp, c.steps, [ceil_div(v, 2**c.f) for v in rows])
+    return x, a, u, rows, multipliers, [c.total * v for v in u]
 
 
 def greatest_sum(c):
-    x, a, _, rows, d, e = absolute_sums(c)
-    return max(x + a + rows + d + e)
+    x, a, _, rows, multipliers, sums = absolute_sums(c)
+    return max(x + a + rows + multipliers + sums)
 
 
 def greatest_entry(c):
@@ -199,55 +209,59 @@ def run(c, state):
     rest = [sum(map(mul, row, x)) - (b << c.f) for row, b in zip(c.e_mat, c.bound)]
     shift, f = c.f + c.s, c.f
     powers = [2 ** (c.s - exponent) for exponent in c.exps]
-    tops = [c.clamp // power for power in powers]
-    multipliers, sums = [0] * c.m, [0] * c.nu
-    for _ in range(c.steps):
+
+    def plan_at(multipliers):
         raised = list(map(mul, powers, multipliers))
-        plan = [-((fixed + sum(map(mul, row, raised))) >> shift) for fixed, row in zip(pull, c.w_mat)]
-        multipliers = [min(top, max(0, old + ((fixed + sum(map(mul, row, plan))) >> f))) for top, old, fixed, row in zip(tops, multipliers, rest, c.g_mat)]
-        sums = [old + new for old, new in zip(sums, plan)]
-    return sums
+        return [-((fixed + sum(map(mul, row, raised))) >> shift) for fixed, row in zip(pull, c.w_mat)]
+
+    return c.machine.run(c, plan_at, lambda plan: [(fixed + sum(map(mul, row, plan))) >> f for fixed, row in zip(rest, c.g_mat)])
 
 
-def traced(c, state):
-    """The sums of all plans, and the least and the greatest value that the run meets: every product, every partial sum in the written order, every raised
-    multiplier, every value before and after a floor, and the sums."""
-    met = [0, 0]
+class Trace:
+    """The least and the greatest value that is met, and sums whose every product and partial sum is."""
 
-    def meet(v):
-        if v < met[0]:
-            met[0] = v
-        elif v > met[1]:
-            met[1] = v
+    def __init__(self):
+        self.least = self.greatest = 0
+
+    def meet(self, v):
+        if v < self.least:
+            self.least = v
+        elif v > self.greatest:
+            self.greatest = v
         return v
 
-    def total(start, factors, values):
+    def total(self, start, factors, values):
         """start + the products, one after the other, from the left."""
         for factor, value in zip(factors, values):
-            start = meet(start + meet(factor * value))
+            start = self.meet(start + self.meet(factor * value))
         return start
 
+
+def traced(c, state, run=None):
+    """The sums of all plans, and the least and the greatest value that the run meets: every product, every partial sum in the written order, every raised
+    multiplier, every value before and after a floor, and the sums."""
+    trace = Trace()
+    meet, total = trace.meet, trace.total
     x = [meet(v * 2 ** (c.f - c.g)) for v in state]
-    tops = [meet(meet(c.clamp) // 2 ** (c.s - exponent)) for exponent in c.exps]
-    multipliers, sums = [0] * c.m, [0] * c.nu
-    for _ in range(c.steps):
-        plan = []
+
+    def plan_at(multipliers):
         raised = [meet(2 ** (c.s - exponent) * v) for exponent, v in zip(c.exps, multipliers)]
+        plan = []
         for j in range(c.nu):
             pull = meet(total(0, c.p_mat[j], x) + meet(c.t[j] * 2**c.f))
             whole = total(meet(2**c.s * pull), c.w_mat[j], raised)
             # the part of the multipliers by itself, too
             total(0, c.w_mat[j], raised)
             plan.append(meet(-meet(whole // 2 ** (c.f + c.s))))
-        new = []
-        for i in range(c.m):
-            residual = total(total(0, c.g_mat[i], plan), c.e_mat[i], x)
-            total(0, c.e_mat[i], x)
-            residual = meet(residual - meet(2**c.f * c.bound[i]))
-            new.append(min(tops[i], max(0, meet(multipliers[i] + meet(residual // 2**c.f)))))
-        multipliers = [meet(v) for v in new]
-        sums = [meet(old + v) for old, v in zip(sums, plan)]
-    return sums, met[0], met[1]
+        return plan
+
+    def residual(plan, i):
+        of_row = total(total(0, c.g_mat[i], plan), c.e_mat[i], x)
+        total(0, c.e_mat[i], x)
+        return meet(meet(of_row - meet(2**c.f * c.bound[i])) // 2**c.f)
+
+    sums = (run or c.machine.traced)(c, plan_at, lambda plan: [residual(plan, i) for i in range(c.m)], meet)
+    return sums, trace.least, trace.greatest
 
 
 def outside(c, state):
@@ -260,7 +274,7 @@ def line(numbers):
 
 
 def plan_line(c, state, run=run):
-    return line([c.steps << c.f, *run(c, state)])
+    return line([c.total << c.f, *run(c, state)])
 
 
 # ---- the closed loop
@@ -268,16 +282,16 @@ def plan_line(c, state, run=run):
 
 def turn_size(design, c):
     """The quantity `turn`: what the next state's numerator and denominator can come to."""
-    over = c.steps * 2 ** (c.f - c.g)
+    over = c.total * 2 ** (c.f - c.g)
     greatest_inputs = absolute_sums(c)[2]
     dot = lambda xs, ys: sum(abs(x) * y for x, y in zip(xs, ys))
     box = [max(abs(low), abs(high)) * over for low, high in zip(c.lo, c.hi)]
-    rows = [dot(design.a[i], box) + dot(design.b[i], [c.steps * v for v in greatest_inputs]) for i in range(c.n)]
+    rows = [dot(design.a[i], box) + dot(design.b[i], [c.total * v for v in greatest_inputs]) for i in range(c.n)]
     return 2 * max(rows) + design.plant_den * over
 
 
 def next_state(design, c, state, sums):
-    over = c.steps * 2 ** (c.f - c.g)
+    over = c.total * 2 ** (c.f - c.g)
     den = design.plant_den * over
     exact = [sum(map(mul, design.a[i], state)) * over + sum(map(mul, design.b[i], sums)) for i in range(c.n)]
     return [(2 * v + den) // (2 * den) for v in exact]
@@ -294,5 +308,5 @@ def loop_lines(design, c, entry, start, shifts, seen, run=run):
         if tuple(state) not in seen:
             seen[tuple(state)] = run(c, state)
         sums = seen[tuple(state)]
-        yield line([entry, turn, *state, c.steps << c.f, *sums[: c.p]])
+        yield line([entry, turn, *state, c.total << c.f, *sums[: c.p]])
         state = [v + by for v, by in zip(next_state(design, c, state, sums), shift)]

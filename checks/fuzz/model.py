@@ -14,13 +14,14 @@ from math import ceil, isqrt
 
 from . import at_corners, excess, forms
 from .forms import LIMIT, ceil_div
+from .machines import MACHINES, VERSIONS
 
 sys.set_int_max_str_digits(0)
 csv.field_size_limit(2**31 - 1)
 
 NUMERATOR = 2**31 - 1
 # the greatest states and stages of each version
-STATES, STAGES = {1: 4, 2: 6}, {1: 20, 2: 30}
+STATES, STAGES = {1: 4, 2: 6, 3: 6}, {1: 20, 2: 30, 3: 30}
 # by how much the exponent of a row is lowered at most
 LOWERED = 4
 TABLES = ["plant", "cost", "limits", "box", "targets"]
@@ -53,8 +54,8 @@ def is_table(v, low, high, width):
     return isinstance(v, list) and low <= len(v) <= high and all(is_list(r, width) for r in v)
 
 
-def read_design(data):
-    """The design, or the status 5 with the first fault."""
+def read_design(data, versions=VERSIONS):
+    """The design, of one of these versions, or the status 5 with the first fault."""
     try:
         text = data.decode("utf-8").removeprefix("\ufeff")
         top = tomllib.loads(text)
@@ -96,7 +97,7 @@ def read_design(data):
     def numerators(place, rows):
         need(all(abs(v) <= NUMERATOR for r in rows for v in r), "range", place)
 
-    version = number(1, 1, 2)
+    version = number(1, 1, max(versions))
     n, p = number(2, 1, STATES[version]), number(3, 1, 3)
     number(4, 1, STAGES[version])
     number(5, 1, 2**20)
@@ -170,6 +171,7 @@ class Design:
         self.cost_den, self.row_den, self.input_weights, self.stage_cost, self.final_cost = v[7:12]
         self.limit_den, self.stage_rows, self.final_rows, self.grid, self.lo, self.hi = v[12:18]
         self.target_den, self.violation, self.gap = v[18:]
+        self.machine = MACHINES[self.version]
         self.entries = self.inputs * self.stages
         self.rows = self.stages * len(self.stage_rows) + len(self.final_rows)
         # each cost row that counts, with its stage
@@ -319,10 +321,11 @@ def gain_floor(d, form):
 
 
 class Errors:
-    """What rounding and the radii cost, where multipliers go up to 2 r: at each number f of bits the bound on an entry of the plan, by what the radii move the
-    gradient, and epsilon; and the quantity `error`."""
+    """What rounding and the radii cost, where multipliers go up to 2 r, the rounding of means moves entries of the gradient by these, and its errors count so often: at each number f of bits
+    the bound on an entry of the plan, by what the radii move the gradient, and epsilon; and the quantity `error`."""
 
-    def __init__(self, d, form, r):
+    def __init__(self, d, form, r, means, carry):
+        self.carry = carry
         sums = lambda rows, den: ceil_div(sum(v.far for row in rows for v in row), den)
         radii = lambda rows: [sum(v.rad for v in row) for row in rows]
         self.d, self.rho, self.top, self.box = d, min(d.input_weights), 2 * r, ceil_div(max(map(abs, d.lo + d.hi)), 2**d.grid)
@@ -332,7 +335,7 @@ class Errors:
         self.pull = d.cost_den * (self.box * sums(form.f, form.hess_den) + sums([form.h0], form.hess_den) + self.top * sums(form.g, form.row_den))
         self.tail = d.cost_den * spread * ceil_div(sum(2 * form.q[j][j].far for j in range(d.entries)), form.hess_den)
         self.spread, self.unit = spread, d.limit_den * form.hess_den
-        self.row_sums = [ceil_div(sum(2 * v.far for v in row), form.hess_den) for row in form.q]
+        self.row_sums = [ceil_div(sum(2 * v.far for v in row), form.hess_den) + mean for row, mean in zip(form.q, means, strict=True)]
         self.gradient = [ceil_div(row[j].far, form.hess_den) * spread + total for j, (row, total) in enumerate(zip(form.q, self.row_sums))]
         self.squares = d.cost_den * sum(v * v for v in self.gradient)
         self.first = ceil_div(self.squares, 2 * self.rho)
@@ -354,8 +357,8 @@ class Errors:
 
     def priced(self, first, plan, f):
         """What the errors of a step cost, where those of the gradient cost `first` over 4^f and no entry of the plan is above `plan`."""
-        return (ceil_div(self.twice * 2**40 * first, 4**f) + ceil_div(2**40 * self.top * self.d.rows * self.residual(plan), 2 ** (f + 1))
-                + ceil_div(self.d.entries * self.d.cost_den * self.by_radii(plan) ** 2, 2**40 * self.rho) + ceil_div(self.of_rows(plan), self.d.limit_den))
+        return (ceil_div(self.twice * self.carry * 2**40 * first, 4**f) + ceil_div(2**40 * self.top * self.d.rows * self.residual(plan), 2 ** (f + 1))
+                + ceil_div(self.carry * self.d.entries * self.d.cost_den * self.by_radii(plan) ** 2, 2**40 * self.rho) + ceil_div(self.of_rows(plan), self.d.limit_den))
 
     def epsilon(self, f):
         return self.priced(self.first, self.plan(f), f)
@@ -375,8 +378,8 @@ class Errors:
     @property
     def size(self):
         plan = self.plan(0)
-        rounding = self.pull + self.tail + self.squares + 2**40 * (self.first + self.top * self.d.rows * self.residual(plan))
-        radii = self.d.cost_den * self.d.entries * self.by_radii(plan) ** 2 + plan * self.hess_rad + self.state_pull + self.column_pull + self.of_rows(plan)
+        rounding = self.pull + self.tail + self.squares + 2**40 * (self.carry * self.first + self.top * self.d.rows * self.residual(plan))
+        radii = self.carry * self.d.cost_den * self.d.entries * self.by_radii(plan) ** 2 + plan * self.hess_rad + self.state_pull + self.column_pull + self.of_rows(plan)
         return self.twice**2 * rounding + radii
 
 
@@ -400,11 +403,12 @@ class Choice:
 
     def violation(self, exponent, cost):
         """By how much a row of this exponent is exceeded at most, where the errors of a step cost so much."""
-        r, k, s = (self.report[key] for key in ("multiplier", "steps", "step"))
+        r, s = (self.report[key] for key in ("multiplier", "step"))
+        pace, more = self.design.machine.pace(self.report["steps"])
         if self.is_lean:
             target = target_of(self.design, 2**40)
-            return min(target, ceil_div(target, 2) + ceil_div(2 ** (exponent + 40) * r, k) + ceil_div(cost, 2 * r))
-        return ceil_div((2**exponent + 2**s) * 2**40 * r, k) + ceil_div(cost, r)
+            return min(target, ceil_div(target, 2) + ceil_div(2 ** (exponent + more + 40) * r, pace) + ceil_div(cost, 2 * r))
+        return ceil_div((2**exponent + 2**s) * 2 ** (more + 40) * r, pace) + ceil_div(cost, r)
 
     @property
     def is_lean(self):
@@ -432,11 +436,12 @@ def target_of(d, units):
 
 def choose(d, plans, references=None):
     """The choice, or Refused; a lean one where there are reference plans."""
-    n, nu, m, g = d.states, d.entries, d.rows, d.grid
+    n, nu, m, g, machine = d.states, d.entries, d.rows, d.grid, d.machine
+    _, more = machine.pace(1)
     margin, cost = margins(d, plans)
     if references is None:
         r = max(1, ceil_div(2**16 * cost, margin))
-        limited(max(2**16 * cost, 2**82 * r), "multiplier")
+        limited(max(2**16 * cost, 2 ** (82 + more) * r), "multiplier")
     form = form_of(d)
     for name, size in forms.sizes(d, form).items():
         limited(size, name)
@@ -448,13 +453,14 @@ def choose(d, plans, references=None):
         above, size = excess.excess(d, form, plans, references)
         limited(size, "excess")
         r = max(1, ceil_div(above, margin + target_of(d, 2**16)))
-        limited(max(above, 2**82 * r), "multiplier")
+        limited(max(above, 2 ** (82 + more) * r), "multiplier")
         for_steps, for_rounding = target_of(d, 15 * 2**36), target_of(d, 2**36)
     gap_target = 2**40 * d.gap // d.target_den
-    k = ceil_div(2 ** (s + 41) * r, for_steps)
-    if k > 2**22:
+    k = machine.least_steps(ceil_div(2 ** (s + 41 + more) * r, for_steps))
+    if k > machine.most_steps:
         raise Refused(8, k)
-    errors = Errors(d, form, r)
+    exponents = row_exponents(d, form, matrices, s)
+    errors = Errors(d, form, r, machine.mean_errors(form, s, exponents), machine.carry(k))
     limited(errors.size, "error")
     f = next((f for f in range(g, 49) if errors.epsilon(f) <= min(gap_target, r * for_rounding)), None)
     if f is None:
@@ -472,10 +478,10 @@ def choose(d, plans, references=None):
     entry = 2**s * (forms.dot(bounds, reaches) + bounds[n] * 2**f) + sum(bounds[n + 1 :]) * clamp
     plan = ceil_div(entry, 2 ** (f + s))
     row_sums = [sum(map(abs, row)) * plan + forms.dot(map(abs, state), reaches) + 2**f * abs(limit) for row, state, limit in zip(rows, states, limits)]
-    greatest = limited(max(reaches + [entry, k * plan] + row_sums + [clamp + ceil_div(v, 2**f) for v in row_sums]), "width")
+    multipliers = machine.multiplier_sums(clamp, k, [ceil_div(v, 2**f) for v in row_sums])
+    greatest = limited(max(reaches + [entry, machine.total(k) * plan] + row_sums + multipliers), "width")
     dearest = {"cost": cost} if references is None else {"excess": above}
-    report = {"margin": margin, **dearest, "multiplier": r, "step": s, "steps": k, "bits": f, "words": n + m + 2 * nu}
-    exponents = row_exponents(d, form, matrices, s)
+    report = {"margin": margin, **dearest, "multiplier": r, "step": s, "steps": k, "bits": f, "words": n + machine.lists * m + 2 * nu}
     return Choice(d, report, exponents, clamp, rows, states, limits, matrix, columns, bounds, greatest, errors)
 
 

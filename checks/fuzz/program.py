@@ -1,6 +1,6 @@
 """An independent model of the whole program: what each command answers with, to the byte.
 
-    python3 -m checks.fuzz.program COMMAND ..    runs the command as the program does, in the present folder
+    python3 -m checks.fuzz.program [--all-versions] COMMAND ..    runs the command as the program does, in the present folder; or with the versions that it doesn't know, too
 
 The one thing that isn't determined is which good solutions a design's gains are. So `answer` is told them by `gains`, a function of the choice; run as a
 program, it takes its own. Everything else is exact: the status, its line on standard error, standard output, and what each file holds.
@@ -12,6 +12,7 @@ from dataclasses import dataclass, field
 
 from . import compiled, control, held_boxes, listing, model, settling, split_boxes
 from .command_table import COUNTS, OUTPUTS
+from .machines import ALL_VERSIONS, VERSIONS
 from .model import LIMIT, Refused
 
 NAMES = {1: "memory", 2: "usage", 3: "read-fault", 4: "write-fault", 5: "text", 6: "no-margin", 7: "curvature", 8: "too-many-steps", 9: "too-fine", 10: "too-wide",
@@ -121,14 +122,14 @@ class Gains:
     """Of controllers that were written, for a choice each: those of one text, or of the cells of one, in their order. `text` gives the bytes, or None where none were
     written; then the model's own are as good. ValueError where they aren't good ones."""
 
-    def __init__(self, text):
-        self.text, self.found, self.count = text, None, 0
+    def __init__(self, text, versions=VERSIONS):
+        self.text, self.versions, self.found, self.count = text, versions, None, 0
 
     def read(self):
         text = self.text()
         if text is not None and self.found is None:
             try:
-                self.found = split_boxes.read_cells(text) if text.startswith(b"mpc-cells ") else [control.read_controller(text)]
+                self.found = split_boxes.read_cells(text, self.versions) if text.startswith(b"mpc-cells ") else [control.read_controller(text, self.versions)]
             except Refused as refused:
                 raise ValueError(f"the controller that was written is none: {refused}")
         return self.found
@@ -153,10 +154,10 @@ class Gains:
 
 class Program:
     """The words are texts, the first of them the command; `read` gives a name's bytes, or None where it can't be read; `write` tells whether a name could be
-    written. `run` gives a controller's sums from a state, `played` a listing's words."""
+    written. `run` gives a controller's sums from a state, `played` a listing's words; designs and controllers are of these versions, but those that `list` and `c` read."""
 
-    def __init__(self, words, read, write, gains, run=control.run, played=listing.played, put=None):
-        self.words, self.read, self.write, self.gains, self.run, self.played = words, read, write, gains, run, played
+    def __init__(self, words, read, write, gains, run=control.run, played=listing.played, put=None, versions=VERSIONS):
+        self.words, self.read, self.write, self.gains, self.run, self.played, self.versions = words, read, write, gains, run, played, versions
         self.answer = Answer()
         self.put = put or self.answer.out.append
         # the controller that was made of a design, or those of cells
@@ -173,6 +174,12 @@ class Program:
             return reader(data)
         except Refused as refused:
             raise Refused(refused.args[0], file, *refused.args[1:])
+
+    def design(self):
+        return self.text(1, lambda data: model.read_design(data, self.versions))
+
+    def controller(self, file):
+        return self.text(file, lambda data: control.read_controller(data, self.versions))
 
     def usage(self):
         words = self.words
@@ -197,12 +204,12 @@ class Program:
         return self.answer
 
     def generate(self):
-        d = self.text(1, model.read_design)
+        d = self.design()
         plans = self.text(2, lambda data: model.read_policy(data, d))
         self.write_made(model.choose(d, plans))
 
     def lean(self):
-        d = self.text(1, model.read_design)
+        d = self.design()
         plans, references = (self.text(file, lambda data: model.read_policy(data, d)) for file in (2, 3))
         faces = self.faces(d, 6)
         choice = model.choose(d, plans, references)
@@ -210,7 +217,7 @@ class Program:
         self.write_made(choice)
 
     def stay(self):
-        d = self.text(1, model.read_design)
+        d = self.design()
         plans = self.text(2, lambda data: model.read_policy(data, d))
         faces = self.faces(d, 5)
         choice = model.choose(d, plans)
@@ -251,12 +258,12 @@ class Program:
         return rows
 
     def solve(self):
-        c = self.text(1, control.read_controller)
+        c = self.controller(1)
         for row in self.states(2, c, c.n):
             self.put(control.plan_line(c, row, self.run))
 
     def split(self):
-        d = self.text(1, model.read_design)
+        d = self.design()
         boxes = split_boxes.cells_of(d, self.text(2, lambda data: split_boxes.read_cuts(data, d)))
         plans = self.text(3, lambda data: model.read_policy(data, d, len(boxes)))
         corners, choices = 2**d.states, []
@@ -270,7 +277,7 @@ class Program:
         self.write_texts((4, split_boxes.text_of(self.cells)), (5, b"".join(map(report_text, bounds))))
 
     def serve(self):
-        self.cells = cells = self.text(1, split_boxes.read_cells, split_boxes.EVERY_CELLS)
+        self.cells = cells = self.text(1, lambda data: split_boxes.read_cells(data, self.versions), split_boxes.EVERY_CELLS)
         rows = self.text(2, lambda data: model.read_records(data, cells[0].n))
         serving = [split_boxes.find(cells, row) for row in rows]
         if None in serving:
@@ -299,8 +306,8 @@ class Program:
 
     def plant_and_controller(self):
         """The design and the controller, which must be of the same sizes."""
-        d = self.text(1, model.read_design)
-        c = self.text(2, control.read_controller)
+        d = self.design()
+        c = self.controller(2)
         for name, design, controller in (("states", d.states, c.n), ("inputs", d.inputs, c.p), ("grid", d.grid, c.g)):
             if design != controller:
                 raise Refused(14, name, design, controller)
@@ -334,8 +341,8 @@ class Program:
             self.put(control.plan_line(c, row, self.run))
 
 
-def answer(words, read, write, gains, run=control.run):
-    return Program(words, read, write, gains, run).go()
+def answer(words, read, write, gains, run=control.run, versions=VERSIONS):
+    return Program(words, read, write, gains, run, versions=versions).go()
 
 
 def main():
@@ -349,7 +356,9 @@ def main():
     def write(name):
         return name != "" and os.path.isdir(os.path.dirname(name) or ".") and not os.path.isdir(name)
 
-    said = answer(sys.argv[1:], read, write, model.gains)
+    words = sys.argv[1:]
+    has_all = words[:1] == ["--all-versions"]
+    said = answer(words[has_all:], read, write, model.gains, versions=ALL_VERSIONS if has_all else VERSIONS)
     for name, data in said.written.items():
         with open(name, "wb") as file:
             file.write(data)

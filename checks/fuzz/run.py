@@ -8,7 +8,7 @@ determined: they are taken from the controller that the program wrote, once they
 product and partial sum traced, and all must fit its width; but a run of many steps of a controller that isn't of the kind `controller` only has its sums compared.
 
 A case is made of the seed and its number alone. --case runs one again and shows it; --kind makes all cases of that kind: generate, lean, border, stay, lean_stay, solve,
-controller, loop, settle, list, play, split, serve, demo, usage. Of the kinds `stay` and `lean_stay` the first are the worked rows of `stay` that are accepted. Half of the designs are of
+controller, loop, settle, list, play, split, serve, demo, usage; or accelerated, which is drawn only so: these on texts of version 3, for a program that has it. Of the kinds `stay` and `lean_stay` the first are the worked rows of `stay` that are accepted. Half of the designs are of
 version 2; how many of these were accepted, and how many of them have a row with a smaller exponent, the last line says. With --table, faces, disturbances, cuts, policies (those of
 cells), cells or listings, the cases are worked texts of that kind, each cut after every one of its bytes, and with every byte replaced by a space, `-`, `0` and `9`. A border
 design's exact numbers, its enclosures, the corners of its policy in either class, or what its rows come to where they count 16 times, pass the limit by little or stay
@@ -34,10 +34,13 @@ import sys
 import tempfile
 
 from . import at_corners, cases, control, forms, held_boxes, listing, listing_cases, model, program, settle_cases, settling, split_boxes, split_cases, stay_cases, tables
+from .machines import ALL_VERSIONS, VERSIONS
 
 KINDS = ["generate"] * 22 + ["lean"] * 12 + ["border"] * 4 + ["stay"] * 14 + ["lean_stay"] * 6 + ["solve"] * 26 + ["controller"] * 18 + ["loop"] * 22 + ["list"] * 6 + ["play"] * 16
 KINDS += ["split"] * 12 + ["serve"] * 16 + ["c"] * 8 + ["usage"] * 4
 KINDS += ["settle"] * 14
+# those whose texts may be of version 3
+ACCELERATED = ["generate"] * 6 + ["lean"] * 8 + ["border"] * 2 + ["stay", "lean_stay"] * 3 + ["solve"] * 3 + ["accelerated_controller"] * 6 + ["loop"] * 5 + ["settle"] * 3 + ["list", "c"] + ["split"] * 5 + ["serve"] * 4
 DEMO_EVERY = 2500
 # the most products that the model makes in a case, and the most in a run whose every value it traces
 MOST_PRODUCTS, MOST_TRACED = 3_000_000, 60_000
@@ -136,6 +139,22 @@ class Maker:
         _, c = cases.random_controller(pick)
         return Case("controller", ["solve", "c", "s"], {"c": control.text_of(c), "s": cases.states_text(pick, c)})
 
+    def accelerated_controller(self, pick):
+        _, c = cases.random_controller(pick, versions=(3,))
+        return Case("controller", ["solve", "c", "s"], {"c": control.text_of(c), "s": cases.states_text(pick, c)})
+
+    def accelerated(self, pick):
+        """A case of another kind on texts of version 3."""
+        made = getattr(self, pick.choice(ACCELERATED))(pick)
+        if "d" in made.files:
+            made.files["d"] = cases.in_version(3, made.files["d"])
+        if "c" in made.files:
+            made.files["c"] = cases.accelerated(pick, made.files["c"])
+        if made.kind != "border" and pick.random() < 0.15:
+            name = pick.choice(sorted(made.files))
+            made.files[name] = cases.changed(pick, made.files[name])
+        return made
+
     def loop(self, pick):
         design, text = pick.choice(self.controllers)
         c = control.read_controller(text)
@@ -224,6 +243,15 @@ class Maker:
         return Case("usage", words, {"d": design, "p": policy, "p2": policy, "c": text, "s": b"0\n", "f": b"4,0,0,1\n4,0,0,0\n", "w": b"0\n", "l": l, "t": b"1,0\n", "b": 2 * policy, "e": e})
 
 
+def read_design(data):
+    """One that was read before, of whatever version it is."""
+    return model.read_design(data, ALL_VERSIONS)
+
+
+def read_controller(data):
+    return control.read_controller(data, ALL_VERSIONS)
+
+
 def products(c):
     return c.steps * (c.nu * (c.n + c.m) + c.m * (c.nu + c.n))
 
@@ -231,8 +259,9 @@ def products(c):
 class Runner:
     """Runs cases in a folder of its own."""
 
-    def __init__(self, executable, folder, loop_products=MOST_LOOP_PRODUCTS):
-        self.executable, self.folder, self.loop_products = executable, folder, loop_products
+    def __init__(self, executable, folder, options):
+        self.executable, self.folder, self.loop_products = executable, folder, options.loop_products
+        self.versions = ALL_VERSIONS if options.kind == "accelerated" else VERSIONS
 
     def path(self, name):
         return os.path.join(self.folder, name)
@@ -268,7 +297,7 @@ class Runner:
         write = lambda name: name not in ("", ".", "./", "./.") and "no/" not in name
         place = program.OUTPUTS.get(case.words[0] if case.words else "", (3,))[0]
         written = lambda: next((left[name] for name in map(os.path.normpath, case.words[place : place + 1]) if name in left), None)
-        wrong, status, notes = self.compare(case, ran, left, read, write, program.Gains(written))
+        wrong, status, notes = self.compare(case, ran, left, read, write, program.Gains(written, self.versions))
         if case.same:
             other = self.started(case.same)
             if (other.returncode, other.stderr, other.stdout) != (ran.returncode, ran.stderr, ran.stdout):
@@ -285,7 +314,7 @@ class Runner:
             wrong, more = self.check_settled(case)
             notes = [*notes, *more]
         if case.kind == "border":
-            d = model.read_design(case.files["d"])
+            d = read_design(case.files["d"])
             plans = model.read_policy(case.files["p"], d)
             wrong = "; ".join(filter(None, [wrong, forms.fault(d), at_corners.fault(d, plans)])) or None
             told, form = lambda is_fine: "fine" if is_fine else "exact", model.form_of(d)
@@ -309,7 +338,7 @@ class Runner:
         found = self.left()
         if ran.returncode or {name: found.get(name) for name in made} != made:
             return f"{plain[0]} writes otherwise", []
-        d, c = model.read_design(case.files["d"]), control.read_controller(made[controller])
+        d, c = read_design(case.files["d"]), read_controller(made[controller])
         starts = stay_cases.starts(pick, d)[: MOST_OF_PROGRAM // (TURNS * products(c))]
         files = {**case.files, "c": made[controller], "s": stay_cases.records_text(starts)}
         words = ["loop", "d", "c", "s", str(TURNS)]
@@ -332,7 +361,7 @@ class Runner:
     def check_split(self, case, left):
         """Of a box in cells: `generate` writes the same of one of the cells' designs, and `serve` puts the lines of the states' cells."""
         pick, (made, report) = random.Random(repr(case.files)), (left[name] for name in case.words[4:6])
-        cells, d = split_boxes.read_cells(made), model.read_design(case.files["d"])
+        cells, d = split_boxes.read_cells(made, self.versions), read_design(case.files["d"])
         boxes = split_boxes.cells_of(d, split_boxes.read_cuts(case.files["l"], d))
         k, corners, reports = pick.randrange(len(boxes)), 2**d.states, report.split(b"end\n")
         records = stay_cases.records_text([den, *plan] for den, plan in model.read_policy(case.files["p"], d, len(boxes))[corners * k : corners * (k + 1)])
@@ -356,7 +385,7 @@ class Runner:
 
     def check_settled(self, case):
         """Of a certificate that is accepted: loops from its start box lie where it says, at each turn."""
-        pick, d, c = random.Random(repr(case.files)), model.read_design(case.files["d"]), control.read_controller(case.files["c"])
+        pick, d, c = random.Random(repr(case.files)), read_design(case.files["d"]), read_controller(case.files["c"])
         s = settling.read_certificate(case.files["s"], settling.Box(c.lo, c.hi))
         shifts = held_boxes.read_shift_box(case.files["w"], d.states) if "w" in case.files else [[0] * d.states] * 2
         (box, costs), starts = settling.check(d, c, s, settling.Box(*shifts)), settle_cases.starts(pick, s.start)
@@ -397,7 +426,7 @@ class Runner:
                 raise TooLong
             return listing.played(l, state)
 
-        told = program.Program(case.words, read, write, gains, run, played)
+        told = program.Program(case.words, read, write, gains, run, played, versions=self.versions)
         try:
             said = told.go()
         except TooLong:
@@ -409,6 +438,8 @@ class Runner:
             return str(why), ran.returncode, notes
         if case.kind == "controller" and said.status != 11:
             notes.append("a random controller that is accepted")
+        if told.made and told.made.version == 3:
+            notes.append("a design of version 3, accepted")
         if told.made and told.made.version == 2:
             notes += [SECOND, LOWERED] if min(told.made.exps) < told.made.s else [SECOND]
         if case.kind == "serve" and said.status in (0, 12):
@@ -467,7 +498,7 @@ def notes_of_run(case, c, least, greatest):
 def work(options, numbers, results):
     maker = Maker(options.seed, options.kind, options.table)
     folder = tempfile.mkdtemp(prefix="fuzz-", dir=options.room)
-    runner = Runner(options.program, folder, options.loop_products)
+    runner = Runner(options.program, folder, options)
     while True:
         first = numbers.get()
         if first is None:
@@ -487,7 +518,7 @@ def show(options):
     """Runs one case again, and shows it."""
     case = Maker(options.seed, options.kind, options.table).case(options.case)
     with tempfile.TemporaryDirectory() as folder:
-        fault, status, notes = Runner(options.program, folder, options.loop_products).check(case)
+        fault, status, notes = Runner(options.program, folder, options).check(case)
     print(f"case {options.case} of seed {options.seed}: {case.kind} {case.words}")
     for name, data in case.files.items():
         print(f"--- {name}, {len(data)} bytes\n{data[:4000].decode('latin-1')}")
@@ -501,7 +532,7 @@ def main():
     parser.add_argument("--cases", type=int, default=1000)
     parser.add_argument("--seed", type=int, default=1)
     parser.add_argument("--jobs", type=int, default=os.cpu_count())
-    parser.add_argument("--kind", choices=sorted({*KINDS, "demo"}))
+    parser.add_argument("--kind", choices=sorted({*KINDS, "demo", "accelerated"}))
     parser.add_argument("--table", choices=sorted(tables.TABLES))
     parser.add_argument("--loop-products", type=int, default=MOST_LOOP_PRODUCTS)
     parser.add_argument("--case", type=int)

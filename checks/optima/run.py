@@ -1,10 +1,11 @@
 """Holds printed bounds against exact optima: of random designs and at states of their boxes, no bound that is printed may be broken.
 
-    python3 -m checks.optima.run [PROGRAM] [--command COMMAND] [--count COUNT] [--states STATES] [--seed SEED] [--jobs JOBS]
+    python3 -m checks.optima.run [PROGRAM] [--command COMMAND] [--version VERSION] [--count COUNT] [--states STATES] [--seed SEED] [--jobs JOBS]
 
 For each of COUNT (300) designs the COMMAND (lean, or generate) makes a controller, and runs it from STATES (10) states of the box, corners first. Each averaged plan, as exact
 fractions, must exceed each row by at most its printed violation, cost at most the printed gap more than the best feasible plan, and at most the printed undercut less; and both
-targets must be kept. The best plan is computed in fractions and proved optimal. Without PROGRAM the model of ../fuzz makes and runs the controllers.
+targets must be kept. The best plan is computed in fractions and proved optimal. Without PROGRAM the model of ../fuzz makes and runs the controllers; it alone has the accelerated machine,
+that of --version 3. Without VERSION designs are of 1 and 2.
 
 The designs have limits that bind at corners, policies with much or little slack, and targets of which some are as loose as what the plan without limits breaks; the reference
 plans are good ones, but for some.
@@ -21,6 +22,7 @@ from dataclasses import dataclass
 from fractions import Fraction
 
 from ..fuzz import at_corners, cases, control, forms, model, program
+from ..fuzz.machines import ALL_VERSIONS
 from .quadratic import Program, dot
 
 # the most products of a run, and the most of two fractions' bits that the optimum takes in time
@@ -31,16 +33,20 @@ OVER = 2**40
 # ---- designs
 
 
-def random_numbers(pick):
-    """The numbers of a design whose bounds are yet to be set."""
-    version, n, p = pick.choice([1, 2]), pick.choice([1, 1, 2, 2, 3]), pick.choice([1, 1, 2])
+def read_design(text):
+    return model.read_design(text, ALL_VERSIONS)
+
+
+def random_numbers(pick, version):
+    """The numbers of a design whose bounds are yet to be set, of this version where there is one."""
+    drawn_version, n, p = pick.choice([1, 2]), pick.choice([1, 1, 2, 2, 3]), pick.choice([1, 1, 2])
     stages = pick.choice([k for k in (1, 2, 3, 4, 5) if k * p <= MOST_ENTRIES])
     den, limit_den, grid = pick.choice([1, 2, 4, 8, 10, 64, 1048576]), pick.choice([1, 4, 10, 100]), pick.choice([0, 2, 4])
     some = lambda count, reach: [pick.randrange(-reach, reach + 1) for _ in range(count)]
     side = pick.choice([1, 2, 3]) << grid
     cost = lambda: [*some(n, 2), pick.choice([0, 0, 1]), pick.choice([1, 2, 5, 20])]
     stage_row = lambda: [*(some(n, limit_den) if pick.random() < 0.4 else [0] * n), *some(p, limit_den), 0]
-    return {"version": version, "n": n, "p": p, "stages": stages, "den": den, "a": [some(n, max(1, den // n)) for _ in range(n)], "b": [some(p, den) for _ in range(n)],
+    return {"version": version or drawn_version, "n": n, "p": p, "stages": stages, "den": den, "a": [some(n, max(1, den // n)) for _ in range(n)], "b": [some(p, den) for _ in range(n)],
             "cost_den": pick.choice([1, 1, 4, 16]), "row_den": pick.choice([1, 2]), "input": [pick.randrange(1, 9) for _ in range(p)],
             "cost": [cost() for _ in range(pick.choice([1, 2]))], "final_cost": [cost() for _ in range(pick.choice([0, 1]))], "limit_den": limit_den,
             "rows": [stage_row() for _ in range(pick.choice([1, 2, 3]))], "final_rows": [[*some(n, limit_den), 0] for _ in range(pick.choice([0, 0, 1, 2]))], "grid": grid,
@@ -79,10 +85,10 @@ def rounded(pick, plan, dens):
     return q, [round(q * v) for v in plan]
 
 
-def drawn(pick):
+def drawn(pick, version):
     """A design, a policy and references as texts, or None where nothing came of these numbers."""
-    v = random_numbers(pick)
-    d = model.read_design(cases.design_text(v))
+    v = random_numbers(pick, version)
+    d = read_design(cases.design_text(v))
     if not d.rows or not any(any(row[:-1]) for row in d.stage_rows + d.final_rows):
         return None
     free = Exact(d)
@@ -95,7 +101,7 @@ def drawn(pick):
         own = range(i, count * d.stages, count) if i < count else [count * (d.stages - 1) + i]
         low, high = (max(of[k] for k in own for of in some) for some in (kept, whole))
         row[-1] = -((-(low + max(share * (high - low), Fraction(1, 8))) * d.limit_den) // 1)
-    d = model.read_design(cases.design_text(v))
+    d = read_design(cases.design_text(v))
     over = max(max(d.residuals(x, plan)) for x, plan in zip(states_of(d), best))
     if over <= 0:
         return None
@@ -104,7 +110,7 @@ def drawn(pick):
     v["violation"] = max(1, round(v["target_den"] * over * pick.choice([Fraction(1, 50), Fraction(1, 10), Fraction(1, 3), Fraction(9, 10), Fraction(11, 10), 2, 4, 8])))
     v["gap"] = max(1, round(v["target_den"] * pick.choice([Fraction(1, 100), Fraction(1, 10), 1, 10])))
     text = cases.design_text(v)
-    d = model.read_design(text)
+    d = read_design(text)
     exact = Exact(d)
     most = min(min(-r for r in d.residuals(x, [part * u for u in plan])) for x, plan in zip(states_of(d), best))
     slack = most * pick.choice([Fraction(1, 50), Fraction(1, 5), Fraction(1, 2), Fraction(9, 10)])
@@ -144,7 +150,7 @@ def numbers_of(report, rows):
 def made(options, words, files, folder):
     """What the command makes of these files: a controller with its bounds; or None where it refuses, or where a run of it is too long."""
     if options.program is None:
-        said = program.answer(words, files.get, lambda name: True, model.exact_gains)
+        said = program.answer(words, files.get, lambda name: True, model.exact_gains, versions=ALL_VERSIONS)
         status, left = said.status, said.written
     else:
         for name, data in files.items():
@@ -154,14 +160,14 @@ def made(options, words, files, folder):
         left = {name: open(os.path.join(folder, name), "rb").read() for name in ("c", "r")} if status == 0 else {}
     if status == 2:
         sys.exit(f"there is no command {words[0]}")
-    c = control.read_controller(left["c"]) if status == 0 else None
+    c = control.read_controller(left["c"], ALL_VERSIONS) if status == 0 else None
     return status, c, left.get("r"), c is not None and products(c) <= MOST_PRODUCTS
 
 
 def averaged(options, c, states, folder):
     """The averaged plan from each state."""
     if options.program is None:
-        return [[Fraction(v, c.steps << c.f) for v in control.run(c, state)] for state in states]
+        return [[Fraction(v, c.total << c.f) for v in control.run(c, state)] for state in states]
     with open(os.path.join(folder, "s"), "w") as file:
         file.write("".join(",".join(map(str, state)) + "\n" for state in states))
     lines = subprocess.run([options.program, "solve", "c", "s"], cwd=folder, stdout=subprocess.PIPE, check=True).stdout.split(b"\n")[:-1]
@@ -204,7 +210,7 @@ def tried(options, number):
     with tempfile.TemporaryDirectory() as folder:
         for attempt in range(1000):
             pick = random.Random(f"{options.seed} {number} {attempt}")
-            found = drawn(pick)
+            found = drawn(pick, options.version)
             if found is None:
                 continue
             d, text, policy, references = found
@@ -223,6 +229,7 @@ def main():
     parser = argparse.ArgumentParser(description=__doc__, formatter_class=argparse.RawDescriptionHelpFormatter)
     parser.add_argument("program", nargs="?")
     parser.add_argument("--command", choices=["lean", "generate"], default="lean")
+    parser.add_argument("--version", type=int, choices=ALL_VERSIONS)
     for name, value in (("--count", 300), ("--states", 10), ("--seed", 1), ("--jobs", os.cpu_count())):
         parser.add_argument(name, type=int, default=value)
     options = parser.parse_args()

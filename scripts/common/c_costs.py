@@ -1,4 +1,4 @@
-"""What a run of the C of a controller costs on a Cortex-M4, by its sizes and by the words that it takes: cycles, flash and RAM.
+"""What a run of the C of a controller costs on a Cortex-M4: cycles, flash and RAM. Of at most 64 bits that is the straight C of `straight_costs`; else C with tables, by its sizes and by the words that it takes.
 
 RAM is exact, and so are the tables in flash. Cycles and the bytes of the code are sums of shares that were fitted to what `bench/target/costs.py` measured of controllers of many
 sizes (gcc 12 -O2, cycles by the processor's table without wait states). That script says how near they come: cycles within 16 %, mostly 8, where there are two words a third; flash within a quarter.
@@ -7,6 +7,7 @@ from .c_text import CHUNK, CText
 from .c_words import LONG, NARROW, PARTS, WIDE, Form
 from .design_text import plain
 from .libraries import Refusal
+from .straight_costs import HELD, MOST_WIDTH, STEP, StraightCosts
 
 # cycles of a step for each product of the plan's entries, and for each entry
 ENTRIES = {NARROW: (3.9, 16), "two": (3.4, 30), "four": (2.9, 44), LONG: (14, 20), WIDE: (55, 190)}
@@ -72,14 +73,14 @@ class Costs:
 
 
 def about_step(rows, entries):
-    """About how many cycles a step takes, before there is a controller: by the factors of the limit rows and the count of a plan's entries, where opposite rows share their products. Of the
-    examples whose sums have one word it is 0.98 to 1.16 times what `Costs` says; of those with two and four words 0.6 and 0.4 times."""
+    """About how many cycles a step of the straight C takes, before there is a controller: by the factors of the limit rows and the count of a plan's entries, where opposite rows share their products and
+    all rows can bind."""
     counted = [tuple(row) for row in rows]
     apart = {max(row, tuple(-v for v in row)) for row in counted}
-    a_product, an_entry = ENTRIES[NARROW]
-    _, looped, a_row, a_looped_row, a_pair = ROWS[NARROW]
-    of_rows = looped * sum(v != 0 for row in apart for v in row) + (a_row + a_looped_row) * len(apart) + a_pair * (len(counted) - len(apart))
-    return entries * (len(apart) * a_product + an_entry) + of_rows
+    cycles = lambda what: STEP[what][0]
+    of_rows = sum(cycles("row's product") if abs(v) != 1 else cycles("row's sum") for row in apart for v in row if v)
+    beyond = max(0, 3 * entries + len(counted) - HELD) * cycles("number beyond the registers")
+    return entries * (len(apart) * cycles("entry's product") + cycles("entry")) + of_rows + (len(counted) - len(apart)) * cycles("pair") + beyond
 
 
 def rounded(value):
@@ -90,20 +91,40 @@ def rounded(value):
 
 def c_words(controller, period, clock):
     """What the C of a controller takes and costs, in words."""
-    try:
-        costs = Costs(controller)
-    except Refusal as why:
-        yield f"no C can be written of it: {why}"
-        return
-    c, form = controller, costs.form
+    if controller.width <= MOST_WIDTH:
+        costs = StraightCosts(controller)
+        yield straight_words(costs.rows)
+    else:
+        try:
+            costs = Costs(controller)
+        except Refusal as why:
+            yield f"no C can be written of it: {why}"
+            return
+        yield table_words(costs.form)
+    c = controller
     written = c.steps * (c.entries * (c.states + c.rows) + c.rows * (c.entries + c.states))
     time = costs.cycles / (clock * 1e6)
     share = f", {plain(float(f'{100 * time / period:.2g}'))} % of a stage of {plain(period)} s" if period else ""
-    entries, rows = form.entry_sums.words(), form.row_sums.words()
-    words = f"sums of entries and of rows {entries}" if entries == rows else f"sums of entries {entries}; of rows {rows}"
-    pairs = f", shared by {len(form.seconds)} pair{'s' * (len(form.seconds) > 1)} of rows" if form.seconds else ""
-    yield f"as C (./mpc c): {words}; {sum(form.products())} products a step{pairs}"
     yield (
         f"on a Cortex-M4 about {rounded(costs.cycles)} cycles a run, {costs.cycles / written:.1f} for each product as written: "
         f"{plain(float(f'{time * 1e3:.2g}'))} ms at {plain(clock)} MHz{share}; about {rounded(costs.flash)} bytes of flash, {costs.ram} of RAM"
     )
+
+
+def straight_words(rows):
+    """What a step of the straight C has left."""
+    c = rows.c
+    products = sum(row[i] != 0 for row in rows.gains for i in rows.left if i not in rows.seconds) + sum(v != 0 for i in rows.left if i not in rows.seconds for v in c.G[i])
+    never = f"; {c.rows - len(rows.left)} of {c.rows} rows bind from no state" if len(rows.left) < c.rows and c.steps > 1 else ""
+    return f"as C (./mpc c): no tables; {products} products a step{shared_words(len(rows.firsts))}{never}"
+
+
+def table_words(form):
+    """And what C with tables has."""
+    entries, rows = form.entry_sums.words(), form.row_sums.words()
+    words = f"sums of entries and of rows {entries}" if entries == rows else f"sums of entries {entries}; of rows {rows}"
+    return f"as C with tables (./mpc c .. --out): {words}; {sum(form.products())} products a step{shared_words(len(form.seconds))}"
+
+
+def shared_words(pairs):
+    return f", shared by {pairs} pair{'s' * (pairs > 1)} of rows" if pairs else ""

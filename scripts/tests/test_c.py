@@ -12,7 +12,7 @@ import unittest.mock
 
 from checks.fuzz import control, model
 from scripts import c_source
-from scripts.common import c_costs
+from scripts.common import c_costs, straight_costs
 from scripts.common.c_text import TWO_WORDS, CText
 from scripts.common.c_words import LONG, NARROW, PARTS, WIDE, Form, Sums, parts_fit
 from scripts.common.libraries import Refusal, answered
@@ -142,8 +142,12 @@ class Costs(unittest.TestCase):
         costs = c_costs.Costs(safe_controller(FIRST_CONTROLLER))
         self.assertEqual((costs.ram, costs.text.row_length()), (56, 1))
         told = "\n".join(c_costs.c_words(safe_controller(FIRST_CONTROLLER), 0.001, 100))
-        self.assertIn("as C (./mpc c): sums of entries and of rows 32 x 32 bits into 64; 4 products a step, shared by 1 pair of rows\non a Cortex-M4 about ", told)
+        self.assertIn("as C (./mpc c): no tables; 4 products a step, shared by 1 pair of rows\non a Cortex-M4 about ", told)
         self.assertIn("% of a stage of 0.001 s; about ", told)
+        wide = safe_controller(FIRST_CONTROLLER)
+        wide.width = 65
+        told = next(c_costs.c_words(wide, 0.001, 100))
+        self.assertEqual(told, "as C with tables (./mpc c .. --out): sums of entries and of rows 32 x 32 bits into 64; 4 products a step, shared by 1 pair of rows")
 
     def test_each_step_costs_as_much(self):
         c = safe_controller(FIRST_CONTROLLER)
@@ -154,8 +158,46 @@ class Costs(unittest.TestCase):
 
     def test_what_is_no_c(self):
         c = safe_controller(FIRST_CONTROLLER)
-        c.P[0][0] = 2**63
+        c.P[0][0], c.width = 2**63, 80
         self.assertEqual(list(c_costs.c_words(c, None, 100)), ["no C can be written of it: a coefficient of 64 bits and a sign: the C has coefficients of up to 63"])
+
+
+class StraightCosts(unittest.TestCase):
+    def costs(self, **changed):
+        c = safe_controller(FIRST_CONTROLLER)
+        for name, value in changed.items():
+            setattr(c, name, value)
+        return straight_costs.StraightCosts(c)
+
+    def test_each_step_costs_as_much(self):
+        cycles = [self.costs(steps=steps).cycles for steps in (4, 400, 796)]
+        self.assertAlmostEqual(cycles[2] - cycles[1], cycles[1] - cycles[0], delta=1)
+        self.assertGreater(cycles[1], cycles[0] + 396 * 20)
+
+    def test_rows_that_no_state_binds_are_gone(self):
+        """The plan is -(1024 x + 256 (l - l' + l'')) / 2^11 over 2^10, with x from 0 to 2^10 and multipliers up to 2^15: rows 1 and 2 bind beyond what it is without them."""
+        costs = self.costs()
+        self.assertEqual((costs.rows.left, costs.rows.firsts), ([0, 1, 2], [0]))
+        # at bounds of 40 no row binds, whatever the multipliers
+        far = self.costs(b=[40 << 10] * 3)
+        self.assertEqual((far.rows.left, far.rows.firsts), ([], []))
+        self.assertLess(far.cycles, costs.cycles)
+        self.assertEqual(sum(far.step.values()), far.step["entry"])
+        # the third alone binds, and then its multiplier lets the plan reach the second
+        third = self.costs(b=[40 << 10, 1 << 10, 256])
+        self.assertEqual((third.rows.left, third.rows.firsts), ([1, 2], []))
+
+    def test_one_step_meets_no_multiplier(self):
+        self.assertEqual(self.costs(steps=1).rows.left, [])
+        self.assertEqual(list(c_costs.c_words(self.costs(steps=1).c, None, 100))[0], "as C (./mpc c): no tables; 0 products a step")
+
+    def test_kinds_of_products(self):
+        told = [straight_costs.product(factor, False) for factor in (1, -256, -257, 65535, 65536, 2**31 - 1)]
+        self.assertEqual(told, [["sum"], ["product"], ["product, long factor"], ["product"], ["product, long factor"], ["product, long factor"]])
+        # 1001010101b has five digits, and one more is none of shifts
+        told = [straight_costs.product(factor, True) for factor in (-1, 2, 7, 0b1001010101, 0b101001010101)]
+        self.assertEqual(told, [["sum of 64 bits"], ["digit of 64 bits"], ["digit of 64 bits"] * 2, ["digit of 64 bits"] * 5, ["product of 64 bits"]])
+        self.assertEqual(straight_costs.product(2**31, False), ["digit of 64 bits"])
 
 
 class Texts(unittest.TestCase):

@@ -9,6 +9,7 @@ import tempfile
 import unittest
 
 from bench.target import board, costs
+from scripts.common import straight_costs
 
 from .c_trials import states_of
 from .controllers import random_controller, run
@@ -51,6 +52,9 @@ class Boards(unittest.TestCase):
             cycles, flash = costs.ratios(controller)
             self.assertAlmostEqual(cycles, 1, delta=0.35 if name == "two words" else 0.2, msg=name)
             self.assertAlmostEqual(flash, 1, delta=0.25, msg=name)
+            if controller.width <= straight_costs.MOST_WIDTH:
+                for ratio in costs.straight_ratios(controller):
+                    self.assertAlmostEqual(ratio, 1, delta=0.15, msg=f"{name}, straight")
 
     @unittest.skipUnless(os.path.exists(PROGRAM) and shutil.which("cc"), "the program isn't built, or there is no cc")
     def test_the_motors_loop_as_its_page_says(self):

@@ -157,9 +157,9 @@ class Search(unittest.TestCase):
 
     def test_share_of_a_stage(self):
         design = read_design(os.path.join(EXAMPLES, "motor", "design.toml"))
-        # 4 rows and their opposites, over 4 entries: 4 * (4 * 3.9 + 16), 4 factors of 10, 4 * 24 and 4 * 34
+        # 4 rows and their opposites, over 4 entries: 4 * (4 * 4.9 + 0.7), 4 factors at 3.2, 4 pairs at 9.5, and 1.2 for each of 3 * 4 + 8 numbers but 10
         share = staying.share_of(design, 9, 0.005, 100.0)
-        self.assertAlmostEqual(share, 9 * (4 * (4 * 3.9 + 16) + 10 * 4 + 4 * 24 + 4 * 34) / 5e5)
+        self.assertAlmostEqual(share, 9 * (4 * (4 * 4.9 + 0.7) + 4 * 3.2 + 4 * 9.5 + 10 * 1.2) / 5e5)
         self.assertAlmostEqual(staying.share_of(design, 9, 0.005, 50.0), 2 * share)
 
     def test_two_inputs(self):

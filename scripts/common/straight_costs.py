@@ -1,0 +1,171 @@
+"""What a run of the straight C of a controller costs on a Cortex-M4, as the program's `c` writes it: cycles, flash and RAM.
+
+Counted is what gcc 12 -O2 leaves of its statements. It knows the intervals of all numbers from the box and the clamps: a row that can't bind by these is gone with its products, and where there is one step all are.
+The shares of what is counted were fitted to what `bench/target/costs.py` measured of controllers of many sizes (cycles by the processor's table without wait states), which says how near they come.
+"""
+from __future__ import annotations
+
+from collections import Counter
+
+from .strict_texts import absolute_sums, ceil_div
+from .texts import Controller
+
+# the widest that `c` writes
+MOST_WIDTH = 64
+# numbers that one instruction has, numbers of the loop that the registers hold, and the most digits of a factor that are shifted
+SHORT, HELD, SHIFTED = range(-256, 65536), 10, 5
+# cycles, bytes of code and bytes of stack of each
+START = {
+    "average": (0.0, 192.9, 0.0),
+    "average by a shift": (0.0, 15.8, 0.0),
+    "coordinate": (2.3, 34.0, 0.8),
+    "entry": (12.9, 0.0, 0.0),
+    "entry's coefficient": (4.5, 10.7, 0.0),
+    "row's coefficient": (5.2, 15.8, 1.9),
+}
+STEP = {
+    "entry": (0.7, 5.1, 12.6),
+    "entry's digit of 64 bits": (6.5, 17.4, 0.6),
+    "entry's product": (4.9, 13.7, 0.1),
+    "entry's product of 64 bits": (14.3, 39.7, 3.5),
+    "entry's product, long factor": (6.2, 19.5, 0.1),
+    "number beyond the registers": (1.2, 3.8, 0.3),
+    "pair": (9.5, 10.0, 0.0),
+    "pair of 64 bits": (21.8, 34.9, 3.7),
+    "residual of 64 bits": (4.5, 7.8, 1.6),
+    "residual of 64 bits, shifted": (5.9, 21.6, 2.4),
+    "row": (0.0, 0.0, 6.4),
+    "row of 64 bits": (9.3, 15.6, 8.5),
+    "row's digit of 64 bits": (4.3, 14.5, 0.0),
+    "row's product": (3.2, 12.4, 0.8),
+    "row's product of 64 bits": (12.3, 34.5, 3.0),
+    "row's product, long factor": (4.9, 13.1, 0.2),
+    "row's sum": (4.4, 30.3, 1.0),
+    "row's sum of 64 bits": (5.4, 26.0, 4.0),
+    "sum of a run of 64 bits": (3.3, 22.7, 4.8),
+}
+
+Interval = tuple[int, int]
+
+
+def times(factor: int, of: Interval) -> Interval:
+    ends = factor * of[0], factor * of[1]
+    return min(ends), max(ends)
+
+
+def total(some: list[Interval]) -> Interval:
+    return sum(low for low, _ in some), sum(high for _, high in some)
+
+
+def is_long(most: int) -> bool:
+    """Whether a number of at most this size takes 64 bits."""
+    return most >= 2**31
+
+
+class Rows:
+    """The rows of a controller that its C has: their greatest multipliers, which are pairs, the power of two that a row's factors share, and which of them can bind."""
+
+    def __init__(self, c: Controller):
+        self.c = c
+        self.lowered = [c.step - exponent for exponent in c.exps]
+        self.tops = [c.clamp >> k for k in self.lowered]
+        self.gains = [[v << k for v, k in zip(row, self.lowered)] for row in c.W]
+        self.partners = [next((k for k in range(c.rows) if self.are_opposite(k, i)), c.rows) for i in range(c.rows)]
+        self.shared = [max(k for k in range(c.bits + 1) if all(v % (1 << k) == 0 for v in row)) for row in c.G]
+        self.written = [i for i in range(c.rows) if self.tops[i] and any(row[i] for row in c.W)]
+        self.left = self.binding()
+        # both of a pair are left, or neither counts as one
+        self.firsts = [i for i in self.left if i < self.partners[i] and self.partners[i] in self.left]
+        self.seconds = [self.partners[i] for i in self.firsts]
+
+    def are_opposite(self, k: int, i: int) -> bool:
+        c = self.c
+        return c.exps[k] == c.exps[i] and all(a + b == 0 for a, b in zip(c.G[k], c.G[i])) and all(row[k] + row[i] == 0 for row in c.W)
+
+    def binding(self) -> list[int]:
+        """The rows whose multipliers leave 0 from some state, by intervals; none where no multiplier meets a plan."""
+        c = self.c
+        if c.steps == 1:
+            return []
+        box = [(low << c.bits - c.grid, high << c.bits - c.grid) for low, high in zip(c.lo, c.hi)]
+        of_state = lambda offset, factors: total([(offset, offset), *(times(v, of) for v, of in zip(factors, box))])
+        bases = [of_state(t << c.bits + c.step, [v << c.step for v in row]) for row, t in zip(c.P, c.T)]
+        greatest = {i: of_state(-c.b[i] << c.bits, c.E[i])[1] >> self.shared[i] for i in self.written}
+        left: set[int] = set()
+        while True:
+            moved = [total([base, *(times(row[i], (0, self.tops[i])) for i in left)]) for base, row in zip(bases, self.gains)]
+            plan = [(-(high >> c.bits + c.step), -(low >> c.bits + c.step)) for low, high in moved]
+            residual = lambda i: greatest[i] + total([times(v >> self.shared[i], of) for v, of in zip(c.G[i], plan)])[1]
+            found = {i for i in self.written if residual(i) >> c.bits - self.shared[i] > 0}
+            if found <= left:
+                return sorted(left)
+            left |= found
+
+
+def digits(factor: int) -> int:
+    """How many powers of two a factor is the fewest sum or difference of."""
+    triple = 3 * abs(factor)
+    return ((triple ^ abs(factor)) >> 1).bit_count()
+
+
+def product(factor: int, is_wide: bool) -> list[str]:
+    """What a product of a factor with a variable of 64 bits or of 32 takes. Of 64 bits gcc makes one of few digits by shifts and sums, though that takes longer."""
+    if abs(factor) == 1:
+        return ["sum of 64 bits" if is_wide else "sum"]
+    if is_wide or is_long(abs(factor)):
+        return ["digit of 64 bits"] * digits(factor) if digits(factor) <= SHIFTED else ["product of 64 bits"]
+    return ["product" if factor in SHORT else "product, long factor"]
+
+
+class StraightCosts:
+    """Cycles of a run, bytes of flash and of RAM, the stack's among them."""
+
+    def __init__(self, c: Controller):
+        self.c, self.rows = c, Rows(c)
+        self.reach, _, self.plan, _, self.moved, self.sums = absolute_sums(c)
+        self.start, self.step = self.counted_start(), self.counted_step()
+
+    def of_state(self, factors: list[int]) -> int:
+        return sum(v * most != 0 for v, most in zip(factors, self.reach))
+
+    def counted_start(self) -> Counter[str]:
+        c = self.c
+        count = Counter({"entry": c.entries, "coordinate": c.states, "average by a shift" if c.steps & (c.steps - 1) == 0 else "average": c.inputs})
+        count["entry's coefficient"] = sum(map(self.of_state, c.P))
+        count["row's coefficient"] = sum(self.of_state(c.E[i]) for i in self.rows.left)
+        return count
+
+    def counted_step(self) -> Counter[str]:
+        c, rows, count = self.c, self.rows, Counter({"entry": self.c.entries})
+        for row in rows.gains:
+            count.update("entry's " + what for i in rows.left if row[i] and i not in rows.seconds for what in product(row[i], is_long(rows.tops[i])))
+        for i in rows.left:
+            if i not in rows.seconds:
+                factors = [(v >> rows.shared[i], most) for v, most in zip(c.G[i], self.plan) if v * most]
+                count.update("row's " + what for factor, most in factors for what in product(factor, is_long(most)))
+            long = " of 64 bits"
+            count["row" + long * is_long(self.moved[i])] += 1
+            count["residual of 64 bits" + ", shifted" * (rows.shared[i] < c.bits)] += is_long(self.moved[i] << c.bits - rows.shared[i])
+        count.update("pair" + " of 64 bits" * is_long(rows.tops[i]) for i in rows.firsts)
+        count["sum of a run of 64 bits"] = sum(map(is_long, self.sums))
+        own = sum(self.of_state(c.E[i]) > 0 for i in rows.left)
+        held = 2 * (c.entries + own) + sum(1 + is_long(most) for most in [*(rows.tops[i] for i in rows.left), *self.sums])
+        count["number beyond the registers"] = max(0, held - HELD)
+        return count
+
+    def share(self, which: int) -> float:
+        """Of a start and a step."""
+        return sum(START[what][which] * n for what, n in self.start.items()) + sum(STEP[what][which] * n for what, n in self.step.items())
+
+    @property
+    def cycles(self) -> int:
+        of_step = sum(STEP[what][0] * n for what, n in self.step.items())
+        return round(self.share(0) + (self.c.steps - 1) * of_step)
+
+    @property
+    def flash(self) -> int:
+        return round(self.share(1))
+
+    @property
+    def ram(self) -> int:
+        return 8 * (self.c.entries + ceil_div(round(self.share(2)), 8))
