@@ -363,17 +363,24 @@ class Errors:
     def epsilon(self, f):
         return self.priced(self.first, self.plan(f), f)
 
-    def real(self, choice, solutions, magnitude, f):
-        """Epsilon by what the solutions really miss, and by the greatest magnitude of a plan entry, over 2^f."""
+    def real_gradient(self, choice, solutions, f):
+        """The bound on each entry of a step's gradient, over 2^f, by what the solutions really miss."""
         matrix, n = choice.matrix, self.d.states
         weights = [self.box] * n + [1] + [self.top] * self.d.rows
         missed = [sum(w * abs(sum(h * v for h, v in zip(row, x)) - 2**f * column[j]) for w, x, column in zip(weights, solutions, choice.columns))
                   for j, row in enumerate(matrix)]
-        gradient = self.gradient
-        if max(row[j] for j, row in enumerate(matrix)) * self.spread <= LIMIT:
-            gradient = [ceil_div(v, self.unit) + total for v, total in zip(missed, self.row_sums)]
-        first = ceil_div(self.d.cost_den * sum(v * v for v in gradient), 2 * self.rho)
-        return self.priced(first, min(self.plan(f), ceil_div(magnitude, 2**f)), f)
+        if max(row[j] for j, row in enumerate(matrix)) * self.spread > LIMIT:
+            return self.gradient
+        return [ceil_div(v, self.unit) + total for v, total in zip(missed, self.row_sums)]
+
+    def real_plan(self, magnitude, f):
+        """The bound on a plan entry, also by the greatest magnitude of one, over 2^f."""
+        return min(self.plan(f), ceil_div(magnitude, 2**f))
+
+    def real(self, choice, solutions, magnitude, f):
+        """Epsilon by what the solutions really miss, and by the greatest magnitude of a plan entry, over 2^f."""
+        first = ceil_div(self.d.cost_den * sum(v * v for v in self.real_gradient(choice, solutions, f)), 2 * self.rho)
+        return self.priced(first, self.real_plan(magnitude, f), f)
 
     @property
     def size(self):
