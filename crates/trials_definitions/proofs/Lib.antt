@@ -12,6 +12,7 @@ mod LettersWorked
 mod SizesWorked
 -- ---- one design from its corners to its runs
 mod FirstDesignWorked
+mod RunErrorsWorked
 -- ---- the problem, its form in enclosures and its corners
 mod ProblemsWorked
 mod FineWorked

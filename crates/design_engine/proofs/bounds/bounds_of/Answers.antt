@@ -7,8 +7,31 @@ use Rattle.qp_model.specs.machine.Controller.{Numbers}
 use Rattle.qp_model.specs.machine.AbsoluteSums.{IsController}
 use Rattle.hessian_check.specs.RowExponents.{exponent_in}
 use Rattle.design_engine.specs.Terms.{row_bound, repaired, HasUndercutRoom}
-use Rattle.design_engine.proofs.PrintedFacts.{below, listed, repaired_is, repaired_least}
+use Rattle.design_engine.proofs.PrintedFacts.{below, listed, repaired_is, repaired_least, run_within}
 use Rattle.design_engine.proofs.bounds.bounds_of.Goals as goal
+
+-- ---- the run
+pub row_bound-violation-requires-clause-run : goal.row_bound-violation-requires-clause-run
+row_bound-violation-requires-clause-run c =
+    let n = c.args.controller.now in
+    let sound : IsController n = search rules in
+    let r : SFits w128 c.args.terms.aim.r = search rules in
+    let parts = c.parts-parts.ensures.value in
+    let exponent : c.parts-parts.result.now.s ≤ 40 = rw (ap (λ (x : Numbers). x.step_exponent) parts) sound.form.sized.step_exponent in
+    let steps : 1 ≤ c.parts-parts.result.now.steps = rw (ap (λ (x : Numbers). x.steps) parts) sound.form.sized.steps.0 in
+    rw (to_z-of_z w128 _ r, to_z-of_z w128 _ c.ranges.eps)
+    (run_within _ exponent c.requires.terms.aim.some c.requires.terms.aim.narrow steps c.requires.errors c.requires.small c.requires.terms.target)
+
+pub violations_after-requires-clause-run : goal.violations_after-requires-clause-run
+violations_after-requires-clause-run c =
+    let n = c.args.controller.now in
+    let sound : IsController n = search rules in
+    let r : SFits w128 c.args.terms.aim.r = search rules in
+    let parts = c.parts-parts.ensures.value in
+    let exponent : c.parts-parts.result.now.s ≤ 40 = rw (ap (λ (x : Numbers). x.step_exponent) parts) sound.form.sized.step_exponent in
+    let steps : 1 ≤ c.parts-parts.result.now.steps = rw (ap (λ (x : Numbers). x.steps) parts) sound.form.sized.steps.0 in
+    rw (to_z-of_z w128 _ r, to_z-of_z w128 _ c.ranges.eps)
+    (run_within _ exponent c.requires.terms.aim.some c.requires.terms.aim.narrow steps c.requires.errors c.requires.small c.requires.terms.target)
 
 pub violations_after-requires-clause-rows : goal.violations_after-requires-clause-rows
 violations_after-requires-clause-rows c =
