@@ -282,11 +282,11 @@ class Commands(unittest.TestCase):
 
     def test_wide_products_are_priced_as_such(self):
         """Three gains of 47 bits by multipliers of 17, and three factors of rows by plan entries that such gains reach, are two products of 32-bit words each, at four steps."""
-        wide = FIRST_CONTROLLER.replace("W 256 -256 256", f"W {2**45} -256 256")
+        wide = FIRST_CONTROLLER.replace("W 256 -256 256", f"W {2**45} -256 256").replace("bits 10 0 1 26", "bits 10 0 1 80")
         _, paths = folder_with(self, c=wide)
         told = command("explain", paths["c"]).stdout
         self.assertIn("a run has 24 products (24; 40), which are 48 of 32-bit words\n", told)
-        self.assertIn("signed words: gains W 47 bits, P 11, rows G 12, E 12, multipliers 17, plan 51\nas C (./mpc c): sums of entries and of rows 64 x 64 bits into 64;", told)
+        self.assertIn("signed words: gains W 47 bits, P 11, rows G 12, E 12, multipliers 17, plan 51\nas C with tables (./mpc c .. --out): sums of entries and of rows 64 x 64 bits into 64;", told)
 
 
 if __name__ == "__main__":
