@@ -97,8 +97,8 @@ fn steps_and_bits(design: &Design, stepped: &SteppedForm, aim: Aim) -> Result<St
     })
 }
 
-// The step exponents of the rows of a design with the step exponent `s`, by its version: in the first all of them are `s`.
-fn row_exponents(
+/// The step exponents of the rows of a design with the step exponent `s`, by its version: in the first all of them are `s`.
+pub fn row_exponents(
     alloc: Global,
     design: &Design,
     condensed: &Condensed,

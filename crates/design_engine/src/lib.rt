@@ -10,7 +10,7 @@ mod generation;
 mod laws;
 mod residuals;
 
-pub use aimed::{Aim, SteppedForm, stepped_form};
+pub use aimed::{Aim, SteppedForm, row_exponents, stepped_form};
 pub use bounds::{
     Run, Terms, fast_violation, fast_violations_after, row_violations, violations_after,
 };

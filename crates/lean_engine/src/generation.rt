@@ -22,8 +22,8 @@ use plan_excess::excess;
 use qp_model::{Design, DesignParts, Margin, Policy};
 use std::alloc::Global;
 
-// What the targets ask for with a slack, an excess and their R.
-fn lean_terms(parts: &DesignParts, units: i128, excess: i128, r: i128) -> Terms
+/// What the targets ask for with a slack, an excess and their R.
+pub fn lean_terms(parts: &DesignParts, units: i128, excess: i128, r: i128) -> Terms
     requires design { IsDesign parts.now }
     requires units { pos 1 ≤ℤ units }
     requires excess { pos 0 ≤ℤ excess }

@@ -7,7 +7,7 @@ mod laws;
 mod targets;
 mod violations;
 
-pub use generation::generate_lean;
+pub use generation::{generate_lean, lean_terms};
 pub use laws::{causes_law, lean_law};
-pub use targets::violation_target;
+pub use targets::{floor_target, violation_target};
 pub use violations::row_violations;

@@ -30,7 +30,7 @@ pub(crate) fn rest_target(parts: &DesignParts) -> i128
 }
 
 /// Over `2^16`, rounded down.
-pub(crate) fn floor_target(parts: &DesignParts) -> i128
+pub fn floor_target(parts: &DesignParts) -> i128
     requires { IsDesign parts.now }
     ensures { result ≡ pos (floor_target (targets_of parts.now)) }
 {
