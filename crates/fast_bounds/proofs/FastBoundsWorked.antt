@@ -1,5 +1,5 @@
 -- Bounds of controllers that were reckoned by hand.
-use Rattle.std.proofs.Common.{◌≡◌, ℕ, ◌^◌, [], ◌∷◌, refl}
+use Rattle.std.proofs.Common.{◌≡◌, ◌^◌, [], ◌∷◌, refl}
 use Rattle.qp_model.specs.bounds.Choices.{row_violation_bound, violation_bound, lean_row_violation}
 use Rattle.step_error.specs.CarriedErrors.{carry_of}
 use Rattle.dual_bounds.specs.FastSteps.{quarter_steps}

@@ -8,4 +8,9 @@ pub mod MeanErrors
 pub mod FastDesignRuns
 -- ---- the promise
 pub mod FastPromise
+-- ---- one refusal
+pub mod FastCauses
+-- ---- what is made
+pub mod FastPrinted
+pub mod FastMade
 mod FastBoundsWorked

@@ -1,6 +1,6 @@
 -- What a controller of the accelerated machine is certified for, and what that rests on: in each bound k (k + 3) stands for the k steps of the plain machine,
 -- and each step exponent is greater by two.
-use Rattle.std.specs.Prelude.{◌≡◌, ℕ, ◌+◌, ◌*◌, ◌^◌, ◌<◌, ◌≤◌, ℤ, pos, ◌≤ℤ◌, List, length, unsigned_abs}
+use Rattle.std.specs.Prelude.{◌≡◌, ℕ, ◌+◌, ◌^◌, ◌≤◌, ℤ, pos, ◌≤ℤ◌, List, length, unsigned_abs}
 use Rattle.integer_algebra.specs.Sums.{at}
 use Rattle.qp_model.specs.problem.Design.{Design}
 use Rattle.qp_model.specs.problem.Parts.{IsDesign, design_of}
@@ -24,7 +24,7 @@ use Rattle.hessian_check.specs.RowExponents.{AreExponentsOf}
 use Rattle.hessian_check.specs.Steps.{IsExponentOf}
 use Rattle.step_error.specs.Choice.{IsChoice}
 use Rattle.design_engine.specs.Bounds.{AreBoundsWith}
-use Rattle.design_engine.specs.Targets.{Targets, targets_of, violation_target, IsWithinTargets}
+use Rattle.design_engine.specs.Targets.{targets_of, violation_target, IsWithinTargets}
 use Rattle.design_engine.specs.Threshold.{HasRepairs, IsEnoughOf}
 use Rattle.design_engine.specs.declared.aimed.Aim.{Aim}
 use Rattle.lean_engine.specs.Lean.{bound_of, lean_aim}

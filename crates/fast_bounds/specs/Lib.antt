@@ -1,3 +1,4 @@
 pub mod FastDesign
 pub mod FastCertified
 pub mod FastRefusals
+pub mod FastTerms

@@ -1,5 +1,6 @@
 // The errors of the accelerated machine's steps on a design, and the bound of its runs.
 ghost use Rattle.fast_bounds.specs.FastCertified.{FastCertifiedLaw, FastLeanLaw};
+ghost use Rattle.fast_bounds.specs.FastRefusals.{FastCausesLaw, FastPassingLaw};
 ghost use Rattle.fast_bounds.specs.FastDesign.{PlanErrorsLaw, FastCarriedLaw, FastDesignRunLaw, FastStatedRunLaw};
 
 /// The plan that a machine makes from a state of its design's box at any multipliers in 0 .. 2 r is within the plan bound, its gradient and residuals are
@@ -35,4 +36,10 @@ pub fn fast_certified_law()
 /// meet the design's targets.
 pub fn fast_lean_law()
     ensures { FastLeanLaw }
+{}
+
+/// A design with a policy and reference plans has at most one refusal with a cause by the tests of this machine, and none where it passes every test.
+pub fn fast_causes_law()
+    ensures one { FastCausesLaw }
+    ensures none { FastPassingLaw }
 {}

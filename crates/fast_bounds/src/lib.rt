@@ -1,9 +1,13 @@
-//! What the accelerated machine of a controller that is made for a design promises.
+//! Controllers of the accelerated machine that are made for a design, and what they promise.
 #![tactic(auto)]
 
+mod bounds;
+mod controller;
 mod laws;
 
+pub use bounds::fast_bounds_of;
+pub use controller::fast_controller_with;
 pub use laws::{
-    fast_carried_law, fast_certified_law, fast_design_run_law, fast_lean_law, fast_stated_run_law,
-    plan_errors_law,
+    fast_carried_law, fast_causes_law, fast_certified_law, fast_design_run_law, fast_lean_law,
+    fast_stated_run_law, plan_errors_law,
 };

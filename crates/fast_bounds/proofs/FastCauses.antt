@@ -1,0 +1,77 @@
+-- A cause is what a list of tests tells, and so there is one at most.
+use Rattle.std.proofs.Common.{◌≡◌, inl, inr, ℕ, ◌<◌, ◌≤◌, List, unsigned_abs, arith, ap, sym, ◌∙◌, pos}
+use Rattle.std.proofs.lemmas.Bool.{cases_lt}
+use Rattle.qp_model.specs.form.Class.{form_of}
+use Rattle.qp_model.specs.problem.Parts.{IsDesign, design_of}
+use Rattle.qp_model.specs.declared.design_parts.DesignParts.{DesignParts}
+use Rattle.qp_model.specs.declared.quantity.Quantity.TheVariants.{Multiplier, Excess, Error, Descent, Width}
+use Rattle.qp_model.specs.declared.refusal.Refusal.{Refusal}
+use Rattle.qp_model.specs.declared.refusal.Refusal.TheVariants.{TooManySteps}
+use Rattle.hessian_check.specs.RowExponents.{AreExponentsOf}
+use Rattle.dual_bounds.specs.FastSteps.{quarter_steps, IsLeastQuarter}
+use Rattle.step_error.specs.CarriedErrors.{run_sums_of}
+use Rattle.step_error.proofs.SumFacts.{floor_range}
+use Rattle.overflow_check.specs.FastController.{most_fast_steps}
+use Rattle.design_engine.specs.Stages.{Nothing, OfForm}
+use Rattle.design_engine.specs.declared.aimed.Aim.{Aim}
+use Rattle.design_engine.proofs.TestLaws.{IsOne, IsNone, nothing_one, nothing_none, sized_one, sized_none, finds_one, finds_none}
+use Rattle.design_engine.proofs.OneOfEach.{one_choice, no_choice, one_exponents}
+use Rattle.design_engine.proofs.StageLaws.{form_one, form_none, corners_one, corners_none}
+use Rattle.lean_engine.specs.Refusals.{aim_at}
+use Rattle.fast_bounds.specs.FastRefusals.{AreStepsFor, AreFastBitsOf, AfterFastBits, IsFastFine, AfterExponents, IsFastLong, HasFastAimCause, AfterFastExponent, PassesFastAim, FastCausesLaw, FastPassingLaw}
+
+-- ---- the steps
+pub one_quarter : (n a b : ℕ) → IsLeastQuarter n a → IsLeastQuarter n b → a ≡ b
+one_quarter n a b h k = elim (cases_lt a b) [
+  | inl l ↦ absurd (clash (quarter_steps a) n h.enough (k.least a h.some l))
+  | inr l ↦ elim (cases_lt b a) [ inl o ↦ absurd (clash (quarter_steps b) n k.enough (h.least b k.some o)) | inr o ↦ omega (arith, l, o) ]
+]
+  where
+    clash : (q n : ℕ) → n ≤ q → q < n → ⊥
+    clash q n h k = omega (arith, h, k)
+
+-- ---- an aim, with the step exponent s, from the last tests back
+module _ (p : DesignParts) (a : Aim) (design : IsDesign p) (s : ℕ) where
+  long_clash : (e : Refusal) (k : ℕ) → IsFastLong a s e → AreStepsFor a s k × (k ≤ most_fast_steps) → ⊥
+  long_clash e k told h = few told.0 k told.2.1 h.1 (one_quarter _ told.0 k told.2.0 h.0)
+    where
+      few : (n k : ℕ) → most_fast_steps < n → k ≤ most_fast_steps → n ≡ k → ⊥
+      few n k l h e = omega (arith, l, h, e)
+
+  long_one : IsOne (IsFastLong a s)
+  long_one e other x y = x.1 ∙ ap (λ (k : ℕ). TooManySteps (pos k)) (one_quarter _ x.0 y.0 x.2.0 y.2.0) ∙ sym y.1
+
+  steps_same : (k n : ℕ) → AreStepsFor a s k × (k ≤ most_fast_steps) → AreStepsFor a s n × (n ≤ most_fast_steps) → k ≡ n
+  steps_same k n h l = one_quarter _ k n h.0 l.0
+
+  fine_clash : (k : ℕ) (exponents : List ℕ) (e : Refusal) (f : ℕ) → IsFastFine (design_of p) a s k exponents e → AreFastBitsOf (design_of p) a s k exponents f → ⊥
+  fine_clash k exponents e f told h = no_choice (run_sums_of (design_of p) (form_of (design_of p)) (unsigned_abs a.r) k s exponents) (design_of p).grid
+      (unsigned_abs a.error_target) f (floor_range p design).0 told.1 h
+
+  pub fast_aim_one : IsOne (HasFastAimCause (design_of p) a s)
+  fast_aim_one = finds_one ℕ (IsFastLong a s) _ _ long_one long_clash steps_same (λ k h.
+      finds_one (List ℕ) Nothing (AreExponentsOf (design_of p) s) (AfterExponents (design_of p) a s k) nothing_one (λ e es told h. told)
+      (one_exponents (design_of p) s) (λ es h. sized_one Error _ _ (finds_one ℕ (IsFastFine (design_of p) a s k es) (AreFastBitsOf (design_of p) a s k es)
+      (AfterFastBits (design_of p) a s k) (λ e other x y. x.0 ∙ sym y.0) (fine_clash k es) (one_choice _ _ _)
+      (λ f h. sized_one Descent _ _ (sized_one Width _ Nothing nothing_one)))))
+
+  pub fast_aim_none : (k : ℕ) (exponents : List ℕ) (f : ℕ) → PassesFastAim (design_of p) a s k exponents f → IsNone (HasFastAimCause (design_of p) a s)
+  fast_aim_none k es f h = finds_none ℕ (IsFastLong a s) _ _ k long_clash steps_same (h.steps, h.few)
+      (finds_none (List ℕ) Nothing (AreExponentsOf (design_of p) s) (AfterExponents (design_of p) a s k) es (λ e xs told g. told) (one_exponents (design_of p) s)
+      h.exponents (sized_none Error _ _ h.error (finds_none ℕ (IsFastFine (design_of p) a s k es) (AreFastBitsOf (design_of p) a s k es)
+      (AfterFastBits (design_of p) a s k) f (fine_clash k es) (one_choice _ _ _) h.choice
+      (sized_none Descent _ _ h.descent (sized_none Width _ Nothing h.width nothing_none)))))
+
+-- ---- a design with a policy and reference plans
+pub one_cause : FastCausesLaw
+one_cause p plans references t e other design policy =
+    let d = design_of p in
+    corners_one p plans (λ m. OfForm d (AfterFastExponent d t plans references m)) design policy (λ m. form_one d (AfterFastExponent d t plans references m)
+    (λ s h. sized_one Excess _ _ (sized_one Multiplier _ _ (fast_aim_one p (aim_at d t plans references m) design s)))) e other
+
+pub no_cause : FastPassingLaw
+no_cause p plans references t m s k es f e design policy h =
+    let d = design_of p in
+    corners_none p plans (λ m. OfForm d (AfterFastExponent d t plans references m)) design policy m h.margin.room h.margin.margin h.margin.slack
+    (form_none d (AfterFastExponent d t plans references m) s h.form h.exponent
+    (sized_none Excess _ _ h.excess (sized_none Multiplier _ _ h.multiplier (fast_aim_none p (aim_at d t plans references m) design s k es f h.aim)))) e

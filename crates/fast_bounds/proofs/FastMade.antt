@@ -1,0 +1,69 @@
+-- What is made for a design with an aim, and why the last tests refuse it.
+use Rattle.std.proofs.Common.{◌≡◌, inl, inr, ℕ, ◌^◌, ◌<◌, ◌≤◌, List, unsigned_abs, arith, refl, ◌∙◌}
+use Rattle.qp_model.specs.form.Class.{form_of, hessian_quantity}
+use Rattle.qp_model.specs.form.Columns.{descent_size}
+use Rattle.qp_model.specs.problem.Design.{Design}
+use Rattle.qp_model.specs.problem.Parts.{IsDesign, design_of}
+use Rattle.qp_model.specs.machine.Controller.{Numbers}
+use Rattle.qp_model.specs.refusal.Refusing.{of_size}
+use Rattle.qp_model.specs.declared.design_parts.DesignParts.{DesignParts}
+use Rattle.qp_model.specs.declared.size_fault.SizeFault.{SizeFault}
+use Rattle.qp_model.specs.declared.size_fault.SizeFault.TheVariants.{Memory as size_memory, TooWide as size_wide}
+use Rattle.qp_model.specs.declared.refusal.Refusal.{Refusal}
+use Rattle.approx_inverse.specs.Fault.{IsFault}
+use Rattle.controller_maker.specs.Fault.{IsWidthFault}
+use Rattle.controller_maker.specs.Widest.{fast_width_size}
+use Rattle.controller_maker.specs.Assembled.{HasFastExponents, IsFastAssembled}
+use Rattle.hessian_check.specs.Steps.{IsExponentOf}
+use Rattle.hessian_check.specs.RowExponents.{AreExponentsOf}
+use Rattle.overflow_check.specs.FastController.{IsFastController}
+use Rattle.design_engine.specs.Tests.{IsRefusedFor}
+use Rattle.design_engine.specs.declared.aimed.Aim.{Aim}
+use Rattle.design_engine.proofs.BuiltFacts.{exponents_listed}
+use Rattle.fast_bounds.specs.FastCertified.{IsFastMadeWith}
+use Rattle.fast_bounds.specs.FastRefusals.{AfterFastBits, HasFastAimCause}
+use Rattle.fast_bounds.specs.FastTerms.{PassesFastBits}
+
+-- ---- the last tests
+module _ (d : Design) (a : Aim) (s k : ℕ) (es : List ℕ) (f : ℕ) (passes : PassesFastBits d a s k es f) where
+  past_bits : (e : Refusal) → AfterFastBits d a s k f e → IsRefusedFor (HasFastAimCause d a s) e
+  past_bits e h = inr (inr (k, (passes.steps, passes.few), inr (es, passes.exponents, inr (passes.error, inr (f, passes.choice, h)))))
+
+  pub solve_refused : (fault : SizeFault) → IsFault fault (2 ^ 126 < descent_size (form_of d) f) → (e : Refusal) → e ≡ of_size fault →
+      IsRefusedFor (HasFastAimCause d a s) e
+  solve_refused size_memory h e j = inl j
+  solve_refused (size_wide quantity) h e j = past_bits e (rw (j, h.0) (inl (refl, h.1)))
+
+  pub width_refused : descent_size (form_of d) f ≤ 2 ^ 126 → (fault : SizeFault) → IsWidthFault fault (2 ^ 126 < fast_width_size d (unsigned_abs a.r) s k f) →
+      (e : Refusal) → e ≡ of_size fault → IsRefusedFor (HasFastAimCause d a s) e
+  width_refused size size_memory h e j = inl j
+  width_refused size (size_wide quantity) h e j = past_bits e (rw (j, h.0) (inr (size, inl (refl, h.1))))
+
+-- ---- the controller
+-- the exponents of a design's rows, as it has them
+pub exponents_held : (d : Design) (s : ℕ) (es : List ℕ) → AreExponentsOf d s es → HasFastExponents d s es
+exponents_held d s es h =
+    let held = exponents_listed d s es h in
+    record { long = held.long; high = held.high; first = λ e. absurd (omega (arith, e)) }
+
+-- what is assembled with the numbers of an aim is made with it
+pub made_from : (p : DesignParts) (a : Aim) (c : Numbers) (s k : ℕ) (es : List ℕ) (f r : ℕ) → IsDesign p → hessian_quantity (design_of p) ≤ 2 ^ 126 →
+    IsExponentOf (design_of p) s → PassesFastBits (design_of p) a s k es f → IsFastController c → r ≡ unsigned_abs a.r → IsFastAssembled (design_of p) r s es k f c →
+    IsFastMadeWith p a c
+made_from p a c s k es f r design narrow exponent passes sound same is = record {
+  design = design;
+  narrow = narrow;
+  controller = sound;
+  made = record {
+    sizes = is.sizes;
+    rows = is.rows;
+    gains = is.gains;
+    exponents = rw (is.exponents, is.step_exponent) passes.curved;
+    clamp = is.clamp ∙ rw (same, is.fraction_bits, is.step_exponent) refl;
+  };
+  exponent = rw is.step_exponent exponent;
+  exponents = rw (is.step_exponent, is.exponents) passes.exponents;
+  steps = rw (is.step_exponent, is.steps) passes.steps;
+  bits = rw (is.fraction_bits, is.steps, is.step_exponent, is.exponents) passes.choice;
+  width = is.width;
+}

@@ -1,0 +1,5 @@
+use Rattle.fast_bounds.proofs.FastCauses.{one_cause, no_cause}
+use Rattle.fast_bounds.proofs.laws.fast_causes_law.Goals as goal
+
+pub returns : goal.returns
+returns c = record { one = one_cause; none = no_cause }
