@@ -1,5 +1,5 @@
 -- The made texts are read as what they are made of.
-use Rattle.std.proofs.Common.{◌≡◌, ℕ, ◌<◌, List, length, sym, ◌∙◌, subst, arith}
+use Rattle.std.proofs.Common.{◌≡◌, ℕ, List, length, refl, sym, ◌∙◌, subst, arith}
 use Rattle.mat_int.specs.Matrix.{Matrix}
 use Rattle.qp_model.specs.problem.Design.{Design}
 use Rattle.qp_model.specs.problem.Policy.{Plans}
@@ -28,8 +28,8 @@ one_of number q plans design policy p other made =
     (same, policy other (along (λ d targets. IsPolicyText (policy_text demo_stages) d other) p q same made.policy))
 
 -- the states that were read of the third
-pub corners_some : (states : Matrix) → corner_matrix ≡ states → 0 < length states.rows
-corners_some states same = subst (λ (m : Matrix). 0 < length m.rows) same (omega arith)
+pub four_corners : (states : Matrix) → corner_matrix ≡ states → length states.rows ≡ 4
+four_corners states same = subst (λ (m : Matrix). length m.rows ≡ 4) same refl
 
 pub corners_inside : (d : Design) (states : Matrix) → corner_matrix ≡ states → AreInBox d corner_matrix → AreInBox d states
 corners_inside d states same inside = subst (λ (m : Matrix). AreInBox d m) same inside

@@ -43,7 +43,7 @@ pub fn demo<O: Sink>(alloc: Global, number: u32, out: &mut O) -> Status
 fn demo_of<O: Sink>(alloc: Global, inputs: &Inputs, out: &mut O) -> Status
     requires sized { IsPolicyFor (design_of inputs.now.design) (plans_of inputs.now.policy) }
     requires states { IsStatesText states_text (design_of inputs.now.design).states inputs.now.states }
-    requires some { 0 < length inputs.now.states.rows }
+    requires four { length inputs.now.states.rows ≡ 4 }
     requires inside { (e : ℕ) → e < length inputs.now.states.rows → IsGridState (design_of inputs.now.design) (at (row_of inputs.now.states e)) }
     ensures called { (number : ℕ) → AreOnlyMade number inputs.now.design (plans_of inputs.now.policy) →
         IsCaused result → IsAnswer (DemoCalls number) result }

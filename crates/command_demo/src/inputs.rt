@@ -40,7 +40,7 @@ pub fn inputs_of(alloc: Global, number: u32) -> Result<Inputs, AllocError>
         → (design_numbers p ≡ design_numbers i.design) × (plans ≡ plans_of i.policy)) }
     ensures sized { IfOk result (λ i. IsPolicyFor (design_of i.design) (plans_of i.policy)) }
     ensures states { IfOk result (λ i. IsStatesText states_text (design_of i.design).states i.states) }
-    ensures some { IfOk result (λ i. 0 < length i.states.rows) }
+    ensures four { IfOk result (λ i. length i.states.rows ≡ 4) }
     ensures inside { IfOk result (λ i. (e : ℕ) → e < length i.states.rows → IsGridState (design_of i.design) (at (row_of i.states e))) }
 {
     made_law();
@@ -59,7 +59,7 @@ fn inputs_with(alloc: Global, texts: &Texts, design: Design) -> Result<Inputs, A
     ensures one { IfOk result (λ i. (plans : Plans) → IsPolicyText texts.now.policy.items (design_of i.design) plans → plans ≡ plans_of i.policy) }
     ensures sized { IfOk result (λ i. IsPolicyFor (design_of i.design) (plans_of i.policy)) }
     ensures states { IfOk result (λ i. IsStatesText texts.now.states.items (design_of i.design).states i.states) }
-    ensures some { IfOk result (λ i. 0 < length i.states.rows) }
+    ensures four { IfOk result (λ i. length i.states.rows ≡ 4) }
     ensures inside { IfOk result (λ i. (e : ℕ) → e < length i.states.rows → IsGridState (design_of i.design) (at (row_of i.states e))) }
 {
     let policy = right_policy(alloc, &texts.policy, &design)?;

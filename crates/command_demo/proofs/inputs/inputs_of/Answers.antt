@@ -42,8 +42,8 @@ returns-clause-sized c = c.inputs_with.ensures.sized
 pub returns-clause-states : goal.returns-clause-states
 returns-clause-states c = rw c.in_ok-texts.ensures.states at c.inputs_with.ensures.states
 
-pub returns-clause-some : goal.returns-clause-some
-returns-clause-some c = c.inputs_with.ensures.some
+pub returns-clause-four : goal.returns-clause-four
+returns-clause-four c = c.inputs_with.ensures.four
 
 pub returns-clause-inside : goal.returns-clause-inside
 returns-clause-inside c = c.inputs_with.ensures.inside

@@ -1,9 +1,9 @@
-use Rattle.std.proofs.Common.{◌≡◌, Result, Ok, Err}
+use Rattle.std.proofs.Common.{Result, Ok, Err}
 use Rattle.std.specs.Prelude.{IfOk}
 use Rattle.qp_model.specs.problem.Parts.{design_of}
 use Rattle.policy_file.specs.StatesText.{IsStatesText}
 use Rattle.design_maker.specs.MadeParts.{coasting_plans, corner_matrix}
-use Rattle.command_demo.proofs.Reading.{corners_some, corners_inside}
+use Rattle.command_demo.proofs.Reading.{four_corners, corners_inside}
 use Rattle.command_demo.proofs.inputs.inputs_with.Goals as goal
 
 -- what three facts of the value give
@@ -40,11 +40,11 @@ returns-clause-states c =
     parts c.inputs_from.result c.inputs_from.ensures.design c.inputs_from.ensures.policy c.inputs_from.ensures.states
     (λ i design policy states. rw design (rw (c.deref-2.ensures.value, c.parts.ensures.value) at (rw states at c.right_states-states.ensures.text)))
 
-pub returns-clause-some : goal.returns-clause-some
-returns-clause-some c =
+pub returns-clause-four : goal.returns-clause-four
+returns-clause-four c =
     let text : IsStatesText c.deref-2.result.now c.parts.result.now.states corner_matrix = rw (c.deref-2.ensures.value, c.parts.ensures.value) c.requires.right.states in
     parts c.inputs_from.result c.inputs_from.ensures.design c.inputs_from.ensures.policy c.inputs_from.ensures.states
-    (λ i design policy states. corners_some i.states ((rw states at c.right_states-states.ensures.one) corner_matrix text))
+    (λ i design policy states. four_corners i.states ((rw states at c.right_states-states.ensures.one) corner_matrix text))
 
 pub returns-clause-inside : goal.returns-clause-inside
 returns-clause-inside c =
