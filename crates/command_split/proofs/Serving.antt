@@ -86,7 +86,7 @@ some_bound [] some = absurd (omega (arith, some))
 some_bound (b ∷ bounds) some = b
 
 -- the cell of a controller, from 0, and its plans
-record IsOfCell (policies : List (Option Plans)) (n i : ℕ) : Type 0 where
+pub record IsOfCell (policies : List (Option Plans)) (n i : ℕ) : Type 0 where
   pub cell : ℕ
   pub inside : cell < n
   pub plans : Plans
@@ -94,7 +94,7 @@ record IsOfCell (policies : List (Option Plans)) (n i : ℕ) : Type 0 where
   pub place : i ≡ covered policies cell
 
 -- each controller is that of a cell
-cell_of_controller : (policies : List (Option Plans)) (n i : ℕ) → i < covered policies n → IsOfCell policies n i
+pub cell_of_controller : (policies : List (Option Plans)) (n i : ℕ) → i < covered policies n → IsOfCell policies n i
 cell_of_controller policies zero i lt = absurd (omega (arith, lt, none_covered policies))
 cell_of_controller policies (suc n) i lt = elim (cases_lt i (covered policies n)) [
   | inl l ↦ (let c = cell_of_controller policies n i l in record { cell = c.cell; inside = omega (arith, c.inside); plans = c.plans; own = c.own; place = c.place })
