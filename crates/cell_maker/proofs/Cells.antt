@@ -103,7 +103,7 @@ module _ (p : DesignParts) (cuts : List (List ℤ)) (policies : List (Option Pla
       let below : covered policies i < covered policies n = covered_below policies i n plans lt (sym own) in
       let c = some_of controllers (omega (arith, below, so_far.count)) in
       let b = some_of bounds (omega (arith, below, so_far.bound_count)) in
-      record { controller = get_or controllers (covered policies i) c; bounds = get_or bounds (covered policies i) b; made = rw (← own) at (so_far.each i c b lt) }
+      record { controller = get_or controllers (covered policies i) c; bounds = get_or bounds (covered policies i) b; made = subst (λ (x : Option Plans). IfSome x (λ q. IsCellMade p cuts (i + 1) q (get_or controllers (covered policies i) c) (get_or bounds (covered policies i) b))) (sym own) (so_far.each i c b lt) }
 
   pub made_at : (k : ℕ) → 1 ≤ k → k ≤ n → IfSome (cell_plans policies k) (IsMadeAt p cuts k)
   made_at k some lt = subst (λ (i : ℕ). IfSome (cell_plans policies i) (IsMadeAt p cuts i)) (forth k some) (made_here (k - 1) (omega (arith, some, lt)) (cell_plans policies (k - 1 + 1)) refl)
