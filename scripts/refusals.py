@@ -41,8 +41,8 @@ TEXTS = {
     "count": "{file} has {entries} records, and the design has {wanted} corners: one plan for each, in the order low low, high low, low high, high high.",
     "count-faces": "{file} has {entries} records, and the box has {wanted} faces: for each coordinate the upper one, then the lower.",
     "count-cuts": "{file} has {entries} records, and the design has {wanted} states: one record for each, how many cuts it has and the cuts.",
-    "count-policies": "{file} has {entries} records, and {wanted} are needed: a plan for each corner of each cell, the policy of a cell after that of the one before, or the one record `none`.",
-    "no-policies": "{file} has `none` for every cell, so that there is no controller.",
+    "count-policies": "{file} has {entries} records, and {wanted} are needed: a plan for each corner of each cell, the policy of a cell after that of the one before, or `none`.",
+    "no-policies": "{file} has `none` for every cell.",
     "range-certificate": "Record {entry} of {file} can't stand there: it needs {wanted}.",
     "count-certificate": "{file} has {entries} records, and needs 3.",
     "cells": "The cuts of {file} make {cells} cells, and at most 64 are served.",
@@ -809,7 +809,7 @@ What a line's numbers say is the first of its kind:
 - 5, of a design: `not-toml` (also bytes that aren't UTF-8, a key given twice, an integer beyond 64 bits, a float too large); the first missing key, by its place in [FORMATS.md](FORMATS.md#design); 0, a key too much; then place by place
   shape and range, at 15 also that no row stands at 14 or 15, at 18 that a `hi` is below its `lo`.
 - 5, of records: record by record `fields`, then the first `number` that can't stand there; at last `count`. Of cuts the number of cuts comes first, then `fields`, then the cuts; `count` where the first n are right and there aren't n;
-  `range 0` is last. Of policies it is told where each cell has `none`. Of a certificate `range` is the first record whose turns or box can't stand there.
+  `range 0` is last; of policies where all are `none`. Of a certificate `range` is the first record whose turns or box can't stand there.
 - 6: the first corner, and in it the first row, with its slack. In intervals it is the one that is shown.
 - 8: how many steps would be needed. 9: what the errors cost over 2^40 with 48 bits.
 - 11, 20: the first line with which, after those before it, no such text begins; in cells also a later cell's `size`, `bits` or version that can't stand with the first's. `unsafe` is told of texts in form alone.

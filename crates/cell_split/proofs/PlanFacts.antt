@@ -1,5 +1,5 @@
 -- The plans of a part of a text's records, one by one.
-use Rattle.std.proofs.Common.{◌≡◌, ◌⊎◌, inl, inr, ℕ, ◌+◌, ◌-◌, ◌<◌, ◌≤◌, ◌^◌, ℤ, pos, List, [], ◌∷◌, ◌++◌, length, map, get_or, drop, refl, sym, ap, subst, ◌∙◌, arith}
+use Rattle.std.proofs.Common.{◌≡◌, ◌⊎◌, inl, inr, ℕ, ◌+◌, ◌-◌, ◌<◌, ◌≤◌, ◌^◌, ℤ, pos, List, [], ◌∷◌, ◌++◌, length, map, get_or, drop, refl, ap, subst, arith}
 use Rattle.std.proofs.lemmas.List.{get_or_append_left, get_or_push, get_or_default}
 use Rattle.integer_algebra.specs.Sums.{at}
 use Rattle.csv.specs.Records.{Row, fields_of}
@@ -10,7 +10,7 @@ use Rattle.qp_model.specs.problem.Design.{Design, entries}
 use Rattle.qp_model.specs.problem.Policy.{Plans}
 use Rattle.policy_file.specs.Records.{HoldsNumbers, IsRecordFault, record_at, records_of, field_room}
 use Rattle.policy_file.specs.PolicyText.{policy_rule, record_length}
-use Rattle.policy_file.proofs.RecordFacts.{records_few, records_room}
+use Rattle.policy_file.proofs.RecordFacts.{records_few}
 use Rattle.policy_file.proofs.TextFacts.{records_count, room_small}
 use Rattle.policy_file.proofs.MatrixFacts.{Filled, row_pushed}
 use Rattle.cell_split.specs.PoliciesText.{HoldPlans}

@@ -274,15 +274,15 @@ module _ (rows : List (List (List ℕ))) (d : Design) where
         by : IsCellFault rows d (cell_start rows d k) fault → IsPlanFault rows d cells fault ⊎ IsSpanFault rows d cells fault
         by f = elim f.why [
           | inl wrong ↦ inl (record {
-              index = wrong.index;
-              inside = wrong.inside;
-              before = λ e lt. elim (cases_lt e (cell_start rows d k)) [ inl l ↦ before e l | inr l ↦ inr (wrong.before e l lt) ];
-              plan = inside_plain cells k wrong.index f.plain wrong.low wrong.high;
-              here = wrong.here;
-            })
+            index = wrong.index;
+            inside = wrong.inside;
+            before = λ e lt. elim (cases_lt e (cell_start rows d k)) [ inl l ↦ before e l | inr l ↦ inr (wrong.before e l lt) ];
+            plan = inside_plain cells k wrong.index f.plain wrong.low wrong.high;
+            here = wrong.here;
+          })
           | inr short ↦
-            left_fault k (cell_start rows d k) fault before (λ i low high. inside_plain cells k i f.plain low (omega (arith, high, short.1)))
-            (λ q. omega (arith, q, short.1, plain_more k f.plain, start_le (k + 1) cells (omega (arith, inside)))) short.0
+              left_fault k (cell_start rows d k) fault before (λ i low high. inside_plain cells k i f.plain low (omega (arith, high, short.1)))
+              (λ q. omega (arith, q, short.1, plain_more k f.plain, start_le (k + 1) cells (omega (arith, inside)))) short.0
         ]
 
     -- those of records behind the last cell

@@ -59,7 +59,13 @@ fn plans_from(
     let mut plans = Mat::zero(alloc, 0, entries)?;
     for e in 0..number {
         let i = start + e;
-        let numbers = numbers_of(alloc, &records[i], Layout::Policy, entries + 1, i as u32 + 1)?;
+        let numbers = numbers_of(
+            alloc,
+            &records[i],
+            Layout::Policy,
+            entries + 1,
+            i as u32 + 1,
+        )?;
         if dens.push(numbers[0]).is_err() {
             return Err(TextFault::Memory);
         }

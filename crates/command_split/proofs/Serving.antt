@@ -126,15 +126,15 @@ module _ (p : DesignParts) (cuts : List (List ℤ)) (policies : List (Option Pla
       let other = made_of i c (its_cell i lt) in
       alike_of p _ _ (own_sizes p cuts _ _ _ _ first.1) (own_sizes p cuts _ _ _ _ other.1)
 
-  boxed : {Box : ℕ → Numbers → Type 0} → ((k : ℕ) (c : Numbers) (plans : Plans) (b : Printed) → IsCellMade p cuts k plans c b → Box k c) →
+  boxed : (Box : ℕ → Numbers → Type 0) → ((k : ℕ) (c : Numbers) (plans : Plans) (b : Printed) → IsCellMade p cuts k plans c b → Box k c) →
       (k : ℕ) (c : Numbers) → k < cell_count cuts → (o : Option Plans) → cell_plans policies (k + 1) ≡ o → IfSome o (λ _. Box (k + 1) (get_or cells (covered policies k) c))
-  boxed box k c lt None own = tt
-  boxed box k c lt (Some plans) own = let m = own_made k c plans lt own in box (k + 1) (get_or cells (covered policies k) c) plans m.0 m.1
+  boxed Box box k c lt None own = tt
+  boxed Box box k c lt (Some plans) own = let m = own_made k c plans lt own in box (k + 1) (get_or cells (covered policies k) c) plans m.0 m.1
 
   pub boxes : HaveCellBoxes p cuts policies cells
   boxes = record {
-    low = λ k c lt. boxed {λ j x. Holds x.low p.states (cell_low (at p.lo.items) cuts j)} (λ j x plans b m. own_low p cuts j plans x b m) k c lt (cell_plans policies (k + 1)) refl;
-    high = λ k c lt. boxed {λ j x. Holds x.high p.states (cell_high (at p.hi.items) cuts j)} (λ j x plans b m. own_high p cuts j plans x b m) k c lt (cell_plans policies (k + 1)) refl;
+    low = λ k c lt. boxed (λ j x. Holds x.low p.states (cell_low (at p.lo.items) cuts j)) (λ j x plans b m. own_low p cuts j plans x b m) k c lt (cell_plans policies (k + 1)) refl;
+    high = λ k c lt. boxed (λ j x. Holds x.high p.states (cell_high (at p.hi.items) cuts j)) (λ j x plans b m. own_high p cuts j plans x b m) k c lt (cell_plans policies (k + 1)) refl;
   }
 
   module _ (design : IsDesign p) (cut : AreCutsFor (design_of p) cuts) where

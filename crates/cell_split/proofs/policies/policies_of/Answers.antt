@@ -1,11 +1,10 @@
-use Rattle.std.proofs.Common.{◌≡◌, ◌≤◌, ◌<◌, false, length, map, refl, inl, sym, ◌∙◌, arith}
+use Rattle.std.proofs.Common.{map, arith}
 use Rattle.std.proofs.lemmas.List.{length-map}
 use Rattle.csv.specs.Records.{fields_of}
-use Rattle.number_text.specs.declared.text_fault.TextFault.TheVariants.{Memory}
 use Rattle.qp_model.specs.problem.Parts.{design_of}
 use Rattle.policy_file.proofs.TextFacts.{passed_on}
 use Rattle.cell_split.proofs.PlanFacts.{readable}
-use Rattle.cell_split.proofs.PolicyFacts.{cells_told, left_told, some_policies, bare_policies}
+use Rattle.cell_split.proofs.PolicyFacts.{cells_told, left_told}
 use Rattle.cell_split.proofs.policies.policies_of.Goals as goal
 
 pub cells_in-requires-clause-readable : goal.cells_in-requires-clause-readable

@@ -1,7 +1,7 @@
-use Rattle.std.proofs.Common.{◌≡◌, true, map, refl, sym, ◌∙◌}
+use Rattle.std.proofs.Common.{map, sym, ◌∙◌}
 use Rattle.csv.specs.Records.{fields_of}
 use Rattle.qp_model.specs.problem.Parts.{design_of}
-use Rattle.cell_split.proofs.PolicyFacts.{none_at, some_at, short_cell, wrong_cell}
+use Rattle.cell_split.proofs.PolicyFacts.{none_at}
 use Rattle.cell_split.proofs.read_cells.cell_from.Goals as goal
 
 pub returns-then-is_none_at-clause-found : goal.returns-then-is_none_at-clause-found

@@ -1,5 +1,4 @@
-use Rattle.std.proofs.Common.{◌≡◌, length, Some, ◌∙◌, refl, ap, arith}
-use Rattle.std.specs.Str.{bytes_eq}
+use Rattle.std.proofs.Common.{◌≡◌, length, Some, ◌∙◌, arith}
 use Rattle.csv.specs.Records.{fields_of}
 use Rattle.policy_file.specs.Records.{field_of}
 use Rattle.policy_file.proofs.PlaceFacts.{field_is}
