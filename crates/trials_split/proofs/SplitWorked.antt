@@ -20,6 +20,9 @@ cells_in_the_fourth files new it = it.cells_file
 reports_in_the_fifth : (files new : Files) (it : IsSplitWritten named files new) → new (5 ∷ []) ≡ Some (report_texts it.bounds)
 reports_in_the_fifth files new it = it.report_file
 
+word : none_record ≡ codes "none" ∷ []
+word = refl
+
 -- ---- a file of policies whose first cell has no controller: it takes one record, and the next as many as a box has corners
 plan : List (List ℕ)
 plan = codes "1" ∷ codes "0" ∷ []
