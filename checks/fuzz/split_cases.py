@@ -151,12 +151,17 @@ def of_plan(den: int, plan: list[Fraction]) -> tuple[int, list[int]]:
     return den, [min(MOST_NUMERATOR, max(-MOST_NUMERATOR, round(den * v))) for v in plan]
 
 
-def policies(pick: random.Random, d: Design, plans: list[tuple[int, list[int]]], boxes: list[Design]) -> list[list[int] | None]:
-    """A record for each corner of each cell, or the one of a cell without a controller."""
-    bare = pick.choice([0, 0, 0, 0.2, 0.5, 1])
+def policies(d: Design, plans: list[tuple[int, list[int]]], boxes: list[Design]) -> list[list[int]]:
+    """A record for each corner of each cell."""
+    return [[den, *plan] for box in boxes for den, plan in (between(d, plans, state) for state in at_corners.states(box))]
+
+
+def some_left_out(pick: random.Random, rows: list[list[int]], corners: int) -> list[list[int] | None]:
+    """The same, with one record for each cell without a controller."""
+    share = pick.choice([0, 0, 0, 0.2, 0.5, 1])
     found: list[list[int] | None] = []
-    for box in boxes:
-        found += [None] if pick.random() < bare else [[den, *plan] for den, plan in (between(d, plans, state) for state in at_corners.states(box))]
+    for start in range(0, len(rows), corners):
+        found += [None] if pick.random() < share else rows[start : start + corners]
     return found
 
 
@@ -193,7 +198,7 @@ def split_texts(pick: random.Random, base: list[tuple[bytes, bytes]]) -> tuple[b
     cuts = many_cuts(pick, d.lo, d.hi) if cheap and pick.random() < 0.16 else few_cuts(pick, d.lo, d.hi, pick.choice([2, 3, 4, 6, 9, 12 if cheap else 6]))
     count, how = split_boxes.cell_count(cuts), pick.random()
     # (where they are too many, no policy is read)
-    rows = policies(pick, d, plans, split_boxes.cells_of(d, cuts) if count <= split_boxes.MOST_CELLS else [d])
+    rows = some_left_out(pick, policies(d, plans, split_boxes.cells_of(d, cuts) if count <= split_boxes.MOST_CELLS else [d]), 2**d.states)
     design, policy = text_of_design(d), policies_text(rows)
     if how < 0.5:
         return design, cuts_text(pick, rows_of(cuts)), policy
