@@ -134,6 +134,13 @@ def many_rows() -> Iterator[tuple[str, Row]]:
     yield "split: one record for two coordinates", refused(SPLIT, {**both(1, 1, 1), "l": "0\n"}, 5, "text 2 count 1")
     yield "split: a bad second record", refused(SPLIT, {**both(1, 1, 1), "l": "0\n1,70\n"}, 5, "text 2 number 2 2")
     yield "split: a bad first record before the count", refused(SPLIT, {**both(1, 1, 1), "l": "1,70\n"}, 5, "text 2 number 1 2")
+    # a box in two by two cells, one of them without a controller: its states alone are refused
+    row = boxes(modelled({**both(1, 1, 4), "p": "1,0\n" * 4 + "none\n" + "1,0\n" * 8}), ("0 0", "0 0"), ("0 1", "0 70"), ("1 1", "70 70"))
+    yield "split: two by two cells, one without a controller", row
+    held = {"c": row[5]["c"], "s": "0,0\n0,5\n7,9\n"}
+    said = program.answer(SERVE, lambda name: held[name].encode(), lambda name: True, model.exact_gains)
+    yield "serve: states of the three others", put(SERVE, held, b"".join(said.out).decode())
+    yield "serve: a state of the one without", refused(SERVE, {**held, "s": "0,0\n0,5\n7,9\n7,0\n"}, 12, "outside-box 4 0 1")
     # the first coordinate runs fastest
     found = [(f"{x} {y}", f"{u} {v}") for y, v in ((0, 4), (5, 70)) for x, u in ((0, 1), (2, 8), (9, 70))]
     yield "split: the order of cells", boxes(modelled({**both(1, 1, 6), "l": "2,1,8\n1,4\n"}), *found)

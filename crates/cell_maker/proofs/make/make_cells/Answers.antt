@@ -1,9 +1,8 @@
-use Rattle.std.proofs.Common.{◌≡◌, ◌+◌, ◌<◌, List, length, map, true, Option, Some, None, ap, refl, rules, arith}
+use Rattle.std.proofs.Common.{◌≡◌, ◌+◌, ◌<◌, List, length, map, true, Some, None, ap, refl, rules, arith}
 use Rattle.std.specs.Option.{option_map}
 use Rattle.std.specs.Result.{is_ok}
 use Rattle.qp_model.specs.bounds.Printed.{printed}
 use Rattle.qp_model.specs.declared.bounds.Bounds.{Bounds}
-use Rattle.qp_model.specs.declared.policy.Policy.{Policy}
 use Rattle.qp_model.specs.machine.Controller.{Numbers}
 use Rattle.qp_model.specs.problem.Policy.{plans_of}
 use Rattle.cell_split.specs.Cells.{IsCell}
