@@ -176,7 +176,7 @@ class Example(unittest.TestCase):
         return said
 
     def test_a_cell_that_is_left_out(self):
-        """From 1 no plan keeps the limits where no input moves the state: this cell gets `none`, if that is asked for."""
+        """Beyond 1 no input keeps the limits: this cell gets `none`, if that is asked for."""
         beyond = FIRST.replace("hi = [1]", "hi = [9]")
         folder, paths = folder_with(self, design=beyond, cuts="1,0\n")
         out = [os.path.join(folder, name) for name in ("made", "policies")]

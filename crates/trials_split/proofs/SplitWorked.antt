@@ -1,10 +1,10 @@
 -- What `split` leaves, said of files with the names 1 to 5.
-use Rattle.std.proofs.Common.{◌≡◌, ℕ, ◌+◌, ◌^◌, ◌≤◌, List, [], ◌∷◌, length, Option, Some, None, refl}
+use Rattle.std.proofs.Common.{◌≡◌, ℕ, zero, suc, ◌+◌, ◌*◌, ◌^◌, ◌≤◌, Bool, false, if◌then◌else◌, List, [], ◌∷◌, length, get_or, Option, Some, None, refl, ap, arith}
 use Rattle.std.specs.Prelude.{codes}
 use Rattle.io_edge.specs.Faults.{Files}
 use Rattle.qp_model.specs.problem.Design.{Design}
 use Rattle.qp_model.specs.problem.Policy.{Plans}
-use Rattle.command_split.specs.Splitting.PoliciesText.{none_record, cell_start, covered, HoldCell}
+use Rattle.command_split.specs.Splitting.PoliciesText.{none_record, says_none, cell_start, covered, HoldCell}
 use Rattle.command_split.specs.Split.{IsSplitWritten, report_texts}
 
 abbrev named : List (List ℕ)
@@ -46,3 +46,11 @@ one_covered plans = refl
 none_before : (plans : Plans) → covered (None ∷ Some plans ∷ []) 1 ≡ 0
 unfolding covered
 none_before plans = refl
+
+-- a file in which no record says `none` has the policy of each cell where it had it before there was such a record
+plain_starts : (rows : List (List (List ℕ))) (d : Design) → ((e : ℕ) → says_none (get_or rows e []) ≡ false) → (k : ℕ) → cell_start rows d k ≡ k * 2 ^ d.states
+unfolding cell_start
+plain_starts rows d plain zero = omega arith
+plain_starts rows d plain (suc k) =
+    let more : cell_start rows d (suc k) ≡ cell_start rows d k + 2 ^ d.states = ap (λ (b : Bool). cell_start rows d k + (if b then 1 else 2 ^ d.states)) (plain (cell_start rows d k)) in
+    omega (arith, more, plain_starts rows d plain k)
