@@ -158,7 +158,7 @@ def policies(d: Design, plans: list[tuple[int, list[int]]], boxes: list[Design])
 
 def some_left_out(pick: random.Random, rows: list[list[int]], corners: int) -> list[list[int] | None]:
     """The same, with one record for each cell without a controller."""
-    share = pick.choice([0, 0, 0, 0.2, 0.5, 1])
+    share = pick.choice([0, 0, 0, 0.2, 0.4, 0.7])
     found: list[list[int] | None] = []
     for start in range(0, len(rows), corners):
         found += [None] if pick.random() < share else rows[start : start + corners]
