@@ -1,5 +1,5 @@
 -- Which bytes are the text of what, of all files but designs and policies, and with which status others are refused.
-use Rattle.std.specs.Prelude.{◌≡◌, ℕ, ℤ, List}
+use Rattle.std.specs.Prelude.{◌≡◌, ℕ, ℤ, List, Option}
 use Rattle.mat_int.specs.Matrix.{Matrix}
 use Rattle.qp_model.specs.problem.Design.{Design}
 use Rattle.qp_model.specs.problem.Policy.{Plans}
@@ -66,8 +66,8 @@ CutsRight d cuts bytes = IsCutsText bytes d cuts
 abbrev pub CutsWrong : Design → ℕ → List ℕ → Status → Type 0
 CutsWrong d file bytes s = (fault : TextFault) × IsCutsTextFault bytes d fault × TellsFault file fault s
 
--- ---- the policies of so many cells of a design's box
-abbrev pub CellPoliciesRight : Design → (cells : ℕ) → List Plans → List ℕ → Type 0
+-- ---- the policies of so many cells of a design's box, of some of them
+abbrev pub CellPoliciesRight : Design → (cells : ℕ) → List (Option Plans) → List ℕ → Type 0
 CellPoliciesRight d cells policies bytes = ArePolicies bytes d cells policies
 
 abbrev pub CellPoliciesWrong : Design → (cells file : ℕ) → List ℕ → Status → Type 0

@@ -1,8 +1,10 @@
 // A file of the policies of cells.
-ghost use Rattle.std.specs.Prelude.{◌≡◌, ◌≤◌, length, map, All, IfOk, IfErr};
+ghost use Rattle.std.specs.Prelude.{◌≡◌, ◌≤◌, length, map, All, IfOk, IfErr, IfSome};
+ghost use Rattle.std.specs.Option.{option_map};
 ghost use Rattle.io_edge.specs.Faults.{NoneFalls};
 ghost use Rattle.qp_model.specs.problem.Parts.{design_of};
 ghost use Rattle.qp_model.specs.problem.Policy.{plans_of, IsPolicyFor};
+ghost use Rattle.cell_split.specs.PoliciesText.{covered};
 ghost use Rattle.command_line.specs.Kind.{IsRead, EndsRead};
 ghost use Rattle.command_files.specs.Reading.{cell_policies_kind};
 
@@ -13,7 +15,8 @@ use io_edge::Store;
 use qp_model::{Design, Policy};
 use std::alloc::Global;
 
-/// The policies of that many cells of a design's box under the name at a position among the arguments, or the status that ends the run.
+/// The policies of that many cells of a design's box, none for a cell without a controller, under the name at a position among the arguments, or the status
+/// that ends the run.
 pub fn read_cell_policies_file<S: Store>(
     alloc: Global,
     file: u32,
@@ -21,11 +24,12 @@ pub fn read_cell_policies_file<S: Store>(
     design: &Design,
     cells: u32,
     store: &mut S,
-) -> Result<Vec<Policy>, Status>
+) -> Result<Vec<Option<Policy>>, Status>
     requires { cells ≤ 64 }
-    ensures right { IfOk result (λ v. IsRead (cell_policies_kind (design_of design.now) cells) file (S.held store.old) name.now (map plans_of v.items)) }
+    ensures right { IfOk result (λ v. IsRead (cell_policies_kind (design_of design.now) cells) file (S.held store.old) name.now (map (option_map plans_of) v.items)) }
     ensures count { IfOk result (λ v. length v.items ≡ cells) }
-    ensures sized { IfOk result (λ v. All (λ p. IsPolicyFor (design_of design.now) (plans_of p)) v.items) }
+    ensures sized { IfOk result (λ v. All (λ o. IfSome o (λ p. IsPolicyFor (design_of design.now) (plans_of p))) v.items) }
+    ensures some { IfOk result (λ v. 1 ≤ covered (map (option_map plans_of) v.items) cells) }
     ensures ends { IfErr result (EndsRead (cell_policies_kind (design_of design.now) cells) file (S.held store.old) name.now
         (S.read_faults store.old name.now) (S.read_faults store.new name.now)) }
     ensures held { S.held store.new ≡ S.held store.old }

@@ -32,7 +32,7 @@ use Rattle.command_split.proofs.Serving.{boxes, splits, each_served}
 use Rattle.qp_model.specs.problem.Policy.{Plans}
 
 -- ---- its script
-telling : (p : DesignParts) (cuts : List (List ℤ)) (policies : List Plans) (s : Status) → CellsCall p cuts policies s → IsTelling s
+telling : (p : DesignParts) (cuts : List (List ℤ)) (policies : List (Option Plans)) (s : Status) → CellsCall p cuts policies s → IsTelling s
 telling p cuts policies s (inl why) = (cell_refusal why.refusal.cell why.refusal.refusal s why.is).telling
 telling p cuts policies s (inr done) = done_telling s done.0
 

@@ -1,4 +1,5 @@
 use Rattle.std.proofs.Common.{Err, map, sym, ap, ◌∙◌}
+use Rattle.std.specs.Option.{option_map}
 use Rattle.std.proofs.lemmas.List.{length-map}
 use Rattle.qp_model.specs.problem.Parts.{design_of}
 use Rattle.qp_model.specs.problem.Policy.{plans_of}
@@ -24,7 +25,7 @@ returns-in-Ok-clause-right g c =
     let d = design_of c.args.design.now in
     right_text file_limit c.args.file (λ bytes fault. IsPoliciesFault bytes d c.args.cells fault) no_room (Text c.args.file) (SaysText c.args.file) (text_said c.args.file) (CellPoliciesRight d c.args.cells)
     (g.S.Store.held c.args.store.now) c.args.name.now c.in_ok-bytes.bytes.items c.in_ok-bytes.ensures.told c.in_ok-bytes.ensures.short
-    (λ x. x) (map plans_of c.in-Ok.policies.items) (rw c.deref.ensures.value at c.in-Ok.ensures.found)
+    (λ x. x) (map (option_map plans_of) c.in-Ok.policies.items) (rw c.deref.ensures.value at c.in-Ok.ensures.found)
     (λ y right. sym (rw c.deref.ensures.value at c.in-Ok.ensures.right y right))
     (λ fault is. rw c.deref.ensures.value at c.in-Ok.ensures.first fault is)
 
@@ -38,4 +39,7 @@ returns-clause-ends g c =
     (λ x right. rw c.deref.ensures.value at c.in-Err.ensures.right x right)
 
 pub returns-in-Ok-clause-count : goal.returns-in-Ok-clause-count
-returns-in-Ok-clause-count g c = sym (length-map c.in-Ok.policies.items plans_of) ∙ (rw c.deref.ensures.value at c.in-Ok.ensures.found).count
+returns-in-Ok-clause-count g c = sym (length-map c.in-Ok.policies.items (option_map plans_of)) ∙ (rw c.deref.ensures.value at c.in-Ok.ensures.found).hold.count
+
+pub returns-in-Ok-clause-some : goal.returns-in-Ok-clause-some
+returns-in-Ok-clause-some g c = (rw c.deref.ensures.value at c.in-Ok.ensures.found).some
