@@ -8,6 +8,7 @@ use Rattle.qp_model.specs.bounds.Printed.{Printed}
 use Rattle.qp_model.specs.text.ControllerText.{IsControllerText}
 use Rattle.design_engine.specs.Targets.{targets_of}
 use Rattle.design_engine.specs.Refusals.{HasCause, PassesAll}
+use Rattle.design_engine.proofs.CauseLaws.{memory_apart}
 use Rattle.controller_text.proofs.Lengths.{text_length_law}
 use Rattle.command_line.specs.Words.{word_of}
 use Rattle.command_line.specs.Limit.{file_limit}
@@ -33,7 +34,7 @@ generate_sound = record {
     design_refused 1,
     λ p q same contents s.
         along (λ d t. calls_of (reads 2 (policy_kind d) (λ plans. ends (writing_act (CallsFor (HasCause d t plans) (PassesAll d t plans)) ⊥ (λ words u old new. ⊥)))) contents s) p q same,
-    λ p. (omega arith, policy_refused (design_of p) 2, whole (λ plans. ends (generate_act p plans)), λ plans. making_telling (HasCause (design_of p) (targets_of p) plans) _ (λ never. never)),
+    λ p. (omega arith, policy_refused (design_of p) 2, whole (λ plans. ends (generate_act p plans)), λ plans. making_telling (HasCause (design_of p) (targets_of p) plans) _ (memory_apart (design_of p) (targets_of p) plans)),
   );
   first = inl refl;
 }

@@ -17,7 +17,9 @@ use Rattle.command_line.proofs.TwoTexts.{unmade_memory, unmade}
 use Rattle.command_line.specs.declared.status.Status.{Status}
 use Rattle.command_line.specs.declared.status.Status.TheVariants.{Done, Memory}
 use Rattle.command_generate.specs.Made.{IsRefusedFor}
+use Rattle.command_generate.proofs.Engine.CauseLaws.{memory_apart}
 use Rattle.command_generate.proofs.Making.{refused_for, making_telling}
+use Rattle.lean_engine.proofs.CauseLaws as lean
 use Rattle.command_make.specs.Made.{CauseOf, PassesOf, MakingCallsWith}
 use Rattle.command_make.specs.Excess.{AreStatedExcesses}
 use Rattle.command_make.specs.Stay.{stay_status, FacesCall}
@@ -53,8 +55,8 @@ module _ (d : Design) (t : Targets) (plans : Plans) (reference : Option Plans) w
   no_memory = go reference
     where
       go : (other : Option Plans) → CauseOf d t plans other refusals.Memory → ⊥
-      go None never = never
-      go (Some references) never = never
+      go None = memory_apart d t plans
+      go (Some references) = lean.memory_apart d t plans references
 
   refusal : (s : Status) → IsRefusedFor (CauseOf d t plans reference) s → IsRefusal s
   refusal = refused_for (CauseOf d t plans reference) (PassesOf d t plans reference) no_memory
