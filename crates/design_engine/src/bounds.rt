@@ -53,12 +53,7 @@ fn row_bound(run: Run, own: u32) -> i128
 }
 
 // By how much rows are exceeded at most, over `2^40`, whose step exponents are these and `more`.
-fn violations_by(
-    alloc: Global,
-    exps: &[u32],
-    more: u32,
-    run: Run,
-) -> Result<Vec<i128>, AllocError>
+fn violations_by(alloc: Global, exps: &[u32], more: u32, run: Run) -> Result<Vec<i128>, AllocError>
     requires run { IsRunWithin run }
     requires rows { (i : ℕ) → i < length exps.now → exponent_in exps.now i + more ≤ run.s }
     ensures { IfOk result (λ out. Holds out.items (length exps.now)
@@ -108,11 +103,7 @@ pub fn fast_violation(run: Run) -> i128
 }
 
 /// By how much rows with these step exponents are exceeded at most after a run of the accelerated machine, over `2^40`.
-pub fn fast_violations_after(
-    alloc: Global,
-    exps: &[u32],
-    run: Run,
-) -> Result<Vec<i128>, AllocError>
+pub fn fast_violations_after(alloc: Global, exps: &[u32], run: Run) -> Result<Vec<i128>, AllocError>
     requires run { IsFastRunWithin run }
     requires rows { (i : ℕ) → i < length exps.now → exponent_in exps.now i ≤ run.s }
     ensures { IfOk result (λ out. Holds out.items (length exps.now) (λ i. pos (fast_row_bound run (exponent_in exps.now i)))) }
