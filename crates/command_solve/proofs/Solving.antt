@@ -8,7 +8,8 @@ use Rattle.fixed_kernel.proofs.OneOutside.{one_outside_law}
 use Rattle.command_line.specs.Script.{ends}
 use Rattle.command_line.proofs.Gathering.{whole}
 use Rattle.command_line.proofs.Following.{IsSoundWork}
-use Rattle.command_files.proofs.Stopping.{controller_refused, states_refused}
+use Rattle.command_design_files.proofs.Stopping.{text_refused}
+use Rattle.command_files.proofs.Stopping.{controllers_refused}
 use Rattle.plan_lines.proofs.Acting.{IsJudged, lines_telling}
 use Rattle.command_solve.specs.Solve.{solve_act, solve_states}
 use Rattle.command_solve.specs.Deeds.{solve_work}
@@ -21,6 +22,6 @@ judged c m = record {
 
 pub solve_sound : IsSoundWork solve_work
 solve_sound = record {
-  sound = (omega arith, controller_refused 1, whole solve_states, λ c. (omega arith, states_refused c.states 2, whole (λ m. ends (solve_act c m)), λ m. lines_telling));
+  sound = (omega arith, controllers_refused 1, whole solve_states, λ c. (omega arith, text_refused 2, whole (λ m. ends (solve_act c m)), λ m. lines_telling));
   first = inl refl;
 }

@@ -17,7 +17,7 @@ use Rattle.cell_maker.proofs.Cells.{made_at}
 use Rattle.command_generate.proofs.Passing.{built_passes}
 use Rattle.command_line.specs.Answers.{IsAnswer}
 use Rattle.command_line.specs.TwoTexts.{IsUnmade}
-use Rattle.command_line.proofs.Doing.{IsRefusal}
+use Rattle.command_line.proofs.Doing.{IsRefusal, sort_of, plain_refusal}
 use Rattle.command_line.proofs.TwoTexts.{unmade_memory, unmade}
 use Rattle.command_line.specs.declared.status.Status.{Status}
 use Rattle.command_line.specs.declared.status.Status.TheVariants.{Done, Memory, Cell}
@@ -37,13 +37,7 @@ abbrev pub TellsCell : CellRefusal → Status → Type 0
 TellsCell e s = ((s ≡ Memory) × (e.refusal ≡ refusals.Memory)) ⊎ ((s ≡ Cell e.cell e.refusal) × (e.refusal ≢ refusals.Memory))
 
 pub cell_refusal : (cell : ℕ) (refusal : Refusal) (s : Status) → s ≡ Cell cell refusal → IsRefusal s
-cell_refusal cell refusal s is = record {
-  done = λ e. cc;
-  memory = λ e. cc;
-  read = λ f e. cc;
-  write = λ f e. cc;
-  telling = record { usage = λ e. cc; text = λ f e. cc; controller = λ f e. cc };
-}
+cell_refusal cell refusal s is = plain_refusal s (ap sort_of is)
 
 module _ (p : DesignParts) (cuts : List (List ℤ)) (policies : List Plans) where
   pub done_called : (cells : List Numbers) (bounds : List Printed) → AreCellsMade p cuts policies cells bounds → IsAnswer (CellsCall p cuts policies) Done
