@@ -1,5 +1,5 @@
 -- The script of `play`, and what it prints.
-use Rattle.std.proofs.Common.{inl, inr, ℕ, List, Option, refl, arith}
+use Rattle.std.proofs.Common.{inl, inr, ℕ, List, Option, refl, ap, arith}
 use Rattle.io_edge.specs.declared.sink.Sink.{Ghosts as Screen}
 use Rattle.mat_int.specs.Matrix.{Matrix}
 use Rattle.mac_listing.specs.Listing.{Instructions}
@@ -7,12 +7,11 @@ use Rattle.command_line.specs.Limit.{file_limit}
 use Rattle.command_line.specs.Answers.{IsFileRefused}
 use Rattle.command_line.specs.Script.{ends}
 use Rattle.command_line.specs.Does.{IsTelling, Prints}
-use Rattle.command_line.proofs.Doing.{IsRefusal, done_telling}
+use Rattle.command_line.proofs.Doing.{IsRefusal, done_telling, sort_of, plain_refusal}
 use Rattle.command_line.proofs.Gathering.{whole}
 use Rattle.command_line.proofs.Following.{IsSoundWork}
 use Rattle.command_line.specs.declared.status.Status.{Status}
-use Rattle.command_design_files.proofs.Stopping.{long_refusal}
-use Rattle.command_files.proofs.Stopping.{states_refused}
+use Rattle.command_design_files.proofs.Stopping.{text_refused}
 use Rattle.plan_lines.specs.Making.{PrintsRecords}
 use Rattle.plan_lines.proofs.Acting.{records_ended}
 use Rattle.command_play.specs.Texts.{ListingWrong}
@@ -23,25 +22,16 @@ use Rattle.command_play.specs.Deeds.{play_work, play_deeds}
 use Rattle.command_play.proofs.RunLines.{plays_told}
 
 listing_refused : (file : ℕ) (content : Option (List ℕ)) (s : Status) → IsFileRefused file_limit file (ListingWrong file) content s → IsRefusal s
-listing_refused file content s (inl long) = long_refusal file s long.is
-listing_refused file content s (inr wrong) =
-    let is = wrong.right.2 in
-    record {
-      done = λ e. cc;
-      memory = λ e. cc;
-      read = λ f e. cc;
-      write = λ f e. cc;
-      telling = record { usage = λ e. cc; text = λ f e. cc; controller = λ f e. cc };
-    }
+listing_refused file content s (inl long) = plain_refusal s (ap sort_of long.is)
+listing_refused file content s (inr wrong) = plain_refusal s (ap sort_of wrong.right.2)
 
 plays_telling : (l : Instructions) (m : Matrix) (s : Status) → PlaysCall l m s → IsTelling s
-plays_telling l m s (inl outside) = let is = outside.is in record { usage = λ e. cc; text = λ at e. cc; controller = λ at e. cc }
-plays_telling l m s (inr both) =
-    elim both.1 [ inl trapped ↦ (let is = trapped.is in record { usage = λ e. cc; text = λ at e. cc; controller = λ at e. cc }) | inr done ↦ done_telling s done.0 ]
+plays_telling l m s (inl outside) = (plain_refusal s (ap sort_of outside.is)).telling
+plays_telling l m s (inr both) = elim both.1 [ inl trapped ↦ (plain_refusal s (ap sort_of trapped.is)).telling | inr done ↦ done_telling s done.0 ]
 
 pub play_sound : IsSoundWork play_work
 play_sound = record {
-  sound = (omega arith, listing_refused 1, whole play_states, λ l. (omega arith, states_refused l.states 2, whole (λ m. ends (play_act l m)), plays_telling l));
+  sound = (omega arith, listing_refused 1, whole play_states, λ l. (omega arith, text_refused 2, whole (λ m. ends (play_act l m)), plays_telling l));
   first = inl refl;
 }
 

@@ -8,7 +8,8 @@ use Rattle.command_line.specs.Does.{Prints}
 use Rattle.command_line.proofs.Gathering.{whole}
 use Rattle.command_line.proofs.Following.{IsSoundWork}
 use Rattle.command_line.specs.declared.status.Status.{Status}
-use Rattle.command_files.proofs.Stopping.{cells_refused, states_refused}
+use Rattle.command_design_files.proofs.Stopping.{text_refused}
+use Rattle.command_files.proofs.Stopping.{controllers_refused}
 use Rattle.plan_lines.specs.Making.{PrintsRecords}
 use Rattle.plan_lines.proofs.Acting.{lines_told, lines_telling, records_ended}
 use Rattle.command_serve.specs.Served.{cell_states}
@@ -22,9 +23,9 @@ pub serve_sound : IsSoundWork serve_work
 serve_sound = record {
   sound = (
     omega arith,
-    cells_refused 1,
+    controllers_refused 1,
     whole serve_states,
-    λ cells. (omega arith, states_refused (cell_states cells) 2, whole (λ m. ends (serve_act cells m)), λ m. lines_telling),
+    λ cells. (omega arith, text_refused 2, whole (λ m. ends (serve_act cells m)), λ m. lines_telling),
   );
   first = inl refl;
 }

@@ -9,7 +9,8 @@ use Rattle.command_line.specs.Does.{Prints}
 use Rattle.command_line.proofs.Gathering.{whole}
 use Rattle.command_line.proofs.Following.{IsSoundWork}
 use Rattle.command_line.specs.declared.status.Status.{Status}
-use Rattle.command_files.proofs.Stopping.{controller_refused, states_refused}
+use Rattle.command_design_files.proofs.Stopping.{text_refused}
+use Rattle.command_files.proofs.Stopping.{controllers_refused}
 use Rattle.plan_lines.specs.Making.{PrintsRecords, making_of_plans}
 use Rattle.plan_lines.specs.Printing.{lines_of_plans}
 use Rattle.plan_lines.proofs.Acting.{lines_told, lines_telling, records_ended}
@@ -19,7 +20,7 @@ use Rattle.command_solve.specs.Deeds.{solve_work, solve_deeds}
 
 pub solve_sound : IsSoundWork solve_work
 solve_sound = record {
-  sound = (omega arith, controller_refused 1, whole solve_states, λ c. (omega arith, states_refused c.states 2, whole (λ m. ends (solve_act c m)), λ m. lines_telling));
+  sound = (omega arith, controllers_refused 1, whole solve_states, λ c. (omega arith, text_refused 2, whole (λ m. ends (solve_act c m)), λ m. lines_telling));
   first = inl refl;
 }
 

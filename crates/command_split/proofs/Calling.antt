@@ -18,7 +18,7 @@ use Rattle.cell_maker.proofs.Cells.{IsMadeAt, made_at}
 use Rattle.command_generate.proofs.Passing.{built_passes}
 use Rattle.command_line.specs.Answers.{IsAnswer}
 use Rattle.command_line.specs.TwoTexts.{IsUnmade}
-use Rattle.command_line.proofs.Doing.{IsRefusal}
+use Rattle.command_line.proofs.Doing.{IsRefusal, sort_of, plain_refusal}
 use Rattle.command_line.proofs.TwoTexts.{unmade_memory, unmade, some_weaker}
 use Rattle.command_line.specs.declared.status.Status.{Status}
 use Rattle.command_line.specs.declared.status.Status.TheVariants.{Done, Memory, Cell}
@@ -38,13 +38,7 @@ abbrev pub TellsCell : CellRefusal → Status → Type 0
 TellsCell e s = ((s ≡ Memory) × (e.refusal ≡ refusals.Memory)) ⊎ ((s ≡ Cell e.cell e.refusal) × (e.refusal ≢ refusals.Memory))
 
 pub cell_refusal : (cell : ℕ) (refusal : Refusal) (s : Status) → s ≡ Cell cell refusal → IsRefusal s
-cell_refusal cell refusal s is = record {
-  done = λ e. cc;
-  memory = λ e. cc;
-  read = λ f e. cc;
-  write = λ f e. cc;
-  telling = record { usage = λ e. cc; text = λ f e. cc; controller = λ f e. cc };
-}
+cell_refusal cell refusal s is = plain_refusal s (ap sort_of is)
 
 -- ---- of a cell that has plans
 if_weaker : {A : Type 0} (o : Option A) (P Q : A → Type 0) → ((a : A) → P a → Q a) → IfSome o P → IfSome o Q

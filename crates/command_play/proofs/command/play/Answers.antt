@@ -10,17 +10,17 @@ use Rattle.command_play.proofs.command.play.Goals as goal
 pub returns-in-Err : goal.returns-in-Err
 returns-in-Err g c =
     let did = c.read_listing_file.ensures in
-    follows play_work play_sound (stopped (record { held = did.held; reads = did.reads; writes = did.writes }) (rw c.at.ensures at c.in-Err.ensures.ends))
+    follows play_work play_sound (stopped did.passes (rw c.at.ensures at c.in-Err.ensures.ends))
 
 -- it holds a listing, and the states' file ends it
 pub returns : goal.returns
 returns g c =
     let kept = c.in-Ok.ensures in
-    let did = c.read_states_file.ensures in
+    let did = c.read_states_file.ensures.read in
     follows play_work play_sound
-    (went_on (record { held = kept.held; reads = kept.reads; writes = kept.writes }) (rw c.at.ensures at kept.right)
-    (stopped (record { held = did.held; reads = did.reads; writes = did.writes })
-    (rw (ap (λ (k : Instructions). k.states) c.parts.ensures.value, c.at-2.ensures) at c.in-Err-read_states_file.ensures.ends)))
+    (went_on kept.passes (rw c.at.ensures at kept.right)
+    (stopped did.passes
+    (rw (ap (λ (k : Instructions). k.states) c.parts.ensures.value, c.at-2.ensures) at c.in-Err-read_states_file.ensures.read.ends)))
 
 -- the states are right, too
 pub returns-in-Ok-read_states_file : goal.returns-in-Ok-read_states_file
@@ -28,11 +28,11 @@ returns-in-Ok-read_states_file g c =
     let l = c.in-Ok.listing in
     let m = c.in-Ok-read_states_file.states in
     let kept = c.in-Ok.ensures in
-    let did = c.read_states_file.ensures in
+    let did = c.read_states_file.ensures.read in
     follows play_work play_sound
-    (went_on (record { held = kept.held; reads = kept.reads; writes = kept.writes }) (rw c.at.ensures at kept.right)
-    (went_on (record { held = did.held; reads = did.reads; writes = did.writes })
-    (rw (ap (λ (k : Instructions). k.states) c.parts.ensures.value, c.at-2.ensures) at c.in-Ok-read_states_file.ensures.right)
+    (went_on kept.passes (rw c.at.ensures at kept.right)
+    (went_on did.passes
+    (rw (ap (λ (k : Instructions). k.states) c.parts.ensures.value, c.at-2.ensures) at c.in-Ok-read_states_file.ensures.read.right)
     (acted (printed tt (play_ended l m g.O.Sink c.args.out.now c.print_prepared.new.out c.print_prepared.result
     (c.print_prepared.ensures l c.player_of.ensures)) refl))))
 

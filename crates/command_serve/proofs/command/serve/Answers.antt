@@ -12,7 +12,7 @@ use Rattle.command_serve.proofs.command.serve.Goals as goal
 pub returns-in-Err : goal.returns-in-Err
 returns-in-Err g c =
     let did = c.read_cells_file.ensures in
-    follows serve_work serve_sound (stopped (record { held = did.held; reads = did.reads; writes = did.writes }) (rw c.at.ensures at c.in-Err.ensures.ends))
+    follows serve_work serve_sound (stopped did.passes (rw c.at.ensures at c.in-Err.ensures.ends))
 
 -- the cells are right, and there is one
 pub state_size-requires : goal.state_size-requires
@@ -22,11 +22,11 @@ state_size-requires g c = omega (arith, c.in-Ok.ensures.right.right.right.form.a
 pub returns : goal.returns
 returns g c =
     let kept = c.in-Ok.ensures in
-    let did = c.read_states_file.ensures in
+    let did = c.read_states_file.ensures.read in
     follows serve_work serve_sound
-    (went_on (record { held = kept.held; reads = kept.reads; writes = kept.writes }) (rw c.at.ensures at kept.right)
-    (stopped (record { held = did.held; reads = did.reads; writes = did.writes })
-    (rw (c.state_size.ensures ∙ ap cell_states c.deref.ensures.value, c.at-2.ensures) at c.in-Err-read_states_file.ensures.ends)))
+    (went_on kept.passes (rw c.at.ensures at kept.right)
+    (stopped did.passes
+    (rw (c.state_size.ensures ∙ ap cell_states c.deref.ensures.value, c.at-2.ensures) at c.in-Err-read_states_file.ensures.read.ends)))
 
 -- the states are right, too
 pub returns-in-Ok-read_states_file : goal.returns-in-Ok-read_states_file
@@ -34,11 +34,11 @@ returns-in-Ok-read_states_file g c =
     let cells = c.in-Ok.cells.items in
     let m = c.in-Ok-read_states_file.states in
     let kept = c.in-Ok.ensures in
-    let did = c.read_states_file.ensures in
+    let did = c.read_states_file.ensures.read in
     follows serve_work serve_sound
-    (went_on (record { held = kept.held; reads = kept.reads; writes = kept.writes }) (rw c.at.ensures at kept.right)
-    (went_on (record { held = did.held; reads = did.reads; writes = did.writes })
-    (rw (c.state_size.ensures ∙ ap cell_states c.deref.ensures.value, c.at-2.ensures) at c.in-Ok-read_states_file.ensures.right)
+    (went_on kept.passes (rw c.at.ensures at kept.right)
+    (went_on did.passes
+    (rw (c.state_size.ensures ∙ ap cell_states c.deref.ensures.value, c.at-2.ensures) at c.in-Ok-read_states_file.ensures.read.right)
     (acted (printed tt (serve_ended (some_cell cells 0 (omega (arith, kept.right.right.right.form.are.some))) cells m g.O.Sink c.args.out.now c.print_prepared.new.out c.print_prepared.result
     (c.print_prepared.ensures cells (rw c.deref-in-Ok-read_states_file.ensures.value at c.cells_of.ensures.cells))) refl))))
 
