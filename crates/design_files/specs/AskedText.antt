@@ -1,6 +1,6 @@
 -- Design texts of any version. One of version 3 is the design that the same text with 2 there would be, and asks for a controller of the accelerated machine.
-use Rattle.std.specs.Prelude.{◌≡◌, ℕ, ℤ, pos, negsuc, List, ◌++◌, Bool, true, false, ◌&&◌, Option, Some, None, IsSomeAnd, MatchOption, ◌==◌, if◌then◌else◌}
-use Rattle.toml.specs.Data.{Data, Members, integer}
+use Rattle.std.specs.Prelude.{◌≡◌, ℕ, ℤ, pos, negsuc, List, ◌++◌, Bool, false, ◌&&◌, Option, Some, None, IsSomeAnd, MatchOption, ◌==◌, if◌then◌else◌}
+use Rattle.toml.specs.Data.{Members, integer}
 use Rattle.qp_model.specs.problem.Parts.{IsDesign}
 use Rattle.qp_model.specs.problem.Rules.{Rule, AllHold, IsFirstBroken}
 use Rattle.number_text.specs.declared.text_fault.TextFault.{TextFault}
