@@ -333,8 +333,9 @@ class Errors:
     """What rounding and the radii cost, where multipliers go up to 2 r, the rounding of means moves entries of the gradient by these, and its errors count so often: at each number f of bits
     the bound on an entry of the plan, by what the radii move the gradient, and epsilon; and the quantity `error`."""
 
-    def __init__(self, d, form, r, means, carry):
+    def __init__(self, d, form, r, means=None, carry=1):
         self.carry = carry
+        means = means or [0] * d.entries
         sums = lambda rows, den: ceil_div(sum(v.far for row in rows for v in row), den)
         radii = lambda rows: [sum(v.rad for v in row) for row in rows]
         self.d, self.rho, self.top, self.box = d, min(d.input_weights), 2 * r, ceil_div(max(map(abs, d.lo + d.hi)), 2**d.grid)
