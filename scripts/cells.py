@@ -1,18 +1,19 @@
 """Proposes cells of a design's box, each with a controller of its own: a smaller box has a smaller cost, and so fewer steps K.
 
-    ./mpc cells DESIGN CUTS POLICIES [--cells N] [--cuts FILE] [--picture FILE] [--generate FOLDER] [--lines FILE]
+    ./mpc cells DESIGN CUTS POLICIES [--cells N] [--cuts FILE] [--leave-out] [--picture FILE] [--generate FOLDER] [--lines FILE]
 
 It cuts the box in the coordinate that lowers the greatest K of a cell most, and where no cut does, the mean K over all grid states, once or twice in one of its parts, until there are N cells (9, at
 most 64), or nothing is gained. Cells are all combinations of the coordinates' parts, the first coordinate fastest. CUTS gets a record for each coordinate: how many cuts it has, and the last
 grid number of each part but the last. POLICIES gets the plans of the first cell's corners, then those of the next.
 
     --cuts FILE      takes the cuts of FILE, and searches none: CUTS is a copy of them
+    --leave-out      has `none` in POLICIES for a cell that has no policy, so that `serve` refuses its states
     --picture FILE   draws the cells and their K over two coordinates, in .svg, .pdf or .png
     --generate FOLDER   has `./mpc generate` make each cell's controller, and says its K: design-1.toml, policy-1.csv, controller-1.txt, report-1.txt and so on stand then in FOLDER
     --lines FILE     lines of `./mpc loop`: says the mean K over their turns, where each state is served by its cell
 
 `./mpc split DESIGN CUTS POLICIES CELLS REPORT` makes the controllers of all cells, and `./mpc serve CELLS STATES` runs them. What each cell's K is by its policy
-goes to standard error, and the mean over all grid states beside the K of the whole box. It ends with status 6 where a cell has no policy, and with the status of
+goes to standard error, and the mean over all grid states beside the K of the whole box. It ends with status 6 where a cell that isn't left out has no policy, and with the status of
 `generate` where that refuses one. Nothing rests on it.
 """
 import contextlib
@@ -237,7 +238,10 @@ def mean_of_lines(design: Design, cells: list[Cell], path: str) -> str:
 
 def serving(cells: list[Cell], state: list[int]) -> Cell:
     """The first cell whose box holds a grid state."""
-    return next(cell for cell in cells if all(low <= v <= high for v, low, high in zip(state, cell.design.lo, cell.design.hi)))
+    found = next((cell for cell in cells if all(low <= v <= high for v, low, high in zip(state, cell.design.lo, cell.design.hi))), None)
+    if found is None:
+        raise Refusal(f"the state {state} over 2^grid lies in no cell that has a controller")
+    return found
 
 
 def draw(design: Design, cells: list[Cell], path: str) -> None:
@@ -255,6 +259,7 @@ def main() -> int:
         parser.add_argument(word, metavar={"cuts_file": "CUTS"}.get(word, word.upper()))
     parser.add_argument("--cells", type=whole(1, MOST_CELLS), default=9, metavar="N")
     parser.add_argument("--cuts", metavar="FILE")
+    parser.add_argument("--leave-out", action="store_true")
     parser.add_argument("--picture", metavar="FILE")
     parser.add_argument("--generate", metavar="FOLDER")
     parser.add_argument("--lines", metavar="FILE")
@@ -264,10 +269,13 @@ def main() -> int:
     design = read_design(given.design)
     with Progress("boxes", 0) as progress:
         cuts, step = cuts_in(given.cuts, design) if given.cuts else search(design, given.cells, progress), step_of(design)
-        cells = [made(cell, step) for cell in cells_of(design, cuts)]
-    if None in cells:
-        say(f"cell {cells.index(None) + 1} has no policy: ./mpc policy says where, of the design with its box")
+        tried = [made(cell, step) for cell in cells_of(design, cuts)]
+    lacking, cells = [number for number, cell in enumerate(tried, 1) if not cell], [cell for cell in tried if cell]
+    if lacking and not (given.leave_out and cells):
+        say(f"cell {lacking[0]} has no policy: ./mpc policy says where, of the design with its box")
         return 6
+    if lacking:
+        say(f"without a controller: cell {', '.join(map(str, lacking))} of {len(tried)}; those below are counted without them")
     for words in words_of(design, cells, made(design, step)):
         say(words)
     if given.lines:
@@ -277,7 +285,7 @@ def main() -> int:
     if given.generate:
         generate(cells, given.generate, given.design)
     files.write(given.cuts_file, cuts_text(cuts))
-    files.write(given.policies, text_of([record for cell in cells for record in cell.policy]))
+    files.write(given.policies, "".join(text_of(cell.policy) if cell else "none\n" for cell in tried))
     return 0
 
 

@@ -41,7 +41,8 @@ TEXTS = {
     "count": "{file} has {entries} records, and the design has {wanted} corners: one plan for each, in the order low low, high low, low high, high high.",
     "count-faces": "{file} has {entries} records, and the box has {wanted} faces: for each coordinate the upper one, then the lower.",
     "count-cuts": "{file} has {entries} records, and the design has {wanted} states: one record for each, how many cuts it has and the cuts.",
-    "count-policies": "{file} has {entries} records, and {wanted} are needed: a plan for each corner of each cell, the policy of a cell after that of the one before.",
+    "count-policies": "{file} has {entries} records, and {wanted} are needed: a plan for each corner of each cell, the policy of a cell after that of the one before, or `none`.",
+    "no-policies": "{file} has `none` for every cell.",
     "range-certificate": "Record {entry} of {file} can't stand there: it needs {wanted}.",
     "count-certificate": "{file} has {entries} records, and needs 3.",
     "cells": "The cuts of {file} make {cells} cells, and at most 64 are served.",
@@ -224,9 +225,23 @@ class CellCall(Call):
             return None
 
     def policy(self, kind: str = "policies") -> list | None:
-        records, design = super().policy(kind), self.design()
-        count = 2**design.states if design else 0
-        return records[count * (self.cell - 1) : count * self.cell] if records and count else None
+        lines, design = self.records(kind), self.design()
+        if design is None:
+            return None
+        start = starts_of(lines, self.cell, design)[-2]
+        try:
+            return records_of("\n".join(lines[start : start + 2**design.states])) or None
+        except ValueError:
+            return None
+
+
+def starts_of(lines: list[str], cells: int, design: Design) -> list[int]:
+    """The record, from 0, at which the policy of each of so many cells begins, and the one behind the last."""
+    starts = [0]
+    for _ in range(cells):
+        at = starts[-1]
+        starts.append(at + (1 if at < len(lines) and lines[at].strip('"') == "none" else 2**design.states))
+    return starts
 
 
 def number_of(word: str, most: int) -> bool:
@@ -357,6 +372,8 @@ def text_fault(call: Call, file: int, fault: str, numbers: list[int]) -> str:
         return TEXTS["further-key"].format(file=name, fault=further_key(path))
     if fault == "range" and kind == "cuts":
         return TEXTS["cells"].format(file=name, cells=cell_count(call))
+    if fault == "range" and kind == "policies":
+        return TEXTS["no-policies"].format(file=name)
     if fault == "range" and kind == "certificate":
         return TEXTS["range-certificate"].format(entry=numbers[0], file=name, wanted=BOXES[numbers[0] - 1])
     if fault in ("key", "shape", "range"):
@@ -378,7 +395,7 @@ def text_fault(call: Call, file: int, fault: str, numbers: list[int]) -> str:
         return TEXTS["count-cuts"].format(file=name, entries=entry, wanted=design.states if design else "n")
     if fault == "count" and kind == "policies":
         cells = cell_count(call)
-        return TEXTS["count-policies"].format(file=name, entries=entry, wanted=cells * 2**design.states if design and isinstance(cells, int) else "2^states for each cell")
+        return TEXTS["count-policies"].format(file=name, entries=entry, wanted=starts_of(records, cells, design)[-1] if design and isinstance(cells, int) else "2^states for each cell")
     if fault == "count":
         return TEXTS[fault].format(file=name, entries=entry, wanted=2**design.states if design else "2^states")
     if fault == "fields":
@@ -742,7 +759,7 @@ STATUSES = [
     (5, "text FILE range PLACE", ["range", "range-certificate"]),
     (5, "text FILE fields ENTRY", ["fields"]),
     (5, "text FILE number ENTRY FIELD", ["number"]),
-    (5, "text FILE range 0", ["cells"]),
+    (5, "text FILE range 0", ["cells", "no-policies"]),
     (5, "text FILE count ENTRIES", ["count", "count-faces", "count-disturbances", "count-turns", "count-cuts", "count-policies", "count-certificate"]),
     (6, "no-margin CORNER ROW NUMERATOR DENOMINATOR", ["no-margin"]),
     (7, "curvature", ["curvature"]),
@@ -792,7 +809,7 @@ What a line's numbers say is the first of its kind:
 - 5, of a design: `not-toml` (also bytes that aren't UTF-8, a key given twice, an integer beyond 64 bits, a float too large); the first missing key, by its place in [FORMATS.md](FORMATS.md#design); 0, a key too much; then place by place
   shape and range, at 15 also that no row stands at 14 or 15, at 18 that a `hi` is below its `lo`.
 - 5, of records: record by record `fields`, then the first `number` that can't stand there; at last `count`. Of cuts the number of cuts comes first, then `fields`, then the cuts; `count` where the first n are right and there aren't n;
-  `range 0` is last. Of a certificate `range` is the first record whose turns or box can't stand there.
+  `range 0` is last; of policies where all are `none`. Of a certificate `range` is the first record whose turns or box can't stand there.
 - 6: the first corner, and in it the first row, with its slack. In intervals it is the one that is shown.
 - 8: how many steps would be needed. 9: what the errors cost over 2^40 with 48 bits.
 - 11, 20: the first line with which, after those before it, no such text begins; in cells also a later cell's `size`, `bits` or version that can't stand with the first's. `unsafe` is told of texts in form alone.

@@ -143,24 +143,33 @@ def number_field(word):
     return value if found and abs(value) <= 2**63 - 1 else None
 
 
+def numbers_of(entry, record, width, is_in_range):
+    """Those of one record, or the status 5 with its fault."""
+    if len(record) != width:
+        raise Refused(5, "fields", entry)
+    row = [number_field(word) for word in record]
+    for field, value in enumerate(row, 1):
+        if value is None or not is_in_range(field, value):
+            raise Refused(5, "number", entry, field)
+    return row
+
+
 def read_records(data, width, is_in_range=lambda before, field, value: True):
     """Lists of numbers, or the status 5 with the first fault. What is in range may rest on the records before."""
     rows = []
     for entry, record in enumerate(records(data), 1):
-        if len(record) != width:
-            raise Refused(5, "fields", entry)
-        row = [number_field(word) for word in record]
-        for field, value in enumerate(row, 1):
-            if value is None or not is_in_range(rows, field, value):
-                raise Refused(5, "number", entry, field)
-        rows.append(row)
+        rows.append(numbers_of(entry, record, width, lambda field, value: is_in_range(rows, field, value)))
     return rows
 
 
-def read_policy(data, design, boxes=1):
-    """The plans of a box's corners, or of the corners of so many boxes, each with its denominator, or the status 5 with the first fault."""
-    rows = read_records(data, design.entries + 1, lambda _, field, value: field > 1 or 1 <= value <= 2**40)
-    if len(rows) != boxes * 2**design.states:
+def is_of_plan(field, value):
+    return field > 1 or 1 <= value <= 2**40
+
+
+def read_policy(data, design):
+    """The plans of a box's corners, each with its denominator, or the status 5 with the first fault."""
+    rows = read_records(data, design.entries + 1, lambda _, field, value: is_of_plan(field, value))
+    if len(rows) != 2**design.states:
         raise Refused(5, "count", len(rows))
     return [(row[0], row[1:]) for row in rows]
 
@@ -324,8 +333,9 @@ class Errors:
     """What rounding and the radii cost, where multipliers go up to 2 r, the rounding of means moves entries of the gradient by these, and its errors count so often: at each number f of bits
     the bound on an entry of the plan, by what the radii move the gradient, and epsilon; and the quantity `error`."""
 
-    def __init__(self, d, form, r, means, carry):
+    def __init__(self, d, form, r, means=None, carry=1):
         self.carry = carry
+        means = means or [0] * d.entries
         sums = lambda rows, den: ceil_div(sum(v.far for row in rows for v in row), den)
         radii = lambda rows: [sum(v.rad for v in row) for row in rows]
         self.d, self.rho, self.top, self.box = d, min(d.input_weights), 2 * r, ceil_div(max(map(abs, d.lo + d.hi)), 2**d.grid)

@@ -265,11 +265,13 @@ class Program:
     def split(self):
         d = self.design()
         boxes = split_boxes.cells_of(d, self.text(2, lambda data: split_boxes.read_cuts(data, d)))
-        plans = self.text(3, lambda data: model.read_policy(data, d, len(boxes)))
-        corners, choices = 2**d.states, []
-        for number, box in enumerate(boxes, 1):
+        policies = self.text(3, lambda data: split_boxes.read_policies(data, d, len(boxes)))
+        choices = []
+        for number, (box, plans) in enumerate(zip(boxes, policies), 1):
+            if plans is None:
+                continue
             try:
-                choices.append(model.choose(box, plans[corners * (number - 1) : corners * number]))
+                choices.append(model.choose(box, plans))
             except Refused as refused:
                 status, *words = refused.args
                 raise Refused(18, number, NAMES[status], *words)

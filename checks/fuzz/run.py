@@ -363,24 +363,28 @@ class Runner:
         pick, (made, report) = random.Random(repr(case.files)), (left[name] for name in case.words[4:6])
         cells, d = split_boxes.read_cells(made, self.versions), read_design(case.files["d"])
         boxes = split_boxes.cells_of(d, split_boxes.read_cuts(case.files["l"], d))
-        k, corners, reports = pick.randrange(len(boxes)), 2**d.states, report.split(b"end\n")
-        records = stay_cases.records_text([den, *plan] for den, plan in model.read_policy(case.files["p"], d, len(boxes))[corners * k : corners * (k + 1)])
+        policies, reports = split_boxes.read_policies(case.files["p"], d, len(boxes)), report.split(b"end\n")
+        covered = [i for i, plans in enumerate(policies) if plans]
+        at = pick.randrange(len(covered))
+        k = covered[at]
+        records = stay_cases.records_text([den, *plan] for den, plan in policies[k])
         self.lay({"d": split_cases.text_of_design(boxes[k]), "p": records})
         ran = self.started(["generate", "d", "p", "c", "r"])
         found = self.left()
-        if ran.returncode or (found["c"], found["r"]) != (control.text_of(cells[k]), reports[k] + b"end\n") or len(reports) != len(cells) + 1:
+        if ran.returncode or (found["c"], found["r"]) != (control.text_of(cells[at]), reports[at] + b"end\n") or len(reports) != len(cells) + 1:
             return f"generate writes otherwise of cell {k + 1}", []
         states = [list(state) for box in pick.sample(boxes, min(4, len(boxes))) for state in stay_cases.starts(pick, box, 2)]
         states += [[pick.randrange(low, high + 1) for low, high in zip(d.lo, d.hi)] for _ in range(2)]
         held = [sum(not control.outside(cell, state) for cell in cells) for state in states]
-        if held != [1] * len(states):
-            return f"{held} cells hold the states {states}", []
+        wanted = [sum(not control.outside(boxes[i], state) for i in covered) for state in states]
+        if held != wanted or max(held) > 1:
+            return f"{held} cells hold the states {states}, and {wanted} should", []
         files = {"c": made, "s": stay_cases.records_text(states)}
         self.lay(files)
         words = ["serve", "c", "s"]
         wrong, status, notes = self.compare(Case("served", words, files), self.started(words), self.left(), files.get, None, None)
         told = f"a box in {'1 cell' if len(cells) == 1 else '2 to 9 cells' if len(cells) < 10 else '10 to 63 cells' if len(cells) < 64 else '64 cells'}"
-        kinds = [told, *(["a box in cells, of version 2"] if d.version == 2 else []), *(["a box in cells, with other multipliers"] if len({cell.clamp for cell in cells}) > 1 else [])]
+        kinds = [told, *(["a box in cells, some without a controller"] if len(cells) < len(boxes) else []), *(["a box in cells, of version 2"] if d.version == 2 else []), *(["a box in cells, with other multipliers"] if len({cell.clamp for cell in cells}) > 1 else [])]
         return wrong and f"serve: {wrong}", kinds + [f"its states: {note}" for note in notes if note == "too long for the model"]
 
     def check_settled(self, case):

@@ -10,7 +10,7 @@ from itertools import product
 from . import control
 from .control import Controller, Reader
 from .machines import VERSIONS
-from .model import Design, Refused, number_field, records
+from .model import Design, Refused, is_of_plan, number_field, numbers_of, records
 
 MOST_CUTS, MOST_CELLS = 63, 64
 # the most bytes of a text of cells
@@ -62,6 +62,30 @@ def cells_of(d: Design, cuts: list[list[int]]) -> list[Design]:
         cell = copy.copy(d)
         cell.lo, cell.hi = (list(ends) for ends in zip(*reversed(box)))
         found.append(cell)
+    return found
+
+
+# ---- their policies
+
+Plan = tuple[int, list[int]]
+
+
+def read_policies(data: bytes, d: Design, count: int) -> list[list[Plan] | None]:
+    """The plans of the corners of each cell, or none where it has the record `none`; or the status 5 with the first fault: that of a record, then their number, then that no cell has plans."""
+    rows, found, plans = records(data), [], []
+    for entry, record in enumerate(rows, 1):
+        if record == ["none"] and not plans and len(found) < count:
+            found.append(None)
+            continue
+        den, *plan = numbers_of(entry, record, d.entries + 1, is_of_plan)
+        plans.append((den, plan))
+        if len(plans) == 2**d.states and len(found) < count:
+            found.append(plans)
+            plans = []
+    if plans or len(found) < count:
+        raise Refused(5, "count", len(rows))
+    if not any(found):
+        raise Refused(5, "range", 0)
     return found
 
 

@@ -156,9 +156,22 @@ def policies(d: Design, plans: list[tuple[int, list[int]]], boxes: list[Design])
     return [[den, *plan] for box in boxes for den, plan in (between(d, plans, state) for state in at_corners.states(box))]
 
 
-def policies_broken(pick: random.Random, rows: list[list[int]]) -> bytes:
-    """The records with some changed: one less, one more, two exchanged, another plan, or any other change of the text."""
-    rows, how = list(rows), pick.randrange(7)
+def some_left_out(pick: random.Random, rows: list[list[int]], corners: int) -> list[list[int] | None]:
+    """The same, with one record for each cell without a controller."""
+    share = pick.choice([0, 0, 0, 0.2, 0.4, 0.7])
+    found: list[list[int] | None] = []
+    for start in range(0, len(rows), corners):
+        found += [None] if pick.random() < share else rows[start : start + corners]
+    return found
+
+
+def policies_text(rows: list[list[int] | None]) -> bytes:
+    return b"".join(b"none\n" if row is None else stay_cases.records_text([row]) for row in rows)
+
+
+def policies_broken(pick: random.Random, rows: list[list[int] | None]) -> bytes:
+    """The records with some changed: one less, one more, two exchanged, another plan or none, or any other change of the text."""
+    rows, how = list(rows), pick.randrange(8)
     at, other = pick.randrange(len(rows)), pick.randrange(len(rows))
     if how == 0:
         del rows[at]
@@ -166,14 +179,16 @@ def policies_broken(pick: random.Random, rows: list[list[int]]) -> bytes:
         rows.insert(at, rows[other])
     elif how == 2:
         rows[at], rows[other] = rows[other], rows[at]
-    elif how == 3:
+    elif how == 3 and rows[at]:
         rows[at] = [rows[at][0], *(pick.choice([v + rows[at][0], v - rows[at][0], -v, 4 * v]) for v in rows[at][1:])]
-    elif how == 4:
+    elif how == 4 and rows[at]:
         rows[at] = [pick.choice([0, MOST_DEN, MOST_DEN + 1, 1]), *rows[at][1:]]
     elif how == 5:
         rows = rows[: pick.randrange(len(rows))]
-    text = stay_cases.records_text(rows)
-    return text if how < 6 or not text else cases.changed(pick, text)
+    elif how == 6:
+        rows[at] = None
+    text = policies_text(rows)
+    return text if how < 7 or not text else cases.changed(pick, text)
 
 
 def split_texts(pick: random.Random, base: list[tuple[bytes, bytes]]) -> tuple[bytes, bytes, bytes]:
@@ -183,8 +198,8 @@ def split_texts(pick: random.Random, base: list[tuple[bytes, bytes]]) -> tuple[b
     cuts = many_cuts(pick, d.lo, d.hi) if cheap and pick.random() < 0.16 else few_cuts(pick, d.lo, d.hi, pick.choice([2, 3, 4, 6, 9, 12 if cheap else 6]))
     count, how = split_boxes.cell_count(cuts), pick.random()
     # (where they are too many, no policy is read)
-    rows = policies(d, plans, split_boxes.cells_of(d, cuts) if count <= split_boxes.MOST_CELLS else [d])
-    design, policy = text_of_design(d), stay_cases.records_text(rows)
+    rows = some_left_out(pick, policies(d, plans, split_boxes.cells_of(d, cuts) if count <= split_boxes.MOST_CELLS else [d]), 2**d.states)
+    design, policy = text_of_design(d), policies_text(rows)
     if how < 0.5:
         return design, cuts_text(pick, rows_of(cuts)), policy
     if how < 0.68:

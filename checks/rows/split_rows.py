@@ -94,6 +94,18 @@ def cut_rows() -> Iterator[tuple[str, Row]]:
     for fault, policies in (("count 0", ""), ("count 2", POLICY), ("count 5", PLANS + "1,0\n"), ("fields 4", PLANS[:-5] + "8\n"), ("number 3 1", "1,0\n1,0\n0,-7\n8,-7\n"), ("number 4 2", PLANS[:-3] + "x\n"),
                             ("number 5 1", PLANS + "x,0\n"), ("number 1 1", "1099511627777,0\n")):
         yield f"the cells' policies: {fault}", refused(SPLIT, {**files, "p": policies}, 5, f"text 3 {fault}")
+    # a cell without a controller has one record
+    bare = {**files, "p": "none\n8,-7\n8,-7\n"}
+    yield "split: none for the first cell", (SPLIT, bare, 0, "", "", {"c": cells(HIGH), "r": REPORT}, {})
+    for what, policies in (("the last cell", "1,0\n1,0\nnone\n"), ("in quotes", '1,0\n1,0\n\n"none"\r\n')):
+        yield f"split: none for {what}", (SPLIT, {**files, "p": policies}, 0, "", "", {"c": cells(LOW), "r": LOW_REPORT}, {})
+    yield "split: a cell is refused behind one of none", refused(SPLIT, {**files, "p": "none\n1,0\n1,0\n"}, 18, "cell 2 no-margin 1 3 -3 4")
+    for fault, policies in (
+        ("range 0", "none\nnone\n"), ("count 1", "none\n"), ("count 3", "1,0\n1,0\n8,-7\n"), ("count 2", "none\n8,-7\n"), ("count 4", "none\n8,-7\n8,-7\n8,-7\n"), ("fields 2", "1,0\nnone\n8,-7\n8,-7\n"),
+        ("fields 3", "none\nnone\nnone\n"), ("fields 4", "none\n8,-7\n8,-7\nnone\n"), ("number 2 2", "none\n8,x\nx\n"), ("fields 1", " none\n8,-7\n8,-7\n"), ("fields 1", "None\n8,-7\n8,-7\n"), ("number 1 1", "none,0\n8,-7\n8,-7\n"),
+    ):
+        yield f"the cells' policies: {policies!r}", refused(SPLIT, {**files, "p": policies}, 5, f"text 3 {fault}")
+    yield "serve: a state of a cell without a controller", refused(SERVE, {"c": cells(HIGH), "s": "1\n0\n"}, 12, "outside-box 2 0 1")
 
 
 def many_rows() -> Iterator[tuple[str, Row]]:
@@ -122,6 +134,13 @@ def many_rows() -> Iterator[tuple[str, Row]]:
     yield "split: one record for two coordinates", refused(SPLIT, {**both(1, 1, 1), "l": "0\n"}, 5, "text 2 count 1")
     yield "split: a bad second record", refused(SPLIT, {**both(1, 1, 1), "l": "0\n1,70\n"}, 5, "text 2 number 2 2")
     yield "split: a bad first record before the count", refused(SPLIT, {**both(1, 1, 1), "l": "1,70\n"}, 5, "text 2 number 1 2")
+    # a box in two by two cells, one of them without a controller: its states alone are refused
+    row = boxes(modelled({**both(1, 1, 4), "p": "1,0\n" * 4 + "none\n" + "1,0\n" * 8}), ("0 0", "0 0"), ("0 1", "0 70"), ("1 1", "70 70"))
+    yield "split: two by two cells, one without a controller", row
+    held = {"c": row[5]["c"], "s": "0,0\n0,5\n7,9\n"}
+    said = program.answer(SERVE, lambda name: held[name].encode(), lambda name: True, model.exact_gains)
+    yield "serve: states of the three others", put(SERVE, held, b"".join(said.out).decode())
+    yield "serve: a state of the one without", refused(SERVE, {**held, "s": "0,0\n0,5\n7,9\n7,0\n"}, 12, "outside-box 4 0 1")
     # the first coordinate runs fastest
     found = [(f"{x} {y}", f"{u} {v}") for y, v in ((0, 4), (5, 70)) for x, u in ((0, 1), (2, 8), (9, 70))]
     yield "split: the order of cells", boxes(modelled({**both(1, 1, 6), "l": "2,1,8\n1,4\n"}), *found)

@@ -73,8 +73,8 @@ class Costs:
 
 
 def about_step(rows, entries):
-    """About how many cycles a step of the straight C takes, before there is a controller: by the factors of the limit rows and the count of a plan's entries, where opposite rows share their products and
-    all rows can bind."""
+    """About how many cycles a step of the straight C takes, before there is a controller: by the factors of the limit rows and the count of a plan's entries, where opposite rows share their products,
+    all rows can bind, and multipliers and plans take 32 bits; where they take 64, some three times as much."""
     counted = [tuple(row) for row in rows]
     apart = {max(row, tuple(-v for v in row)) for row in counted}
     cycles = lambda what: STEP[what][0]

@@ -165,15 +165,32 @@ class Example(unittest.TestCase):
         whole = 808 * cells.states_in(design)
         self.assertLess(sum(k * cells.states_in(cell) for k, cell in zip(steps, parts)), whole / 2)
 
+    def ran(self, words, status):
+        """What the command says."""
+        before, sys.argv = sys.argv, ["cells.py", *words]
+        try:
+            with contextlib.redirect_stderr(io.StringIO()) as said:
+                self.assertEqual(cells.main(), status)
+        finally:
+            sys.argv = before
+        return said
+
+    def test_a_cell_that_is_left_out(self):
+        """Beyond 1 no input keeps the limits: this cell gets `none`, if that is asked for."""
+        beyond = FIRST.replace("hi = [1]", "hi = [9]")
+        folder, paths = folder_with(self, design=beyond, cuts="1,0\n")
+        out = [os.path.join(folder, name) for name in ("made", "policies")]
+        self.assertIn("cell 2 has no policy", self.ran([paths["design"], *out, "--cuts", paths["cuts"]], 6).getvalue())
+        self.assertFalse(os.path.exists(out[1]))
+        self.assertIn("without a controller: cell 2 of 2", self.ran([paths["design"], *out, "--cuts", paths["cuts"], "--leave-out"], 0).getvalue())
+        with open(out[1], encoding="utf-8") as policies:
+            first, second, third = policies.read().splitlines()
+        self.assertEqual((first, second, third), ("1,0", "1,0", "none"))
+
     def test_command_with_cuts(self):
         folder, paths = folder_with(self, design=FIRST, cuts="1,0\n")
         out = [os.path.join(folder, name) for name in ("made", "policies")]
-        words, sys.argv = sys.argv, ["cells.py", paths["design"], *out, "--cuts", paths["cuts"]]
-        try:
-            with contextlib.redirect_stderr(io.StringIO()) as said:
-                self.assertEqual(cells.main(), 0)
-        finally:
-            sys.argv = words
+        said = self.ran([paths["design"], *out, "--cuts", paths["cuts"]], 0)
         self.assertRegex(said.getvalue(), r"(?s)cell 1: x1 0 to 0: R 1, .*cell 2: x1 1 to 1: R [0-9]+, .*2 cells: the greatest K")
         with open(out[0], encoding="utf-8") as made, open(out[1], encoding="utf-8") as policies:
             self.assertEqual((made.read(), len(policies.read().splitlines())), ("1,0\n", 4))

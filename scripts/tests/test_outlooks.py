@@ -50,9 +50,9 @@ class Outlook(unittest.TestCase):
     def test_a_run_that_takes_too_long(self):
         """The same mass so much faster, with what it is off weighing more: what helps is said, where something does."""
         for period, weight, wanted in (
-            (2e-4, 5.0, r"K about 772, 2500 % of a stage of a Cortex-M4 of 100 MHz; with inputs weighing 4 times as much as the model says K about 2, 6.9 % of a stage"),
-            (2e-5, 50.0, r"K about 16991, 550000 % .*; with a cost of the box's coordinates at the last stage, 3 times .* in place of the model's K about 2, 69 % of a stage"),
-            (2e-6, 5.0, r"K about 772, 250000 % .*; fewer stages, larger tolerances or a smaller box make it less \(docs/TARGETS.md\)"),
+            (2e-4, 5.0, r"K about 772, 1100 % of a stage of a Cortex-M4 of 100 MHz; with inputs weighing 4 times as much as the model says K about 2, 3 % of a stage"),
+            (2e-5, 50.0, r"K about 16991, 240000 % .*; with a cost of the box's coordinates at the last stage, 3 times .* in place of the model's K about 2, 30 % of a stage"),
+            (2e-6, 5.0, r"K about 772, 110000 % .*; fewer stages, larger tolerances or a smaller box make it less \(docs/TARGETS.md\)"),
         ):
             fast = MASS.replace("weight = 2.0", f"weight = {weight}").replace("period = 0.2", f"period = {period}")
             fast = fast.replace("[[0.0, 1.0], [0.0, 0.0]]", f"[[0.0, {0.2 / period}], [0.0, 0.0]]").replace("[[0.0], [1.0]]", f"[[0.0], [{0.2 / period}]]")

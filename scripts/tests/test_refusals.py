@@ -306,12 +306,16 @@ class Explained(unittest.TestCase):
 
     def test_policies_of_cells(self):
         self.assertIn("has 2 records, and 4 are needed: a plan for each corner of each cell", self.split("error 5 text 3 count 2", policies=FIRST_POLICY))
+        self.assertIn("has 2 records, and 3 are needed: a plan for each corner of each cell", self.split("error 5 text 3 count 2", policies="none\n8,-7\n"))
+        self.assertIn("has `none` for every cell", self.split("error 5 text 3 range 0", policies="none\nnone\n"))
         self.assertIn("a record holds 2 numbers, a denominator", self.split("error 5 text 3 fields 1", policies="1\n"))
         self.assertIn("a denominator is 1 to 1099511627776", self.split("error 5 text 3 number 1 1", policies="0,0\n"))
 
     def test_cell_that_is_refused(self):
         told = self.split("error 18 cell 2 no-margin 1 3 -3 4", policies=4 * "1,0\n")
         self.assertIn("Cell 2 (x1 1 to 1, over 2^grid) has no controller, with its policy: At corner 1 (x1 low) the policy's plan leaves too little room in final row 1 at stage 1: slack -3/4", told)
+        behind = self.split("error 18 cell 2 no-margin 1 3 -3 4", policies="none\n" + 2 * "1,0\n")
+        self.assertIn("Cell 2 (x1 1 to 1, over 2^grid) has no controller, with its policy: At corner 1 (x1 low) the policy's plan leaves too little room in final row 1 at stage 1: slack -3/4", behind)
         self.assertIn("K = 8388608", self.split("error 18 cell 2 too-many-steps 8388608"))
         self.assertIn("too steep", self.split("error 18 cell 1 curvature"))
         self.assertIn("Cell 1 (x1 0 to 0, over 2^grid) has no controller, with its policy: `error`, the sum of the rounding errors, passes 2^126 (it is 2^", self.split("error 18 cell 1 too-wide error"))

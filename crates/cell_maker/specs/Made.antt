@@ -1,5 +1,5 @@
 -- What is made of the cells of a design's box.
-use Rattle.std.specs.Prelude.{◌≡◌, ℕ, ◌+◌, ◌-◌, ◌<◌, ◌≤◌, ℤ, List, [], length, get_or}
+use Rattle.std.specs.Prelude.{◌≡◌, ℕ, ◌+◌, ◌-◌, ◌<◌, ◌≤◌, ℤ, List, length, get_or, Option, None, IfSome, IsSomeAnd}
 use Rattle.integer_algebra.specs.Sums.{at}
 use Rattle.qp_model.specs.problem.Parts.{design_of, design_numbers}
 use Rattle.qp_model.specs.problem.Policy.{Plans}
@@ -14,6 +14,7 @@ use Rattle.design_engine.specs.Built.{IsBuilt}
 use Rattle.design_engine.specs.Refusals.{HasCause, PassesAll}
 use Rattle.qp_model.specs.declared.refusal.Refusal.{Refusal}
 use Rattle.cell_split.specs.Cells.{cell_low, cell_high, cell_count, IsCell}
+use Rattle.cell_split.specs.PoliciesText.{covered}
 use Rattle.cell_maker.specs.declared.make.CellRefusal.{CellRefusal}
 
 -- this is the design of cell k, from 1: the same with the cell's box
@@ -22,9 +23,9 @@ pub record IsCellDesign (p : DesignParts) (cuts : List (List ℤ)) (k : ℕ) (q 
   pub low : Holds q.lo.items p.states (cell_low (at p.lo.items) cuts k)
   pub high : Holds q.hi.items p.states (cell_high (at p.hi.items) cuts k)
 
--- the plans of cell k, from 1, of those of all cells
-abbrev pub cell_plans : List Plans → ℕ → Plans
-cell_plans policies k = get_or policies (k - 1) (record { denominators = []; numerators = record { rows = []; cols = 0 } })
+-- the plans of cell k, from 1, of those of all cells, if it has any; a cell that has none gets no controller
+abbrev pub cell_plans : List (Option Plans) → ℕ → Option Plans
+cell_plans policies k = get_or policies (k - 1) None
 
 -- ---- refusals
 -- the design of cell k with its plans is refused so
@@ -46,17 +47,17 @@ pub record PassesCell (p : DesignParts) (cuts : List (List ℤ)) (k : ℕ) (plan
   pub bits : ℕ
   pub all : PassesAll (design_of design) (targets_of design) plans margin exponent bits
 
--- the design of a cell is refused so, and those of the cells before it aren't
-pub record IsFirstRefused (p : DesignParts) (cuts : List (List ℤ)) (policies : List Plans) (e : CellRefusal) : Type 0 where
+-- the design of a cell that has plans is refused so, and those of the cells with plans before it aren't
+pub record IsFirstRefused (p : DesignParts) (cuts : List (List ℤ)) (policies : List (Option Plans)) (e : CellRefusal) : Type 0 where
   pub cell : IsCell cuts e.cell
-  pub before : (k : ℕ) → 1 ≤ k → k < e.cell → IsCellAccepted p cuts k (cell_plans policies k)
-  pub here : IsCellRefused p cuts e.cell (cell_plans policies e.cell) e.refusal
+  pub before : (k : ℕ) → 1 ≤ k → k < e.cell → IfSome (cell_plans policies k) (IsCellAccepted p cuts k)
+  pub here : IsSomeAnd (cell_plans policies e.cell) (λ plans. IsCellRefused p cuts e.cell plans e.refusal)
 
 -- this is the first refusal, and the only one; that cell's design doesn't pass every test
-pub record IsOnlyRefused (p : DesignParts) (cuts : List (List ℤ)) (policies : List Plans) (e : CellRefusal) : Type 0 where
+pub record IsOnlyRefused (p : DesignParts) (cuts : List (List ℤ)) (policies : List (Option Plans)) (e : CellRefusal) : Type 0 where
   pub first : IsFirstRefused p cuts policies e
   pub only : (other : CellRefusal) → IsFirstRefused p cuts policies other → other ≡ e
-  pub fails : ¬ PassesCell p cuts e.cell (cell_plans policies e.cell)
+  pub fails : IfSome (cell_plans policies e.cell) (λ plans. ¬ PassesCell p cuts e.cell plans)
 
 -- ---- controllers
 -- a controller and its bounds are built of the design of cell k and its plans, certified for it, and within its targets, and it is refused in no way
@@ -68,12 +69,13 @@ pub record IsCellMade (p : DesignParts) (cuts : List (List ℤ)) (k : ℕ) (plan
   pub targets : IsWithinTargets (targets_of design) b
   pub accepted : IsCellAccepted p cuts k plans
 
--- the first n cells have these controllers and bounds
-pub record AreMadeTo (p : DesignParts) (cuts : List (List ℤ)) (policies : List Plans) (n : ℕ) (controllers : List Numbers) (bounds : List Printed) : Type 0 where
-  pub count : length controllers ≡ n
-  pub bound_count : length bounds ≡ n
-  pub each : (k : ℕ) (c : Numbers) (b : Printed) → k < n → IsCellMade p cuts (k + 1) (cell_plans policies (k + 1)) (get_or controllers k c) (get_or bounds k b)
+-- Those of the first n cells that have plans have these controllers and bounds, in their order: that of cell k, from 0, has as many before it as cells before k have plans.
+pub record AreMadeTo (p : DesignParts) (cuts : List (List ℤ)) (policies : List (Option Plans)) (n : ℕ) (controllers : List Numbers) (bounds : List Printed) : Type 0 where
+  pub count : length controllers ≡ covered policies n
+  pub bound_count : length bounds ≡ covered policies n
+  pub each : (k : ℕ) (c : Numbers) (b : Printed) → k < n →
+      IfSome (cell_plans policies (k + 1)) (λ plans. IsCellMade p cuts (k + 1) plans (get_or controllers (covered policies k) c) (get_or bounds (covered policies k) b))
 
 -- all cells
-abbrev pub AreCellsMade : DesignParts → List (List ℤ) → List Plans → List Numbers → List Printed → Type 0
+abbrev pub AreCellsMade : DesignParts → List (List ℤ) → List (Option Plans) → List Numbers → List Printed → Type 0
 AreCellsMade p cuts policies controllers bounds = AreMadeTo p cuts policies (cell_count cuts) controllers bounds

@@ -1,5 +1,6 @@
 // The controllers of all cells, or the first refusal.
-ghost use Rattle.std.specs.Prelude.{◌≡◌, ◌⊎◌, ◌+◌, ◌<◌, ◌++◌, [], ◌∷◌, ℕ, List, All, length, map, IfOk, IfErr, OnOk};
+ghost use Rattle.std.specs.Prelude.{◌≡◌, ◌⊎◌, ◌+◌, ◌<◌, ◌++◌, [], ◌∷◌, ℕ, List, All, length, map, IfOk, IfErr, IfSome, OnOk};
+ghost use Rattle.std.specs.Option.{option_map};
 ghost use Rattle.qp_model.specs.problem.Parts.{design_of};
 ghost use Rattle.qp_model.specs.problem.Policy.{plans_of, IsPolicyFor};
 ghost use Rattle.qp_model.specs.bounds.Printed.{printed};
@@ -27,7 +28,7 @@ pub struct MadeCells {
     pub bounds: Vec<Bounds>,
 }
 
-/// The controllers and the bounds of all cells, in their order: each is what `generate` makes of the cell's design and policy.
+/// The controllers and the bounds of all cells that have a policy, in their order: each is what `generate` makes of the cell's design and policy.
 ///
 /// # Errors
 /// The first refusal, cell by cell. `Memory` where memory runs out before.
@@ -35,20 +36,23 @@ pub fn make_cells(
     alloc: Global,
     design: &Design,
     cuts: &Cuts,
-    policies: &[Policy],
+    policies: &[Option<Policy>],
 ) -> Result<MadeCells, CellRefusal>
     requires cuts { AreCutsFor (design_of design.now) cuts.now }
     requires count { length policies.now ≡ cell_count cuts.now }
-    requires sized { All (λ p. IsPolicyFor (design_of design.now) (plans_of p)) policies.now }
-    ensures made { IfOk result (λ m. AreCellsMade design.now cuts.now (map plans_of policies.now) m.controllers.items (map printed m.bounds.items)) }
-    ensures refused { IfErr result (λ e. (e.refusal ≡ Refusal.Memory) ⊎ IsOnlyRefused design.now cuts.now (map plans_of policies.now) e) }
+    requires sized { All (λ o. IfSome o (λ p. IsPolicyFor (design_of design.now) (plans_of p))) policies.now }
+    ensures made { IfOk result (λ m. AreCellsMade design.now cuts.now (map (option_map plans_of) policies.now) m.controllers.items (map printed m.bounds.items)) }
+    ensures refused { IfErr result (λ e. (e.refusal ≡ Refusal.Memory) ⊎ IsOnlyRefused design.now cuts.now (map (option_map plans_of) policies.now) e) }
 {
     let mut all = MadeCells {
         controllers: Vec::new(alloc),
         bounds: Vec::new(alloc),
     };
     for k in 0..cuts.cells() {
-        match make_cell(alloc, design, cuts, &policies[k as usize], k + 1) {
+        let Some(policy) = &policies[k as usize] else {
+            continue;
+        };
+        match make_cell(alloc, design, cuts, policy, k + 1) {
             Ok(made) => {
                 if put(&mut all, made).is_err() {
                     return Err(refused(k + 1, Refusal::Memory));

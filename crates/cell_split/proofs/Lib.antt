@@ -14,4 +14,5 @@ pub mod CellFacts
 pub mod BoxFacts
 pub mod DesignFacts
 -- ---- the policies of all cells
+pub mod PlanFacts
 pub mod PolicyFacts

@@ -4,5 +4,5 @@ pub mod CutsText
 pub mod ReadLists
 pub mod Parts
 pub mod NewBox
-pub mod PlanRuns
 pub mod PoliciesText
+pub mod ReadCells

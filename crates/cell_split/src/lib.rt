@@ -8,6 +8,7 @@ mod design;
 mod laws;
 mod policies;
 mod read;
+mod read_cells;
 mod record;
 mod state_box;
 

@@ -1,97 +1,76 @@
 // The policies of all cells in one text.
-ghost use Rattle.std.specs.Prelude.{◌≡◌, ◌⊎◌, List, ◌*◌, ◌+◌, ◌-◌, ◌<◌, ◌≤◌, ◌^◌, length, map, All, IfOk, IfErr, MatchResult};
+ghost use Rattle.std.specs.Prelude.{◌≡◌, ◌⊎◌, ◌↔◌, List, Option, ◌<◌, ◌≤◌, ◌^◌, length, map, All, IfOk, IfErr, IfSome, IsTrue, MatchResult};
+ghost use Rattle.std.specs.Option.{option_map};
 ghost use Rattle.number_text.specs.declared.text_fault.TextFault.{TextFault};
 ghost use Rattle.number_text.specs.declared.text_fault.TextFault.TheVariants.{Memory};
-ghost use Rattle.qp_model.specs.problem.Parts.{design_of};
+ghost use Rattle.qp_model.specs.problem.Parts.{IsDesign, design_of};
 ghost use Rattle.qp_model.specs.problem.Policy.{Plans, plans_of, IsPolicyFor};
-ghost use Rattle.cell_split.specs.PoliciesText.{ArePolicies, IsPoliciesFault};
-ghost use Rattle.cell_split.specs.PlanRuns.{AreRowsFrom, IsRun, AreRuns};
+ghost use Rattle.cell_split.specs.PoliciesText.{covered, ArePolicies, IsPoliciesFault};
 
-use mat_int::Mat;
+use crate::read_cells::{cells_in, count_fault};
 use number_text::TextFault;
-use policy_file::{corner_count, read_plans};
-use qp_model::{Design, Policy};
-use std::alloc::{AllocError, Global};
+use policy_file::all_records;
+use qp_model::{Design, DesignParts, Policy};
+use std::alloc::Global;
 
-/// The policies of `cells` cells of a design's box, one after the other in one text of fewer than `2^32` bytes.
+/// The policies of `cells` cells of a design's box, one after the other in one text of fewer than `2^32` bytes; for a cell without a controller the
+/// text has one record, `none`.
 ///
 /// # Errors
-/// The first fault, as of a policy. After all records `Count` where there isn't one for each corner of each cell.
+/// The first fault, as of a policy. After all records `Count` where there aren't as many as the cells take, and last `Range` with place 0 where no
+/// cell has plans.
 pub fn read_cell_policies(
     alloc: Global,
     bytes: &[u8],
     design: &Design,
     cells: u32,
-) -> Result<Vec<Policy>, TextFault>
+) -> Result<Vec<Option<Policy>>, TextFault>
     requires small { length bytes.now < 2 ^ 32 }
     requires few { cells ≤ 64 }
-    ensures found { IfOk result (λ v. ArePolicies bytes.now (design_of design.now) cells (map plans_of v.items)) }
-    ensures sized { IfOk result (λ v. All (λ p. IsPolicyFor (design_of design.now) (plans_of p)) v.items) }
+    ensures found { IfOk result (λ v. ArePolicies bytes.now (design_of design.now) cells (map (option_map plans_of) v.items)) }
+    ensures sized { IfOk result (λ v. All (λ o. IfSome o (λ p. IsPolicyFor (design_of design.now) (plans_of p))) v.items) }
     ensures fault { IfErr result (λ e. (e ≡ Memory) ⊎ IsPoliciesFault bytes.now (design_of design.now) cells e) }
 
     // The other way round, with nothing but out of memory in between.
-    ensures right { (all : List Plans) → ArePolicies bytes.now (design_of design.now) cells all →
-        MatchResult result (λ v. map plans_of v.items ≡ all) (λ e. e ≡ Memory) }
+    ensures right { (all : List (Option Plans)) → ArePolicies bytes.now (design_of design.now) cells all →
+        MatchResult result (λ v. map (option_map plans_of) v.items ≡ all) (λ e. e ≡ Memory) }
     ensures first { (told : TextFault) → IsPoliciesFault bytes.now (design_of design.now) cells told →
         MatchResult result (λ _. ⊥) (λ e. (e ≡ told) ⊎ (e ≡ Memory)) }
 {
-    policies_of(alloc, bytes, design, cells as usize)
+    policies_of(alloc, bytes, design.parts(), cells as usize)
 }
 
 // The same, said one way.
 fn policies_of(
     alloc: Global,
     bytes: &[u8],
-    design: &Design,
+    parts: &DesignParts,
     cells: usize,
-) -> Result<Vec<Policy>, TextFault>
+) -> Result<Vec<Option<Policy>>, TextFault>
     requires small { length bytes.now < 2 ^ 32 }
-    requires few { cells ≤ 64 }
-    ensures found { IfOk result (λ v. ArePolicies bytes.now (design_of design.now) cells (map plans_of v.items)) }
-    ensures fault { IfErr result (λ e. (e ≡ Memory) ⊎ IsPoliciesFault bytes.now (design_of design.now) cells e) }
+    requires design { IsDesign parts.now }
+    ensures found { IfOk result (λ v. ArePolicies bytes.now (design_of parts.now) cells (map (option_map plans_of) v.items)) }
+    ensures fault { IfErr result (λ e. (e ≡ Memory) ⊎ IsPoliciesFault bytes.now (design_of parts.now) cells e) }
 {
-    let corners = corner_count(design.parts().states);
-    let all = read_plans(alloc, bytes, design, cells * corners)?;
-    match runs_of(alloc, &all, cells, corners) {
-        Ok(policies) => Ok(policies),
-        Err(_) => Err(TextFault::Memory),
+    let records = all_records(alloc, bytes)?;
+    let read = cells_in(alloc, &records, parts, cells)?;
+    if read.end < records.len() {
+        return Err(count_fault(alloc, &records, parts, read.end));
     }
+    if !has_plans(&read.policies) {
+        return Err(TextFault::Range { place: 0 });
+    }
+    Ok(read.policies)
 }
 
-// Plans as so many runs of one length.
-fn runs_of(alloc: Global, all: &Policy, runs: usize, long: usize) -> Result<Vec<Policy>, AllocError>
-    requires denominators { length all.now.dens.items ≡ runs * long }
-    requires rows { length all.now.plans.rows ≡ runs * long }
-    ensures { IfOk result (λ v. AreRuns (plans_of all.now) long runs (map plans_of v.items)) }
+// Whether one of the cells has plans.
+fn has_plans(policies: &[Option<Policy>]) -> bool
+    ensures { IsTrue result ↔ (1 ≤ covered (map (option_map plans_of) policies.now) (length policies.now)) }
 {
-    let mut policies = Vec::new(alloc);
-    for k in 0..runs {
-        let policy = run_from(alloc, all, k * long, long)?;
-        policies.push(policy)?;
+    for policy in policies {
+        if policy.is_some() {
+            return true;
+        }
     }
-    Ok(policies)
-}
-
-// So many plans, from one of them on.
-fn run_from(alloc: Global, all: &Policy, start: usize, long: usize) -> Result<Policy, AllocError>
-    requires denominators { start + long ≤ length all.now.dens.items }
-    requires rows { start + long ≤ length all.now.plans.rows }
-    ensures { IfOk result (λ p. IsRun (plans_of all.now) start long (plans_of p)) }
-{
-    let dens = all.dens[start..start + long].to_vec(alloc)?;
-    let plans = rows_from(alloc, &all.plans, start, start + long)?;
-    Ok(Policy { dens, plans })
-}
-
-// The rows from one to before another.
-fn rows_from(alloc: Global, all: &Mat, start: usize, end: usize) -> Result<Mat, AllocError>
-    requires order { start ≤ end }
-    requires inside { end ≤ length all.now.rows }
-    ensures { IfOk result (λ m. AreRowsFrom all.now start (end - start) m) }
-{
-    let mut out = Mat::zero(alloc, 0, all.cols())?;
-    for i in start..end {
-        out.push_row(alloc, all.row(i))?;
-    }
-    Ok(out)
+    false
 }

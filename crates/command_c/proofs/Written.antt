@@ -1,5 +1,5 @@
 -- What `c` does by its script, and what it leaves.
-use Rattle.std.proofs.Common.{◌≡◌, inl, inr, ℕ, ◌≤◌, ◌<◌, List, Option, Some, None, refl, arith}
+use Rattle.std.proofs.Common.{◌≡◌, inl, inr, ℕ, ◌≤◌, ◌<◌, List, Option, Some, None, refl, ap, arith}
 use Rattle.std.specs.Prelude.{IfSome, IsSomeAnd}
 use Rattle.io_edge.specs.Faults.{Files}
 use Rattle.qp_model.specs.machine.Controller.{Numbers}
@@ -9,24 +9,18 @@ use Rattle.command_line.specs.Answers.{IsAnswer}
 use Rattle.command_line.specs.Does.{IsTelling}
 use Rattle.command_line.specs.Script.{ends, leaves_at, leaves_of}
 use Rattle.command_line.specs.TwoTexts.{BothStand, Two, IsUnmade}
-use Rattle.command_line.proofs.Doing.{IsRefusal, done_telling}
+use Rattle.command_line.proofs.Doing.{IsRefusal, done_telling, sort_of, plain_refusal}
 use Rattle.command_line.proofs.Gathering.{whole}
 use Rattle.command_line.proofs.Following.{IsSoundWork, left_told}
 use Rattle.command_line.proofs.TwoTexts.{unmade, some_weaker}
 use Rattle.command_line.specs.declared.status.Status.{Status}
 use Rattle.command_line.specs.declared.status.Status.TheVariants.{Done, TooWideForC}
-use Rattle.command_files.proofs.Stopping.{controller_refused}
+use Rattle.command_files.proofs.Stopping.{controllers_refused}
 use Rattle.command_c.specs.Compiled.{program_width, ProgramCalls, AreProgramTexts, compile_act, compile_work, IsCompiled}
 
 -- ---- what a controller calls for
 wide_refusal : (width : ℕ) (s : Status) → s ≡ TooWideForC width → IsRefusal s
-wide_refusal width s is = record {
-  done = λ e. cc;
-  memory = λ e. cc;
-  read = λ f e. cc;
-  write = λ f e. cc;
-  telling = record { usage = λ e. cc; text = λ at e. cc; controller = λ at e. cc };
-}
+wide_refusal width s is = plain_refusal s (ap sort_of is)
 
 program_telling : (c : Numbers) (s : Status) → ProgramCalls c s → IsTelling s
 program_telling c s (inl wide) = (wide_refusal c.width s wide.1).telling
@@ -48,7 +42,7 @@ wide_unmade c wide = unmade (ProgramCalls c) (TooWideForC c.width) (record { cal
 
 -- ---- its script
 pub compile_sound : IsSoundWork compile_work
-compile_sound = record { sound = (omega arith, controller_refused 1, whole (λ c. ends (compile_act c)), program_telling); first = inl refl }
+compile_sound = record { sound = (omega arith, controllers_refused 1, whole (λ c. ends (compile_act c)), program_telling); first = inl refl }
 
 -- ---- what it left
 pub compiled : (words : List (List ℕ)) (s : Status) (held now : Option Files) → s ≡ Done → leaves_of compile_work.script words s held now → IfSome held (λ files. IsSomeAnd now (IsCompiled words files))

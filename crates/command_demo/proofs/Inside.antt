@@ -2,7 +2,6 @@
 use Rattle.std.proofs.Common.{ℕ, ◌<◌, List, ℤ, ◌≤ℤ◌, length, sym, ◌∙◌, subst}
 use Rattle.integer_algebra.specs.Sums.{at}
 use Rattle.mat_int.specs.Matrix.{Matrix, row_of}
-use Rattle.qp_model.specs.problem.Box.{IsGridState}
 use Rattle.qp_model.specs.bounds.Built.{HasSizesOf}
 use Rattle.qp_model.specs.problem.Parts.{design_of}
 use Rattle.qp_model.specs.problem.Policy.{Plans}
@@ -15,10 +14,7 @@ use Rattle.design_maker.specs.Texts.{states_text}
 use Rattle.plan_lines.specs.Inside.{AreInside}
 use Rattle.command_generate.specs.Made.{IsMadeOf}
 use Rattle.command_demo.specs.Demo.{AreMadeFrom, IsShown}
-
--- the states are grid states of the design's box
-abbrev pub AreInBox : Design → Matrix → Type 0
-AreInBox d states = (e : ℕ) → e < length states.rows → IsGridState d (at (row_of states e))
+use Rattle.command_demo.specs.Making.{AreInBox}
 
 -- whatever text the states are of
 pub inside : (d : Design) (c : Numbers) (bytes : List ℕ) (states : Matrix) → HasSizesOf d c → IsStatesText bytes d.states states → AreInBox d states → AreInside c states (length states.rows)

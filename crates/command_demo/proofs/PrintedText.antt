@@ -1,26 +1,29 @@
 -- The report and the lines, printed one after the other.
-use Rattle.std.proofs.Common.{◌≡◌, ◌⊎◌, inl, inr, ℕ, ◌<◌, ℤ, pos, List, [], ◌∷◌, ◌++◌, length, Option, Some, None, option_map, refl, sym, ap, subst, ◌∙◌, arith, append_assoc, length-append}
+use Rattle.std.proofs.Common.{◌≡◌, ◌⊎◌, inl, inr, ℕ, ◌<◌, ℤ, List, [], ◌∷◌, ◌++◌, length, Option, Some, None, option_map, refl, sym, subst, ◌∙◌, arith, append_assoc, length-append}
 use Rattle.std.specs.Prelude.{IfSome, IsSomeAnd}
 use Rattle.std.specs.List.{flat_map}
 use Rattle.std.proofs.Math.Seq.{take-length}
-use Rattle.io_edge.specs.Faults.{GrowsByPart}
+use Rattle.io_edge.specs.Faults.{Rose, GrowsByPart}
+use Rattle.io_edge.specs.declared.sink.Sink.{Ghosts as Screen}
 use Rattle.mat_int.specs.Matrix.{Matrix}
 use Rattle.qp_model.specs.machine.Controller.{Numbers}
-use Rattle.number_text.specs.Lines.{spaced}
-use Rattle.qp_model.specs.machine.Machine.{average_denominator, averaged_plan}
 use Rattle.qp_model.specs.text.ControllerText.{plan_line}
 use Rattle.qp_model.specs.bounds.Printed.{Printed}
 use Rattle.bound_report.specs.Report.{report_text}
 use Rattle.plan_lines.specs.Lines.{plan_lines}
-use Rattle.plan_lines.specs.Printing.{ArePrinted, AreFirstLines}
+use Rattle.plan_lines.specs.Inside.{AreInside}
+use Rattle.plan_lines.specs.Making.{Ending, all, short, cut, stopped, PrintsLines, making_of_plans}
+use Rattle.plan_lines.specs.Printing.{ArePrinted, AreFirstLines, LinesShow, lines_of_plans}
+use Rattle.plan_lines.proofs.LineByLine.{longer, after}
+use Rattle.plan_lines.proofs.Acting.{lines_told, lines_ended, lines_shown}
+use Rattle.plan_lines.proofs.PlanLines.{line_some, plans_as, no_plan_yet}
+use Rattle.command_line.proofs.Results.{both_some}
+use Rattle.command_demo.specs.Deeds.{demo_deeds}
 use Rattle.command_demo.specs.Demo.{IsShown, IsPrefixShown, IsTextPrinted, PrintsOf, DemoPrints}
 use Rattle.command_line.specs.declared.status.Status.{Status}
 use Rattle.command_line.specs.declared.status.Status.TheVariants.{Done, Memory, WriteFault}
 
 -- ---- lines of some states are some bytes
-ended : (xs : List ℕ) → 0 < length (xs ++ 10 ∷ [])
-ended xs = omega (arith, length-append xs (10 ∷ []))
-
 some_of : {X : Type 0} (f : X → List ℕ) (each : (x : X) → 0 < length (f x)) (xs : List X) → 0 < length xs → 0 < length (flat_map f xs)
 some_of f each [] l = absurd (omega (arith, l))
 some_of f each (x ∷ xs) l = omega (arith, each x, length-append (f x) (flat_map f xs))
@@ -28,39 +31,39 @@ some_of f each (x ∷ xs) l = omega (arith, each x, length-append (f x) (flat_ma
 lines_some : (c : Numbers) (states : Matrix) → 0 < length states.rows → 0 < length (plan_lines c states (length states.rows))
 lines_some c states l =
     subst (λ (xs : List (List ℤ)). 0 < length (flat_map (plan_line c) xs)) (sym (take-length states.rows))
-    (some_of (plan_line c) (λ xi. ended (spaced (pos (average_denominator c) ∷ averaged_plan c xi))) states.rows l)
+    (some_of (plan_line c) (line_some c) states.rows l)
 
--- ---- a part of a text of two pieces
--- the first piece was cut
-first_cut : (old new one two : List ℕ) → 0 < length two → GrowsByPart old new one → GrowsByPart old new (one ++ two)
-first_cut old new one two some p = record {
-  part = p.part;
-  rest = p.rest ++ two;
-  is = ap (λ (x : List ℕ). x ++ two) p.is ∙ append_assoc p.part p.rest two;
-  grown = p.grown;
-  proper = inr (omega (arith, some, length-append p.rest two));
-}
+-- ---- what the lines show
+plans_only : {O : Type 0} {screen : Screen O} {c : Numbers} {m : Matrix} {out now : O} {k : ℕ} {text : List ℕ} {s : Status} → Ending screen (making_of_plans c) m out now k text s →
+    (s ≡ Memory) ⊎ ((s ≡ Done) ⊎ (s ≡ WriteFault 0))
+plans_only (all whole got) = inr (inl refl)
+plans_only (short got) = inl refl
+plans_only (cut some got rose) = inr (inr refl)
+plans_only (stopped lt never got first) = absurd never
 
--- the second was
-second_cut : (old new one two : List ℕ) → 0 < length two → GrowsByPart (old ++ one) new two → GrowsByPart old new (one ++ two)
-second_cut old new one two some p = record {
-  part = one ++ p.part;
-  rest = p.rest;
-  is = ap (λ (x : List ℕ). one ++ x) p.is ∙ sym (append_assoc one p.part p.rest);
-  grown = p.grown ∙ append_assoc old one p.part;
-  proper = inr (left p.proper);
-}
-  where
-    left : (length two ≡ 0) ⊎ (0 < length p.rest) → 0 < length p.rest
-    left (inl none) = absurd (omega (arith, none, some))
-    left (inr rest) = rest
+pub record PlansEnd {O : Type 0} (screen : Screen O) (c : Numbers) (m : Matrix) (out now : O) (s : Status) : Type 0 where
+  pub only : (s ≡ Memory) ⊎ ((s ≡ Done) ⊎ (s ≡ WriteFault 0))
+  pub printed : IfSome (screen.got out) (λ old. IsSomeAnd (screen.got now) (ArePrinted c m s old))
+  pub failed : s ≡ WriteFault 0 → Rose (screen.faults out) (screen.faults now)
+
+pub plans_end : {O : Type 0} (screen : Screen O) (c : Numbers) (m : Matrix) (out now : O) (s : Status) → AreInside c m (length m.rows) → PrintsLines screen (making_of_plans c) m out now s → PlansEnd screen c m out now s
+plans_end screen c m out now s inside l =
+    let lines = lines_of_plans c m in
+    let p = lines_ended (demo_deeds 0) (lines_told (making_of_plans c) m lines (plans_as c m) (λ s. ⊥)) screen out now s inside l in
+    record {
+      only = plans_only l.ending;
+      printed =
+          both_some (LinesShow (AreInside c m (length m.rows)) lines s) (ArePrinted c m s)
+          (λ old new. lines_shown lines s old new (no_plan_yet c m old new) (AreInside c m (length m.rows))) (screen.got out) (screen.got now) p.shows;
+      failed = λ is. (p.write_fault 0 is).2;
+    }
 
 module _ (c : Numbers) (b : Printed) (states : Matrix) where
   -- ---- the report, and then the lines
-  pub report_cut : (old new : List ℕ) → 0 < length states.rows → GrowsByPart old new (report_text b) → IsTextPrinted c b states (WriteFault 0) old new
-  report_cut old new some p = record {
+  pub report_cut : (old new : List ℕ) → GrowsByPart old new (report_text b) → IsTextPrinted c b states (WriteFault 0) old new
+  report_cut old new p = record {
     done = λ is. absurd (let never : ⊥ = cc in never);
-    fault = λ is. first_cut old new (report_text b) (plan_lines c states (length states.rows)) (lines_some c states some) p;
+    fault = λ is. longer (report_text b) (plan_lines c states (length states.rows)) old new p;
     memory = λ is. absurd (let never : ⊥ = cc in never);
   }
 
@@ -70,7 +73,7 @@ module _ (c : Numbers) (b : Printed) (states : Matrix) where
   pub lines_after : (s : Status) (old new : List ℕ) → 0 < length states.rows → ArePrinted c states s (old ++ report_text b) new → IsTextPrinted c b states s old new
   lines_after s old new some p = record {
     done = λ is. p.done is ∙ append_assoc old (report_text b) (plan_lines c states (length states.rows));
-    fault = λ is. second_cut old new (report_text b) (plan_lines c states (length states.rows)) (lines_some c states some) (p.fault is);
+    fault = λ is. after (report_text b) (plan_lines c states (length states.rows)) old new (lines_some c states some) (p.fault is);
     memory = λ is. inr (first old new (p.memory is));
   }
 
@@ -85,11 +88,9 @@ module _ (c : Numbers) (b : Printed) (states : Matrix) where
       go (Some old) None p = p
       go None last p = tt
 
-  pub report_fault : (first last : Option (List ℕ)) → 0 < length states.rows → IfSome first (λ old. IsSomeAnd last (λ new. GrowsByPart old new (report_text b))) →
+  pub report_fault : (first last : Option (List ℕ)) → IfSome first (λ old. IsSomeAnd last (λ new. GrowsByPart old new (report_text b))) →
       IfSome first (λ old. IsSomeAnd last (IsTextPrinted c b states (WriteFault 0) old))
-  report_fault (Some old) (Some new) some p = report_cut old new some p
-  report_fault (Some old) None some p = p
-  report_fault None last some p = tt
+  report_fault = both_some (λ old new. GrowsByPart old new (report_text b)) (IsTextPrinted c b states (WriteFault 0)) report_cut
 
   -- ---- the answers of the whole
   prints_of : (number : ℕ) (s : Status) (old new : List ℕ) → IsShown number c b states → (s ≡ Memory) ⊎ ((s ≡ Done) ⊎ (s ≡ WriteFault 0)) → IsTextPrinted c b states s old new → DemoPrints number s old new

@@ -1,16 +1,11 @@
 // `demo` with its number.
-ghost use Rattle.std.specs.Prelude.{◌≡◌, ◌≢◌, ℕ, ◌≤◌, ◌<◌, length, IfSome, IsSomeAnd};
+ghost use Rattle.std.specs.Prelude.{◌≡◌, ◌≢◌, ℕ, ◌≤◌, IfSome, IsSomeAnd};
 ghost use Rattle.io_edge.specs.Faults.{Rose};
-ghost use Rattle.integer_algebra.specs.Sums.{at};
-ghost use Rattle.mat_int.specs.Matrix.{row_of};
-ghost use Rattle.qp_model.specs.problem.Box.{IsGridState};
-ghost use Rattle.qp_model.specs.problem.Parts.{design_of};
-ghost use Rattle.qp_model.specs.problem.Policy.{plans_of, IsPolicyFor};
-ghost use Rattle.policy_file.specs.StatesText.{IsStatesText};
-ghost use Rattle.design_maker.specs.Texts.{states_text};
+ghost use Rattle.qp_model.specs.problem.Policy.{plans_of};
+ghost use Rattle.design_maker.specs.Texts.{policy_text, states_text};
 ghost use Rattle.command_line.specs.Answers.{IsAnswer, IsCaused};
-ghost use Rattle.command_demo.specs.Demo.{DemoCalls, DemoPrints};
-ghost use Rattle.command_demo.specs.Making.{AreOnlyMade};
+ghost use Rattle.command_demo.specs.Demo.{demo_stages, DemoCalls, DemoPrints};
+ghost use Rattle.command_demo.specs.Making.{AreOnlyMade, AreReadOf};
 
 use crate::inputs::{Inputs, inputs_of};
 use crate::printing::print_text;
@@ -41,10 +36,7 @@ pub fn demo<O: Sink>(alloc: Global, number: u32, out: &mut O) -> Status
 
 // Makes a controller of these inputs, and prints the text. They are borrowed here, so that they end on one path alone.
 fn demo_of<O: Sink>(alloc: Global, inputs: &Inputs, out: &mut O) -> Status
-    requires sized { IsPolicyFor (design_of inputs.now.design) (plans_of inputs.now.policy) }
-    requires states { IsStatesText states_text (design_of inputs.now.design).states inputs.now.states }
-    requires some { 0 < length inputs.now.states.rows }
-    requires inside { (e : ℕ) → e < length inputs.now.states.rows → IsGridState (design_of inputs.now.design) (at (row_of inputs.now.states e)) }
+    requires { AreReadOf (policy_text demo_stages) states_text inputs.now }
     ensures called { (number : ℕ) → AreOnlyMade number inputs.now.design (plans_of inputs.now.policy) →
         IsCaused result → IsAnswer (DemoCalls number) result }
     ensures prints { (number : ℕ) → AreOnlyMade number inputs.now.design (plans_of inputs.now.policy)

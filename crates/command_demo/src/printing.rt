@@ -1,5 +1,5 @@
 // The text that is printed.
-ghost use Rattle.std.specs.Prelude.{◌≡◌, ◌⊎◌, ◌≤◌, ◌<◌, length, IfSome, IsSomeAnd};
+ghost use Rattle.std.specs.Prelude.{◌≡◌, ◌⊎◌, ◌≤◌, ◌<◌, ◌^◌, length, IfSome, IsSomeAnd};
 ghost use Rattle.io_edge.specs.Faults.{Rose};
 ghost use Rattle.qp_model.specs.bounds.Printed.{printed};
 ghost use Rattle.plan_lines.specs.Inside.{AreInside};
@@ -25,6 +25,8 @@ pub fn print_text<O: Sink>(
 ) -> Status
     requires inside { AreInside controller.now states.now (length states.now.rows) }
     requires some { 0 < length states.now.rows }
+    requires width { states.now.cols ≡ controller.now.states }
+    requires count { length states.now.rows < 2 ^ 32 }
     ensures only { (result ≡ Status.Memory) ⊎ ((result ≡ Status.Done) ⊎ (result ≡ Status.WriteFault 0)) }
     ensures printed { IfSome (O.got out.old) (λ old. IsSomeAnd (O.got out.new) (IsTextPrinted controller.now (printed bounds.now) states.now result old)) }
     ensures failed { result ≡ Status.WriteFault 0 → Rose (O.faults out.old) (O.faults out.new) }

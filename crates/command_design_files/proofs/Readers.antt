@@ -1,15 +1,20 @@
 -- A file that is read, and judged by the reader of its text.
 use Rattle.std.proofs.Common.{◌≡◌, ◌≢◌, ◌⊎◌, inl, inr, ℕ, ◌+◌, ◌<◌, ◌≤◌, List, length, Option, Some, None, Result, Ok, Err, refl, sym, ap, ◌∙◌, subst, arith, replicate}
 use Rattle.std.proofs.lemmas.List.{length-replicate}
-use Rattle.std.specs.Prelude.{IfSome, IsSomeAnd}
-use Rattle.io_edge.specs.Faults.{Files, Rose}
+use Rattle.std.specs.Prelude.{IfSome, IsSomeAnd, IfOk, IfErr, IsOkAnd, MatchResult}
+use Rattle.io_edge.specs.Faults.{Files}
+use Rattle.io_edge.specs.declared.store.Store.{Ghosts as Disk}
 use Rattle.number_text.specs.declared.text_fault.TextFault.{TextFault}
 use Rattle.number_text.specs.declared.text_fault.TextFault.TheVariants.{Memory as no_room}
 use Rattle.controller_text.specs.declared.bad_controller.BadController.{BadController}
 use Rattle.controller_text.specs.declared.bad_controller.BadController.TheVariants.{Memory as no_space}
 use Rattle.command_line.specs.Answers.{IsTold, FileHolds, IsFileRefused, IsRightFor, IsWrongBy, EndsReading}
+use Rattle.command_line.specs.Kind.{Kind, EndsRead, Passes, ReadsFile}
+use Rattle.command_line.specs.Limit.{file_limit}
 use Rattle.command_line.specs.declared.status.Status.{Status}
-use Rattle.command_line.specs.declared.status.Status.TheVariants.{Memory, ReadFault, Text, Controller, Long}
+use Rattle.command_line.specs.declared.status.Status.TheVariants.{Text, Controller, Long}
+use Rattle.command_design_files.specs.Texts.{TellsFault, TextWrong, TellsBy, TellsText, IsToldBy}
+use Rattle.command_design_files.specs.Reading.{IsUnread}
 
 -- the store holds these bytes under the name, as far as it tells
 abbrev pub HeldBytes : Option Files → (name bytes : List ℕ) → Type 0
@@ -71,13 +76,6 @@ module _ {X : Type 0} (limit file : ℕ) (Wrong : List ℕ → Status → Type 0
       only t (inl far) = far.is
       only t (inr holds) = absurd (clash limit here.content here.bytes (λ bytes. Wrong bytes t) here.is here.longer holds)
 
-  -- a file whose bytes were not read
-  pub ends_unread : (before now : ℕ) (e : Status) → (e ≡ Memory) ⊎ ((e ≡ ReadFault file) ⊎ (e ≡ Long file)) → (e ≡ ReadFault file → Rose before now) → (e ≡ Long file → LongFile limit held name) →
-      EndsReading {X = X} limit file Wrong Right held name before now e
-  ends_unread before now e (inl memory) failed long = inl memory
-  ends_unread before now e (inr (inl fault)) failed long = inr (inl (fault, failed fault))
-  ends_unread before now e (inr (inr far)) failed long = inr (inr (subst (λ (s : Status). IsWrongBy {X = X} limit file Wrong Right held name s) (sym far) (long_wrong (long far))))
-
   -- ---- bytes within the limit
   module _ (bytes : List ℕ) (known : HeldBytes held name bytes) (short : length bytes ≤ limit) where
     here_only : (P : List ℕ → Type 0) → FileHolds limit P (Some bytes) → P bytes
@@ -109,79 +107,114 @@ module _ {X : Type 0} (limit file : ℕ) (Wrong : List ℕ → Status → Type 0
         only t (inl far) = absurd (let same : far.bytes ≡ bytes = cc far.held in omega (arith, short, far.longer, ap length same))
         only t (inr holds) = one t (here_only (λ b. Wrong b t) holds)
 
--- ---- a text with a fault
+-- ---- a file whose bytes were not read
+ends_unread : (k : Kind) (file : ℕ) (held : Option Files) (name : List ℕ) (before now : ℕ) (e : Status) → IsUnread k.limit file held name before now e → EndsRead k file held name before now e
+ends_unread k file held name before now e (inl memory) = inl memory
+ends_unread k file held name before now e (inr (inl fault)) = inr (inl fault)
+ends_unread k file held name before now e (inr (inr far)) =
+    inr (inr (subst (λ (s : Status). IsWrongBy {X = k.Value} k.limit file (k.wrong file) k.right held name s) (sym far.0) (long_wrong k.limit file (k.wrong file) k.right held name far.1)))
+
+module _ {S X : Type 0} {disk : Disk S} {k : Kind} {file : ℕ} {name : List ℕ} {seen : X → k.Value} {before now : S} where
+  pub unread : (e : Status) → IsUnread k.limit file (disk.held before) name (disk.read_faults before name) (disk.read_faults now name) e → Passes disk before now →
+      ReadsFile disk k file name seen (Err e) before now
+  unread e why passes = record { right = tt; ends = ends_unread k file (disk.held before) name _ _ e why; passes = passes }
+
+-- ---- bytes that are judged by the reader of a text
 -- the statuses that say a fault of the bytes
 abbrev pub WrongBy : {F : Type 0} (Fault : List ℕ → F → Type 0) (Says : F → Status → Type 0) → List ℕ → Status → Type 0
 WrongBy {F} Fault Says bytes s = (fault : F) × Fault bytes fault × Says fault s
-
--- the status that a reader made of a fault: out of memory, or what says the fault
-abbrev pub Told : {F : Type 0} (none : F) (tell : F → Status) (fault : F) → Status → Type 0
-Told none tell fault s = ((s ≡ Memory) × (fault ≡ none)) ⊎ ((s ≡ tell fault) × (fault ≢ none))
 
 -- what says a fault, where that isn't out of memory, is one status
 pub record IsSaidBy {F : Type 0} (none : F) (tell : F → Status) (Says : F → Status → Type 0) : Type 0 where
   pub says : (fault : F) → fault ≢ none → Says fault (tell fault)
   pub said : (fault : F) (s : Status) → Says fault s → s ≡ tell fault
 
--- the status of a text's fault
-abbrev pub SaysText : ℕ → TextFault → Status → Type 0
-SaysText file fault s = (fault ≢ no_room) × (s ≡ Text file fault)
-
-pub text_said : (file : ℕ) → IsSaidBy no_room (Text file) (SaysText file)
+text_said : (file : ℕ) → IsSaidBy no_room (Text file) (TellsFault file)
 text_said file = record { says = λ fault some. (some, refl); said = λ fault s is. is.1 }
 
--- and of why bytes are no controller's text
+-- and why bytes are no controller's text
 abbrev pub SaysController : ℕ → BadController → Status → Type 0
 SaysController file fault s = s ≡ Controller file fault
 
 pub controller_said : (file : ℕ) → IsSaidBy no_space (Controller file) (SaysController file)
 controller_said file = record { says = λ fault some. refl; said = λ fault s is. is }
 
-module _ {X F : Type 0} (limit file : ℕ) (Fault : List ℕ → F → Type 0) (none : F) (tell : F → Status) (Says : F → Status → Type 0) (by : IsSaidBy none tell Says) (Right : X → List ℕ → Type 0)
-    (held : Option Files) (name bytes : List ℕ) (known : HeldBytes held name bytes) (short : length bytes ≤ limit) where
-  -- a reader that answers a fault
-  pub ends_fault : (before now : ℕ) (fault : F) (s : Status) → Told none tell fault s → (fault ≡ none) ⊎ Fault bytes fault → ((other : F) → Fault bytes other → (fault ≡ other) ⊎ (fault ≡ none)) →
-      ((x : X) → Right x bytes → fault ≡ none) → EndsReading {X = X} limit file (WrongBy Fault Says) Right held name before now s
-  ends_fault before now fault s (inl memory) is first refused = inl memory.0
-  ends_fault before now fault s (inr known_fault) (inl memory) first refused = absurd (known_fault.1 memory)
-  ends_fault before now fault s (inr known_fault) (inr is) first refused =
-      inr (inr (wrong_bytes limit file (WrongBy Fault Says) Right held name bytes known short s (fault, is, says) only (λ x right. known_fault.1 (refused x right))))
+-- what the reader of a text says of the bytes, both ways
+pub record IsJudged {X V T F : Type 0} (Right : X → List ℕ → Type 0) (view : X → V) (Fault : List ℕ → F → Type 0) (none : F) (seen : T → X) (bytes : List ℕ) (p : Result T F) : Type 0 where
+  pub found : IfOk p (λ x. Right (seen x) bytes)
+  pub fault : IfErr p (λ e. (e ≡ none) ⊎ Fault bytes e)
+  pub right : (y : X) → Right y bytes → MatchResult p (λ x. view (seen x) ≡ view y) (λ e. e ≡ none)
+  pub first : (other : F) → Fault bytes other → MatchResult p (λ x. ⊥) (λ e. (e ≡ other) ⊎ (e ≡ none))
+
+module _ {S X V T F : Type 0} (disk : Disk S) (limit file : ℕ) (name : List ℕ) (Right : X → List ℕ → Type 0) (view : X → V) (Fault : List ℕ → F → Type 0) (none : F) (tell : F → Status)
+    (Says : ℕ → F → Status → Type 0) (by : IsSaidBy none tell (Says file)) (seen : T → X) (before now : S) (bytes : List ℕ) (known : HeldBytes (disk.held before) name bytes) (short : length bytes ≤ limit)
+    (passes : Passes disk before now) where
+  abbrev its_kind : Kind
+  its_kind = record { Value = X; Seen = V; view = view; limit = limit; right = Right; wrong = λ at. WrongBy Fault (Says at) }
+
+  -- a fault that isn't out of memory
+  faulty : (fault : F) (s : Status) → s ≡ tell fault → fault ≢ none → Fault bytes fault → ((other : F) → Fault bytes other → (fault ≡ other) ⊎ (fault ≡ none)) → ((x : X) → Right x bytes → fault ≡ none) →
+      IsWrongBy {X = X} limit file (WrongBy Fault (Says file)) Right (disk.held before) name s
+  faulty fault s told some is first refused =
+      wrong_bytes limit file (WrongBy Fault (Says file)) Right (disk.held before) name bytes known short s (fault, is, subst (λ (t : Status). Says file fault t) (sym told) (by.says fault some)) only
+      (λ x right. some (refused x right))
     where
-      says : Says fault s
-      says = subst (λ (t : Status). Says fault t) (sym known_fault.0) (by.says fault known_fault.1)
-
       same : (other : F) (t : Status) → t ≡ tell other → (fault ≡ other) ⊎ (fault ≡ none) → t ≡ s
-      same other t told (inl is) = told ∙ ap tell (sym is) ∙ sym known_fault.0
-      same other t told (inr memory) = absurd (known_fault.1 memory)
+      same other t its (inl is) = its ∙ ap tell (sym is) ∙ sym told
+      same other t its (inr memory) = absurd (some memory)
 
-      only : (t : Status) → WrongBy Fault Says bytes t → t ≡ s
+      only : (t : Status) → WrongBy Fault (Says file) bytes t → t ≡ s
       only t why = same why.0 t (by.said why.0 t why.2) (first why.0 why.1)
 
-  -- a reader that answers what the text is of
-  pub right_text : {V : Type 0} (view : X → V) (x : X) → Right x bytes → ((y : X) → Right y bytes → view y ≡ view x) → ((fault : F) → Fault bytes fault → ⊥) →
-      IsRightFor {X = X} {V = V} limit file (WrongBy Fault Says) Right view held name x
-  right_text view x right one never = right_bytes limit file (WrongBy Fault Says) Right held name bytes known short view x right one (λ s why. never why.0 why.1)
+  ended : (fault : F) (s : Status) → TellsBy none tell fault s → (fault ≡ none) ⊎ Fault bytes fault → ((other : F) → Fault bytes other → (fault ≡ other) ⊎ (fault ≡ none)) →
+      ((x : X) → Right x bytes → fault ≡ none) → EndsRead its_kind file (disk.held before) name (disk.read_faults before name) (disk.read_faults now name) s
+  ended fault s (inl memory) is first refused = inl memory.0
+  ended fault s (inr known_fault) (inl memory) first refused = absurd (known_fault.1 memory)
+  ended fault s (inr known_fault) (inr is) first refused = inr (inr (faulty fault s known_fault.0 known_fault.1 is first refused))
+
+  pub judged : (p : Result T F) (r : Result T Status) → IsToldBy (TellsBy none tell) p r → IsJudged Right view Fault none seen bytes p → ReadsFile disk its_kind file name seen r before now
+  judged (Ok x) (Ok y) told is = subst (λ (t : T). ReadsFile disk its_kind file name seen (Ok t) before now) (let same : x ≡ y = cc in same) (record {
+    right = right_bytes limit file (WrongBy Fault (Says file)) Right (disk.held before) name bytes known short view (seen x) is.found (λ y right. sym (is.right y right)) (λ s why. is.first why.0 why.1);
+    ends = tt;
+    passes = passes;
+  })
+  judged (Ok x) (Err e) told is = absurd (let never : ⊥ = cc in never)
+  judged (Err fault) (Ok y) told is = absurd told
+  judged (Err fault) (Err e) told is = record { right = tt; ends = ended fault e told is.fault is.first is.right; passes = passes }
+
+-- a text of a kind that is refused by its first fault
+pub read_text : {S X V T : Type 0} (disk : Disk S) (file : ℕ) (name : List ℕ) (Right : X → List ℕ → Type 0) (view : X → V) (Fault : List ℕ → TextFault → Type 0) (seen : T → X) (before now : S) (bytes : List ℕ) →
+    HeldBytes (disk.held before) name bytes → length bytes ≤ file_limit → Passes disk before now → (p : Result T TextFault) (r : Result T Status) → IsToldBy (TellsText file) p r →
+    IsJudged Right view Fault no_room seen bytes p → ReadsFile disk (record { Value = X; Seen = V; view = view; limit = file_limit; right = Right; wrong = TextWrong Fault }) file name seen r before now
+read_text disk file name Right view Fault seen before now bytes known short passes p r told is =
+    judged disk file_limit file name Right view Fault no_room (Text file) TellsFault (text_said file) seen before now bytes known short passes p r told is
+
+-- what else is known of what was read
+pub still : {T F : Type 0} (Tells : F → Status → Type 0) (P : T → Type 0) (p : Result T F) (r : Result T Status) → IsToldBy Tells p r → IfOk p P → IfOk r P
+still Tells P (Ok x) r told is = rw told is
+still Tells P (Err fault) (Ok y) told is = absurd told
+still Tells P (Err fault) (Err e) told is = tt
 
 -- ---- what a reader says both ways
 -- an answer that is no error
-pub ok_or : {D E : Type 0} (d : D) (e : E) (Q : Type 0) → (Ok d ≡ Err e) ⊎ Q → Q
-ok_or d e Q (inl clash) = absurd (let never : ⊥ = cc in never)
-ok_or d e Q (inr q) = q
-
 pub ok_never : {D E : Type 0} (d : D) (e other : E) → (Ok d ≡ Err e) ⊎ (Ok d ≡ Err other) → ⊥
-ok_never d e other (inl clash) = cc
-ok_never d e other (inr clash) = cc
+ok_never d e other (inl never) = cc
+ok_never d e other (inr never) = cc
 
 -- two errors are the same answer
 abbrev pub AreSame : (D E : Type 0) → E → E → Type 0
 AreSame D E fault other = ◌≡◌ {A = Result D E} (Err fault) (Err other)
 
--- an error that is one of two
-pub err_or : {D E : Type 0} (fault none other : E) → AreSame D E fault none ⊎ AreSame D E fault other → (fault ≡ other) ⊎ (fault ≡ none)
-err_or fault none other (inl is) = inr cc
-err_or fault none other (inr is) = inl cc
+-- a value that is right, or out of memory
+pub right_or : {D E : Type 0} {none : E} (P : D → Type 0) (p : Result D E) → (p ≡ Err none) ⊎ IsOkAnd p P → MatchResult p P (λ e. e ≡ none)
+right_or P (Ok d) (inl other) = absurd (let never : ⊥ = cc in never)
+right_or P (Ok d) (inr is) = is
+right_or P (Err e) (inl is) = cc
+right_or P (Err e) (inr never) = absurd never
 
--- an error, where a value is none
-pub err_or_none : {D E : Type 0} (fault none : E) (Q : Type 0) → (Q → ⊥) → AreSame D E fault none ⊎ Q → fault ≡ none
-err_or_none fault none Q never (inl is) = cc
-err_or_none fault none Q never (inr q) = absurd (never q)
+-- a fault that is the first, or out of memory
+pub fault_or : {D E : Type 0} {none other : E} (p : Result D E) → (p ≡ Err none) ⊎ (p ≡ Err other) → MatchResult p (λ d. ⊥) (λ e. (e ≡ other) ⊎ (e ≡ none))
+fault_or (Ok d) (inl never) = cc
+fault_or (Ok d) (inr never) = cc
+fault_or (Err e) (inl is) = inr cc
+fault_or (Err e) (inr is) = inl cc

@@ -1,6 +1,7 @@
 // The bytes of a file.
-ghost use Rattle.std.specs.Prelude.{◌≡◌, ◌⊎◌, ℕ, ◌≤◌, ◌<◌, Some, length, IfOk, IfErr, IfSome, IsErrOf, IsSomeAnd};
-ghost use Rattle.io_edge.specs.Faults.{Rose, NoneFalls};
+ghost use Rattle.std.specs.Prelude.{◌≡◌, ◌≤◌, Some, length, IfOk, IfErr, IfSome};
+ghost use Rattle.command_line.specs.Kind.{Passes};
+ghost use Rattle.command_design_files.specs.Reading.{IsUnread};
 
 use command_line::Status;
 use io_edge::{ReadRefusal, Store};
@@ -19,12 +20,8 @@ pub fn read_bytes<S: Store>(
 ) -> Result<Vec<u8>, Status>
     ensures short { IfOk result (λ bytes. length bytes.items ≤ limit) }
     ensures told { IfOk result (λ bytes. IfSome (S.held store.old) (λ files. files name.now ≡ Some bytes.items)) }
-    ensures long { IsErrOf result (Status.Long file) → IfSome (S.held store.old) (λ files. IsSomeAnd (files name.now) (λ bytes. limit < length bytes)) }
-    ensures failed { IsErrOf result (Status.ReadFault file) → Rose (S.read_faults store.old name.now) (S.read_faults store.new name.now) }
-    ensures only { IfErr result (λ e. (e ≡ Status.Memory) ⊎ ((e ≡ Status.ReadFault file) ⊎ (e ≡ Status.Long file))) }
-    ensures held { S.held store.new ≡ S.held store.old }
-    ensures reads { NoneFalls (S.read_faults store.old) (S.read_faults store.new) }
-    ensures writes { NoneFalls (S.write_faults store.old) (S.write_faults store.new) }
+    ensures ends { IfErr result (IsUnread limit file (S.held store.old) name.now (S.read_faults store.old name.now) (S.read_faults store.new name.now)) }
+    ensures passes { Passes S.Store store.old store.new }
 {
     match store.read_all(alloc, name, limit) {
         Ok(bytes) => Ok(bytes),

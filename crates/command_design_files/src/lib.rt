@@ -2,11 +2,9 @@
 #![tactic(auto)]
 
 mod bytes;
-mod design;
-mod policy;
+mod files;
 mod statuses;
 
 pub use bytes::{FILE_LIMIT, read_bytes};
-pub use design::read_design_file;
-pub use policy::read_policy_file;
-pub use statuses::{controller_status, text_status};
+pub use files::{read_design_file, read_policy_file};
+pub use statuses::{told_controller, told_text};

@@ -1,44 +1,34 @@
--- What a reader of controllers says of a fault.
-use Rattle.std.proofs.Common.{◌≡◌, ◌⊎◌, inl, inr, ℕ, Ok, Err, refl}
+-- What a reader of controllers says of the bytes, both ways.
+use Rattle.std.proofs.Common.{◌≡◌, ◌⊎◌, inl, inr, ℕ, List, Result, Ok, Err, refl, sym}
+use Rattle.std.specs.Prelude.{IfOk, IfErr, MatchResult}
 use Rattle.controller_text.specs.declared.bad_controller.BadController.{BadController}
 use Rattle.controller_text.specs.declared.bad_controller.BadController.TheVariants.{Line, Unsafe, Memory}
 use Rattle.command_files.specs.Texts.{IsFaultBy}
-use Rattle.command_design_files.proofs.Readers.{AreSame}
+use Rattle.command_design_files.proofs.Readers.{IsJudged, ok_never}
 
-module _ {D : Type 0} (IsBad : ℕ → Type 0) (IsWide : Type 0) where
+-- an error that is the first, or out of memory
+same : {T : Type 0} (p : Result T BadController) (other : BadController) → (p ≡ Err other) ⊎ (p ≡ Err Memory) → MatchResult p (λ x. ⊥) (λ e. (e ≡ other) ⊎ (e ≡ Memory))
+same (Ok x) other is = ok_never x other Memory is
+same (Err e) other (inl is) = inl cc
+same (Err e) other (inr is) = inr cc
+
+module _ {T : Type 0} (IsBad : List ℕ → ℕ → Type 0) (IsWide : List ℕ → Type 0) (bytes : List ℕ) (p : Result T BadController) where
   -- the fault is that of the bytes
-  pub controller_fault : (fault : BadController) → ((l : ℕ) → AreSame D BadController fault (Line l) → IsBad l) → (AreSame D BadController fault Unsafe → IsWide) →
-      (fault ≡ Memory) ⊎ IsFaultBy IsBad IsWide fault
-  controller_fault (Line l) line wide = inr (line l refl)
-  controller_fault Unsafe line wide = inr (wide refl)
-  controller_fault Memory line wide = inl refl
+  its_fault : (r : Result T BadController) → ((l : ℕ) → r ≡ Err (Line l) → IsBad bytes l) → (r ≡ Err Unsafe → IsWide bytes) → IfErr r (λ e. (e ≡ Memory) ⊎ IsFaultBy IsBad IsWide bytes e)
+  its_fault (Ok x) line wide = tt
+  its_fault (Err (Line l)) line wide = inr (line l refl)
+  its_fault (Err Unsafe) line wide = inr (wide refl)
+  its_fault (Err Memory) line wide = inl refl
 
   -- and the only one
-  pub one_fault : (fault other : BadController) → ((l : ℕ) → IsBad l → (AreSame D BadController fault (Line l)) ⊎ (AreSame D BadController fault Memory)) →
-      (IsWide → (AreSame D BadController fault Unsafe) ⊎ (AreSame D BadController fault Memory)) → IsFaultBy IsBad IsWide other → (fault ≡ other) ⊎ (fault ≡ Memory)
-  one_fault fault (Line l) line wide is = which (Line l) (line l is)
-    where
-      which : (other : BadController) → (AreSame D BadController fault other) ⊎ (AreSame D BadController fault Memory) → (fault ≡ other) ⊎ (fault ≡ Memory)
-      which other (inl same) = inl cc
-      which other (inr same) = inr cc
-  one_fault fault Unsafe line wide is = which (wide is)
-    where
-      which : (AreSame D BadController fault Unsafe) ⊎ (AreSame D BadController fault Memory) → (fault ≡ Unsafe) ⊎ (fault ≡ Memory)
-      which (inl same) = inl cc
-      which (inr same) = inr cc
-  one_fault fault Memory line wide is = absurd is
+  first_fault : ((l : ℕ) → IsBad bytes l → (p ≡ Err (Line l)) ⊎ (p ≡ Err Memory)) → (IsWide bytes → (p ≡ Err Unsafe) ⊎ (p ≡ Err Memory)) → (other : BadController) → IsFaultBy IsBad IsWide bytes other →
+      MatchResult p (λ x. ⊥) (λ e. (e ≡ other) ⊎ (e ≡ Memory))
+  first_fault line wide (Line l) is = same p (Line l) (line l is)
+  first_fault line wide Unsafe is = same p Unsafe (wide is)
+  first_fault line wide Memory is = absurd is
 
-  -- what is right has none
-  pub no_fault : (d : D) (fault : BadController) → ((l : ℕ) → IsBad l → (Ok d ≡ Err (Line l)) ⊎ (Ok d ≡ Err Memory)) →
-      (IsWide → (Ok d ≡ Err Unsafe) ⊎ (Ok d ≡ Err Memory)) → IsFaultBy IsBad IsWide fault → ⊥
-  no_fault d (Line l) line wide is = never (Line l) (line l is)
-    where
-      never : (e : BadController) → (Ok d ≡ Err e) ⊎ (Ok d ≡ Err Memory) → ⊥
-      never e (inl same) = cc
-      never e (inr same) = cc
-  no_fault d Unsafe line wide is = never (wide is)
-    where
-      never : (Ok d ≡ Err Unsafe) ⊎ (Ok d ≡ Err Memory) → ⊥
-      never (inl same) = cc
-      never (inr same) = cc
-  no_fault d Memory line wide is = is
+  pub controllers_judged : {X : Type 0} (Right : X → List ℕ → Type 0) (seen : T → X) → IfOk p (λ x. Right (seen x) bytes) → ((l : ℕ) → p ≡ Err (Line l) → IsBad bytes l) → (p ≡ Err Unsafe → IsWide bytes) →
+      ((y : X) → Right y bytes → MatchResult p (λ x. seen x ≡ y) (λ e. e ≡ Memory)) → ((l : ℕ) → IsBad bytes l → (p ≡ Err (Line l)) ⊎ (p ≡ Err Memory)) → (IsWide bytes → (p ≡ Err Unsafe) ⊎ (p ≡ Err Memory)) →
+      IsJudged Right (λ x. x) (IsFaultBy IsBad IsWide) Memory seen bytes p
+  controllers_judged Right seen found line wide right bad_first bad_sums =
+      record { found = found; fault = its_fault p line wide; right = right; first = first_fault bad_first bad_sums }

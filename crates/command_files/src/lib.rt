@@ -2,19 +2,10 @@
 #![tactic(auto)]
 
 mod cell_policies;
-mod cells;
-mod controller;
-mod cuts;
-mod faces;
-mod shift_range;
-mod states;
-mod turn_shifts;
+mod files;
 
 pub use cell_policies::read_cell_policies_file;
-pub use cells::{CELLS_LIMIT, read_cells_file};
-pub use controller::read_controller_file;
-pub use cuts::read_cuts_file;
-pub use faces::read_faces_file;
-pub use shift_range::read_range_file;
-pub use states::read_states_file;
-pub use turn_shifts::read_shifts_file;
+pub use files::{
+    CELLS_LIMIT, read_cells_file, read_controller_file, read_cuts_file, read_faces_file,
+    read_range_file, read_shifts_file, read_states_file,
+};

@@ -8,29 +8,16 @@ use Rattle.command_line.specs.Status.{status_of}
 use Rattle.command_line.specs.Answers.{IsAnswer}
 use Rattle.command_line.specs.Does.{IsTelling}
 use Rattle.command_line.specs.TwoTexts.{IsUnmade}
-use Rattle.command_line.proofs.Doing.{IsRefusal, done_telling}
+use Rattle.command_line.proofs.Doing.{IsRefusal, done_telling, sort_of, plain_refusal}
 use Rattle.command_line.proofs.TwoTexts.{unmade_memory, unmade}
-use Rattle.command_generate.specs.Made.{IsRefusedFor, PassesWith, CallsFor}
+use Rattle.command_generate.specs.Made.{IsCausedRefusal, PassesWith, CallsFor}
 use Rattle.command_line.specs.declared.status.Status.{Status}
-use Rattle.command_line.specs.declared.status.Status.TheVariants.{Done, Refused}
+use Rattle.command_line.specs.declared.status.Status.TheVariants.{Done}
 
 -- ---- a refusal's status
-pub told_refusal : (r : Refusal) (s : Status) → s ≡ Refused r → IsRefusal s
-told_refusal r s is = record {
-  done = λ e. cc;
-  memory = λ e. cc;
-  read = λ f e. cc;
-  write = λ f e. cc;
-  telling = record { usage = λ e. cc; text = λ f e. cc; controller = λ f e. cc };
-}
-
 pub refusal_of : (r : Refusal) (s : Status) → s ≡ status_of r → r ≢ refusals.Memory → IsRefusal s
 refusal_of refusals.Memory s is other = absurd (other refl)
-refusal_of (refusals.NoMargin corner row slack) s is other = told_refusal _ s is
-refusal_of refusals.Curvature s is other = told_refusal _ s is
-refusal_of (refusals.TooManySteps k) s is other = told_refusal _ s is
-refusal_of (refusals.TooFine eps) s is other = told_refusal _ s is
-refusal_of (refusals.TooWide quantity) s is other = told_refusal _ s is
+refusal_of r s is other = plain_refusal s (ap sort_of is)
 
 -- ---- a generator, for which out of memory has no cause
 module _ (Cause : Refusal → Type 0) (All : Margin → (s f : ℕ) → Type 0) (no_memory : Cause refusals.Memory → ⊥) where
@@ -38,7 +25,7 @@ module _ (Cause : Refusal → Type 0) (All : Margin → (s f : ℕ) → Type 0) 
   not_memory : (r : Refusal) → Cause r → r ≢ refusals.Memory
   not_memory r cause is = no_memory (subst Cause is cause)
 
-  pub refused_for : (s : Status) → IsRefusedFor Cause s → IsRefusal s
+  pub refused_for : (s : Status) → IsCausedRefusal Cause s → IsRefusal s
   refused_for s why = refusal_of why.refusal s why.is (not_memory why.refusal why.cause)
 
   pub making_telling : (s : Status) → CallsFor Cause All s → IsTelling s

@@ -8,6 +8,7 @@ use Rattle.qp_model.specs.bounds.Printed.{Printed}
 use Rattle.qp_model.specs.text.ControllerText.{IsControllerText}
 use Rattle.design_engine.specs.Targets.{targets_of}
 use Rattle.design_engine.specs.Refusals.{HasCause, PassesAll}
+use Rattle.design_engine.proofs.CauseLaws.{memory_apart}
 use Rattle.controller_text.proofs.Lengths.{text_length_law}
 use Rattle.command_line.specs.Words.{word_of}
 use Rattle.command_line.specs.Limit.{file_limit}
@@ -17,7 +18,7 @@ use Rattle.command_line.proofs.Gathering.{whole}
 use Rattle.command_line.proofs.Following.{IsSoundWork, left_told}
 use Rattle.command_line.proofs.TwoTexts.{some_weaker}
 use Rattle.command_design_files.specs.Reading.{policy_kind}
-use Rattle.command_design_files.proofs.Stopping.{design_refused, policy_refused}
+use Rattle.command_design_files.proofs.Stopping.{text_refused}
 use Rattle.command_generate.specs.Made.{CallsFor, IsMadeOf, AreTextsOf}
 use Rattle.command_generate.specs.Generate.{generate_act, generate_work, IsMadeFrom, AreMadeAndWritten, IsGenerated}
 use Rattle.command_generate.proofs.Making.{making_telling}
@@ -30,10 +31,10 @@ pub generate_sound : IsSoundWork generate_work
 generate_sound = record {
   sound = (
     omega arith,
-    design_refused 1,
+    text_refused 1,
     λ p q same contents s.
         along (λ d t. calls_of (reads 2 (policy_kind d) (λ plans. ends (writing_act (CallsFor (HasCause d t plans) (PassesAll d t plans)) ⊥ (λ words u old new. ⊥)))) contents s) p q same,
-    λ p. (omega arith, policy_refused (design_of p) 2, whole (λ plans. ends (generate_act p plans)), λ plans. making_telling (HasCause (design_of p) (targets_of p) plans) _ (λ never. never)),
+    λ p. (omega arith, text_refused 2, whole (λ plans. ends (generate_act p plans)), λ plans. making_telling (HasCause (design_of p) (targets_of p) plans) _ (memory_apart (design_of p) (targets_of p) plans)),
   );
   first = inl refl;
 }

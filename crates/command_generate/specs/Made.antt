@@ -20,7 +20,7 @@ use Rattle.command_line.specs.declared.status.Status.TheVariants.{Done}
 
 -- ---- the answer of a generator, by the causes of its refusals and by what passes all its tests
 -- refused, by the first test that fails
-pub record IsRefusedFor (Cause : Refusal → Type 0) (s : Status) : Type 0 where
+pub record IsCausedRefusal (Cause : Refusal → Type 0) (s : Status) : Type 0 where
   pub refusal : Refusal
   pub cause : Cause refusal
   pub is : s ≡ status_of refusal
@@ -34,7 +34,7 @@ pub record PassesWith (All : Margin → (s f : ℕ) → Type 0) : Type 0 where
 
 -- the one or the other is called for
 abbrev pub CallsFor : (Cause : Refusal → Type 0) → (All : Margin → (s f : ℕ) → Type 0) → Status → Type 0
-CallsFor Cause All s = IsRefusedFor Cause s ⊎ ((s ≡ Done) × PassesWith All)
+CallsFor Cause All s = IsCausedRefusal Cause s ⊎ ((s ≡ Done) × PassesWith All)
 
 -- what a design with a policy calls for
 abbrev pub MakingCalls : DesignParts → Plans → Status → Type 0

@@ -1,6 +1,5 @@
 -- A certified controller that a file holds, solved from grid states of its design's box.
-use Rattle.std.proofs.Common.{◌≡◌, ◌∙◌, inl, inr, ℕ, ◌<◌, ◌≤◌, List, length, Option, Some, refl, sym, ap, subst, arith}
-use Rattle.std.proofs.lemmas.List.{append-nil}
+use Rattle.std.proofs.Common.{◌≡◌, ◌∙◌, inr, ℕ, ◌<◌, ◌≤◌, List, length, Option, Some, refl, sym, ap, subst}
 use Rattle.io_edge.specs.Faults.{Files}
 use Rattle.mat_int.specs.Matrix.{Matrix, row_of}
 use Rattle.qp_model.specs.problem.Design.{Design}
@@ -12,59 +11,45 @@ use Rattle.qp_model.specs.bounds.Certified.{IsCertified}
 use Rattle.qp_model.specs.bounds.Printed.{Printed}
 use Rattle.controller_file.proofs.Uniqueness.{one_controller}
 use Rattle.plan_lines.specs.Inside.{AreInside}
-use Rattle.plan_lines.specs.Printing.{ArePrinted, AreFirstLines, IsSolved, lines_of_plans}
-use Rattle.plan_lines.proofs.Acting.{nothing_shown, lines_shown}
+use Rattle.plan_lines.specs.Printing.{IsSolved, lines_of_plans}
+use Rattle.plan_lines.proofs.Acting.{lines_shown}
+use Rattle.plan_lines.proofs.PlanLines.{no_plan_yet}
+use Rattle.plan_lines.proofs.Holding.{all_shown}
 use Rattle.command_line.specs.Words.{word_of}
 use Rattle.command_line.specs.Limit.{file_limit}
-use Rattle.command_line.specs.Answers.{Contents, FileHolds}
+use Rattle.command_line.specs.Answers.{FileHolds}
 use Rattle.command_line.specs.Deeds.{IsCalledFor}
-use Rattle.command_line.specs.Script.{shows_of}
-use Rattle.command_line.proofs.Results.{both_some}
-use Rattle.command_line.proofs.Following.{called_told, shown_told}
+use Rattle.command_line.specs.Script.{calls_of}
+use Rattle.command_line.proofs.Following.{called_told}
 use Rattle.command_line.specs.declared.status.Status.{Status}
 use Rattle.command_line.specs.declared.status.Status.TheVariants.{Done}
 use Rattle.command_files.specs.Texts.{ControllerRight, StatesRight}
+use Rattle.command_files.specs.Reading.{controller_kind, states_kind}
 use Rattle.command_files.proofs.OneThing.{one_content, one_states}
-use Rattle.command_solve.specs.Solve.{HoldsRuns, solve_script}
+use Rattle.command_solve.specs.Solve.{HoldsRuns, solve_act, solve_script}
 use Rattle.command_solve.specs.Deeds.{solve_work, solve_deeds}
 use Rattle.command_laws.specs.Runs.{HasAnswered, HoldsGridStates, IsSolvedAsCertified}
 use Rattle.command_laws.specs.Laws.{GenerateSolveLaw, LeanSolveLaw}
-use Rattle.command_laws.proofs.States.{state_long, grid_state_held, done_where_called}
+use Rattle.command_laws.proofs.States.{state_long, grid_state_held}
 
 -- ---- what a file holds is one thing
 same_controller : (content : Option (List ℕ)) (a b : Numbers) → FileHolds file_limit (ControllerRight a) content → FileHolds file_limit (ControllerRight b) content → a ≡ b
 same_controller content a b x y = one_controller x.bytes a b x.right (subst (λ (bytes : List ℕ). ControllerRight b bytes) (one_content file_limit file_limit content x y) y.right)
 
--- what is printed of what two files hold is printed of these, if they hold them
-module _ (k : Contents) (c : Numbers) (states : Matrix) (holds : HoldsRuns (k 1) (k 2) c states) where
-  are_printed : (s : Status) (old new : List ℕ) → shows_of solve_script k s old new → ArePrinted c states s old new
-  are_printed s old new shown = by shown
-    where
-      none : (a : Numbers) (m : Matrix) → new ≡ old → AreFirstLines a m old new
-      none a m same = record { count = 0; some = omega arith; printed = same ∙ sym (append-nil old) }
-
-      by : shows_of solve_script k s old new → ArePrinted c states s old new
-      by (inl nothing) = nothing_shown (lines_of_plans c states) s old new (none c states) nothing
-      by (inr (a, right, inl nothing)) = nothing_shown (lines_of_plans c states) s old new (none c states) nothing
-      by (inr (a, right, inr (m, states_right, lines))) =
-          let one = same_controller (k 1) a c right holds.controller_right in
-          let width = subst (λ (x : Numbers). FileHolds file_limit (StatesRight x.states m) (k 2)) one states_right in
-          let other : m ≡ states = one_states c.states (k 2) m states width holds.states_right in
-          let printed = lines_shown (lines_of_plans a m) s old new (none a m) (AreInside a m (length m.rows)) lines in
-          subst (λ (x : Matrix). ArePrinted c x s old new) other (subst (λ (x : Numbers). ArePrinted x m s old new) one printed)
-
 -- ---- a run over files that hold a controller and states of its box
 module _ (words : List (List ℕ)) (files : Files) (c : Numbers) (states : Matrix) (holds : HoldsRuns (files (word_of words 1)) (files (word_of words 2)) c states) where
+  solve_done : calls_of solve_script (λ at. files (word_of words at)) Done
+  solve_done = inr (c, holds.controller_right, inr (states, holds.states_right, inr (refl, holds.inside)))
+
   solve_called : IsCalledFor solve_deeds words (Some files) Done
-  solve_called = called_told words Done files solve_work (inr (c, holds.controller_right, inr (states, holds.states_right, inr (refl, holds.inside))))
+  solve_called = called_told words Done files solve_work solve_done
 
   is_solved : (s : Status) (before now : Option (List ℕ)) → HasAnswered solve_deeds words (Some files) s before now → IsSolved c states s before now
-  is_solved s before now run = record {
-    done = done_where_called solve_deeds words files s before now run solve_called;
-    printed =
-        both_some (shows_of solve_script (λ at. files (word_of words at)) s) (ArePrinted c states s) (are_printed (λ at. files (word_of words at)) c states holds s) before now
-        (shown_told words s files solve_script before now run.prints);
-  }
+  is_solved s before now run =
+      let did = all_shown controller_kind (λ a. states_kind a.states) solve_act words files c states (λ a right. same_controller (files (word_of words 1)) a c right holds.controller_right)
+      (λ m right. one_states c.states (files (word_of words 2)) m states right holds.states_right) (lines_of_plans c states) (no_plan_yet c states) s
+      (λ old new. lines_shown (lines_of_plans c states) s old new (no_plan_yet c states old new) (AreInside c states (length states.rows))) before now solve_done run.called run.prints in
+      record { done = did.0; printed = did.1 }
 
 -- ---- a controller that is certified for a design, whose box is that of the design
 module _ (d : Design) (c : Numbers) (b : Printed) (sizes : HasSizesOf d c) (certified : IsCertified d c b) where

@@ -1,18 +1,13 @@
--- Grid states of a design's box lie in the box of its controller, and what is done where `Done` is called for.
-use Rattle.std.proofs.Common.{◌≡◌, ℕ, ◌<◌, ℤ, List, length, Option, Some, sym, ◌∙◌, arith}
+-- Grid states of a design's box lie in the box of its controller.
+use Rattle.std.proofs.Common.{◌≡◌, ℕ, ◌<◌, ℤ, List, length, Option, sym, ◌∙◌, arith}
 use Rattle.integer_algebra.specs.Sums.{at}
-use Rattle.io_edge.specs.Faults.{Files}
 use Rattle.mat_int.specs.Matrix.{Matrix, row_of}
 use Rattle.qp_model.specs.problem.Box.{IsGridState}
 use Rattle.qp_model.specs.problem.Design.{Design}
 use Rattle.qp_model.specs.machine.Controller.{Numbers}
 use Rattle.qp_model.specs.machine.Machine.{IsAdmissible}
 use Rattle.qp_model.specs.bounds.Built.{HasSizesOf}
-use Rattle.command_line.specs.Answers.{IsCaused}
-use Rattle.command_line.specs.Deeds.{Deeds, IsCalledFor}
-use Rattle.command_line.specs.declared.status.Status.{Status}
-use Rattle.command_line.specs.declared.status.Status.TheVariants.{Done}
-use Rattle.command_laws.specs.Runs.{HasAnswered, HoldsGridStates}
+use Rattle.command_laws.specs.Runs.{HoldsGridStates}
 
 pub state_long : (d : Design) (content : Option (List ℕ)) (states : Matrix) → HoldsGridStates d content states → (e : ℕ) → e < length states.rows → length (row_of states e) ≡ d.states
 state_long d content states holds e lt = let text = holds.states_right.right in (text.each e (omega (arith, lt, text.rows))).numbers
@@ -22,10 +17,3 @@ grid_state_held d c sizes xi long inside = record {
   long = long ∙ sym sizes.states;
   each = λ i l. let m : i < d.states = omega (arith, l, sizes.states) in record { low = rw (sizes.low i m) (inside i m).0; high = rw (sizes.high i m) (inside i m).1 };
 }
-
--- where `Done` is called for, all is done but for want of memory and faults
-pub done_where_called : (deeds : Deeds) (words : List (List ℕ)) (files : Files) (s : Status) (before now : Option (List ℕ)) → HasAnswered deeds words (Some files) s before now →
-    IsCalledFor deeds words (Some files) Done → IsCaused s → s ≡ Done
-done_where_called deeds words files s before now run called caused =
-    let found = run.called caused in
-    sym (found.true_of.only Done (called found.contents found.told))

@@ -1,10 +1,11 @@
 -- A run over the store that another left, and what it makes of the controllers that were written there.
-use Rattle.std.specs.Prelude.{ℕ, ◌<◌, ℤ, List, length, Option, Some, IfSome, IsSomeAnd}
+use Rattle.std.specs.Prelude.{ℕ, ◌<◌, ℤ, List, length, Option, Some, IfSome, IsSome, IsSomeAnd}
 use Rattle.integer_algebra.specs.Sums.{at}
 use Rattle.io_edge.specs.Faults.{Files}
 use Rattle.mat_int.specs.Matrix.{Matrix, row_of}
 use Rattle.qp_model.specs.problem.Box.{IsGridState}
 use Rattle.qp_model.specs.problem.Design.{Design}
+use Rattle.qp_model.specs.problem.Policy.{Plans}
 use Rattle.qp_model.specs.machine.Controller.{Numbers}
 use Rattle.qp_model.specs.bounds.Certified.{IsCertifiedAt}
 use Rattle.qp_model.specs.bounds.Printed.{Printed}
@@ -16,6 +17,8 @@ use Rattle.command_line.specs.declared.status.Status.TheVariants.{Done}
 use Rattle.command_files.specs.Texts.{StatesRight}
 use Rattle.plan_lines.specs.Printing.{IsSolved}
 use Rattle.command_solve.specs.Deeds.{solve_deeds}
+use Rattle.command_split.specs.Splitting.Cells.{cell_of, IsCell}
+use Rattle.command_split.specs.Made.{cell_plans}
 use Rattle.command_split.specs.Cells.{IsServedBy}
 use Rattle.command_serve.specs.Laws.{HasOneCell}
 use Rattle.command_serve.specs.Held.{IsAllServed}
@@ -44,6 +47,13 @@ pub record IsSolvedAsCertified (words : List (List ℕ)) (files : Files) (d : De
 pub record IsPlannedBy (d : Design) (cells : List Numbers) (bounds : List Printed) (xi : List ℤ) : Type 0 where
   pub by : IsServedBy d cells bounds xi
   pub line : HasOneCell cells xi by.index
+
+-- a state lies in a cell that has plans
+pub record IsCovered (d : Design) (cuts : List (List ℤ)) (policies : List (Option Plans)) (xi : List ℤ) : Type 0 where
+  pub cell : ℕ
+  pub is_cell : IsCell cuts cell
+  pub here : IsGridState (cell_of d cuts cell) (at xi)
+  pub plans : IsSome (cell_plans policies cell)
 
 -- the same of the controllers of cells: each state is served
 pub record IsServedAsCertified (words : List (List ℕ)) (files : Files) (d : Design) (cells : List Numbers) (bounds : List Printed) (states : Matrix) (s : Status) (before now : Option (List ℕ)) : Type 0 where

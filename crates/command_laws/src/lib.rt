@@ -14,7 +14,8 @@ pub fn lean_solve_law()
     ensures { LeanSolveLaw }
 {}
 
-/// After `split` was done, `serve` of its cells and grid states of the design's box refuses nothing, either, and each line is that of such a plan, of the one controller whose cell has the state.
+/// After `split` was done, `serve` of its cells and grid states of cells that have plans refuses nothing, either, and each line is that of such a plan, of the one controller whose cell has
+/// the state. Where every cell has plans, so it is at all grid states of the design's box.
 pub fn split_serve_law()
     ensures { SplitServeLaw }
 {}

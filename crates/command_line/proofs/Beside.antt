@@ -1,11 +1,12 @@
 -- A command that prints nothing, beside any output.
-use Rattle.std.proofs.Common.{inl, inr, refl, List, ℕ, Option, le_refl}
+use Rattle.std.proofs.Common.{inl, inr, refl, List, ℕ, Bool, true, false, Option, Some, None, le_refl}
 use Rattle.io_edge.specs.Faults.{Files}
 use Rattle.io_edge.specs.declared.store.Store.{Ghosts as Disk}
 use Rattle.io_edge.specs.declared.sink.Sink.{Ghosts as Screen}
 use Rattle.command_line.specs.Answers.{Contents, ForContents}
-use Rattle.command_line.specs.Script.{Script, ends, reads, tests, IsNothing, shows_of, leaves_at, Work, deeds_of_work}
+use Rattle.command_line.specs.Script.{Script, ends, reads, tests, reads_where, IsNothing, shows_of, leaves_at, Work, deeds_of_work}
 use Rattle.command_line.specs.Does.{Does, DoesInStore}
+use Rattle.command_line.specs.Kind.{Kind}
 use Rattle.command_line.proofs.Composing.{weaker}
 use Rattle.command_line.proofs.Doing.{unshown}
 use Rattle.command_line.specs.declared.status.Status.{Status}
@@ -15,6 +16,10 @@ abbrev pub IsSilent : Script → Type 0
 IsSilent (ends a) = (s : Status) (old : List ℕ) → a.shows s old old
 IsSilent (reads file k next) = (x : k.Value) → IsSilent (next x)
 IsSilent (tests Refuses Passes next) = IsSilent next
+
+pub silent_where : (asked : Bool) (file : ℕ) (k : Kind) (next : Option k.Value → Script) → ((o : Option k.Value) → IsSilent (next o)) → IsSilent (reads_where asked file k next)
+silent_where true file k next h = λ x. h (Some x)
+silent_where false file k next h = h None
 
 module _ (contents : Contents) (words : List (List ℕ)) (s : Status) (held now : Option Files) (old : List ℕ) where
   nothing : {Why : Type 0} → IsNothing Why s held now → IsNothing Why s old old

@@ -1,5 +1,5 @@
 -- What a run does, from less: that it doesn't give up, and what its answer doesn't say, follow from what is called for and from the faults.
-use Rattle.std.proofs.Common.{◌≡◌, ◌≢◌, ◌⊎◌, inl, inr, ℕ, ◌≤◌, List, Option, Some, None, refl, sym, le_refl}
+use Rattle.std.proofs.Common.{◌≡◌, ◌≢◌, ◌⊎◌, inl, inr, ℕ, ◌<◌, ◌≤◌, List, Option, Some, None, refl, sym, ap, le_refl, arith}
 use Rattle.std.specs.Prelude.{IfSome, IsSomeAnd}
 use Rattle.io_edge.specs.Faults.{Files, Rose, NoneFalls}
 use Rattle.io_edge.specs.declared.store.Store.{Ghosts as Disk}
@@ -10,7 +10,9 @@ use Rattle.command_line.specs.Deeds.{Deeds, IsCalledFor, UsesNoFile, IsBeforePri
 use Rattle.command_line.specs.Does.{IsTelling, Does}
 use Rattle.command_line.proofs.Composing.{some_contents}
 use Rattle.command_line.specs.declared.status.Status.{Status}
-use Rattle.command_line.specs.declared.status.Status.TheVariants.{Done, Memory, Usage, ReadFault, WriteFault, Text, Refused, Controller, OutsideBox, Long, Mismatch, Unequal, NoStay, Cell, Listing, Trap, TooWideForC, Moves, Unsettled, NoReturn}
+use Rattle.command_line.specs.declared.status.Status.TheVariants.{Done, Memory, Usage, ReadFault, WriteFault, Text, Controller}
+use Rattle.number_text.specs.declared.text_fault.TextFault.TheVariants.{Memory as no_room}
+use Rattle.controller_text.specs.declared.bad_controller.BadController.TheVariants.{Memory as no_space}
 
 -- ---- what an answer is
 pub data Cause : Status → Type 0 where
@@ -23,23 +25,7 @@ pub cause : (s : Status) → Cause s
 cause Memory = memory
 cause (ReadFault file) = read file
 cause (WriteFault file) = write file
-cause Done = caused Done (record { memory = λ e. cc; read = λ file e. cc; write = λ file e. cc })
-cause Usage = caused Usage (record { memory = λ e. cc; read = λ file e. cc; write = λ file e. cc })
-cause (Text file fault) = caused (Text file fault) (record { memory = λ e. cc; read = λ file e. cc; write = λ file e. cc })
-cause (Refused refusal) = caused (Refused refusal) (record { memory = λ e. cc; read = λ file e. cc; write = λ file e. cc })
-cause (Controller file fault) = caused (Controller file fault) (record { memory = λ e. cc; read = λ file e. cc; write = λ file e. cc })
-cause (OutsideBox entry turn coordinate) = caused (OutsideBox entry turn coordinate) (record { memory = λ e. cc; read = λ file e. cc; write = λ file e. cc })
-cause (Long file) = caused (Long file) (record { memory = λ e. cc; read = λ file e. cc; write = λ file e. cc })
-cause (Mismatch field design controller) = caused (Mismatch field design controller) (record { memory = λ e. cc; read = λ file e. cc; write = λ file e. cc })
-cause (Unequal entry input left right) = caused (Unequal entry input left right) (record { memory = λ e. cc; read = λ file e. cc; write = λ file e. cc })
-cause (NoStay entry bound) = caused (NoStay entry bound) (record { memory = λ e. cc; read = λ file e. cc; write = λ file e. cc })
-cause (Cell cell refusal) = caused (Cell cell refusal) (record { memory = λ e. cc; read = λ file e. cc; write = λ file e. cc })
-cause (Listing file line) = caused (Listing file line) (record { memory = λ e. cc; read = λ at e. cc; write = λ at e. cc })
-cause (Trap entry step place) = caused (Trap entry step place) (record { memory = λ e. cc; read = λ file e. cc; write = λ file e. cc })
-cause (TooWideForC width) = caused (TooWideForC width) (record { memory = λ e. cc; read = λ file e. cc; write = λ file e. cc })
-cause (Moves row left right) = caused (Moves row left right) (record { memory = λ e. cc; read = λ file e. cc; write = λ file e. cc })
-cause (Unsettled turn coordinate bound) = caused (Unsettled turn coordinate bound) (record { memory = λ e. cc; read = λ file e. cc; write = λ file e. cc })
-cause (NoReturn turn coordinate bound) = caused (NoReturn turn coordinate bound) (record { memory = λ e. cc; read = λ file e. cc; write = λ file e. cc })
+cause s = caused s (record { memory = λ e. cc; read = λ file e. cc; write = λ file e. cc })
 
 -- ---- what tells
 pub done_telling : (s : Status) → s ≡ Done → IsTelling s
@@ -52,6 +38,29 @@ pub record IsRefusal (s : Status) : Type 0 where
   pub read : (file : ℕ) → s ≢ ReadFault file
   pub write : (file : ℕ) → s ≢ WriteFault file
   pub telling : IsTelling s
+
+-- which of these an answer is: 0 is a refusal
+abbrev pub sort_of : Status → ℕ
+sort_of Done = 1
+sort_of Memory = 2
+sort_of (ReadFault file) = 3
+sort_of (WriteFault file) = 4
+sort_of Usage = 5
+sort_of (Text file no_room) = 5
+sort_of (Controller file no_space) = 5
+sort_of s = 0
+
+pub plain_refusal : (s : Status) → sort_of s ≡ 0 → IsRefusal s
+plain_refusal s is = record {
+  done = λ e. apart Done (omega arith) e;
+  memory = λ e. apart Memory (omega arith) e;
+  read = λ file e. apart (ReadFault file) (omega arith) e;
+  write = λ file e. apart (WriteFault file) (omega arith) e;
+  telling = record { usage = λ e. apart Usage (omega arith) e; text = λ file e. apart (Text file no_room) (omega arith) e; controller = λ file e. apart (Controller file no_space) (omega arith) e };
+}
+  where
+    apart : (other : Status) → 0 < sort_of other → s ≢ other
+    apart other some same = omega (arith, some, is, ap sort_of same)
 
 -- ---- a row of the table of commands: what it reaches it reads, and what it calls for tells
 pub record IsRow (deeds : Deeds) : Type 0 where

@@ -1,5 +1,5 @@
 -- What a command does, by the script that it runs along.
-use Rattle.std.proofs.Common.{◌≡◌, ◌≢◌, inl, inr, ℕ, ◌≤◌, List, Option, Some, None, refl, sym, ap, ◌∙◌, subst, le_refl}
+use Rattle.std.proofs.Common.{◌≡◌, ◌≢◌, inl, inr, ℕ, ◌≤◌, Bool, true, false, List, Option, Some, None, option_map, Ok, Err, refl, sym, ap, ◌∙◌, subst, le_refl}
 use Rattle.std.specs.Prelude.{IfSome, IsSomeAnd}
 use Rattle.io_edge.specs.Faults.{Files, Rose, NoneFalls}
 use Rattle.io_edge.specs.declared.store.Store.{Ghosts as Disk}
@@ -7,10 +7,10 @@ use Rattle.io_edge.specs.declared.sink.Sink.{Ghosts as Screen}
 use Rattle.command_line.specs.Words.{word_of}
 use Rattle.command_line.specs.Answers.{ForContents, IsAnswer, IsCaused, FileHolds, IsFileRefused}
 use Rattle.command_line.specs.Deeds.{Deeds, IsCalledFor, WriteFailed}
-use Rattle.command_line.specs.Kind.{Kind, IsRead, EndsRead, Passes}
-use Rattle.command_line.specs.Script.{Act, Script, ends, reads, tests, IsNothing, reads_of, calls_of, reaches_of, starts_of, shows_of, leaves_at, leaves_of, Work, deeds_of_work}
+use Rattle.command_line.specs.Kind.{Kind, IsRead, EndsRead, Passes, ReadsWhere}
+use Rattle.command_line.specs.Script.{Act, Script, ends, reads, tests, reads_where, IsNothing, reads_of, calls_of, reaches_of, starts_of, shows_of, leaves_at, leaves_of, Work, deeds_of_work}
 use Rattle.command_line.specs.Does.{Does, Acts, Prints}
-use Rattle.command_line.specs.Running.{EndsAt, Stopping, Failing, Ending, running, Runs}
+use Rattle.command_line.specs.Running.{EndsAtFile, Stopping, Failing, Ending, running, Runs}
 use Rattle.command_line.proofs.Composing.{weaker}
 use Rattle.command_line.proofs.Counts.{rose_later, none_falls_twice}
 use Rattle.command_line.proofs.Doing.{IsRefusal, IsRow, telling, complete, unshown, none_falls}
@@ -65,7 +65,7 @@ module _ {S O : Type 0} {disk : Disk S} {screen : Screen O} {words : List (List 
       );
     }
       where
-        ends_later : (file : ℕ) (k : Kind) → Stopping disk screen words deeds mid now out out_now s file k → EndsAt disk words before now s file k
+        ends_later : (file : ℕ) (k : Kind) → Stopping disk screen words deeds mid now out out_now s file k → EndsAtFile disk words before now s file k
         ends_later file k stop =
             let name = word_of words file in
             why_later k file (disk.held before) name (disk.read_faults before name) (disk.read_faults mid name) (disk.read_faults now name) s
@@ -97,13 +97,28 @@ module _ {S O : Type 0} {disk : Disk S} {screen : Screen O} {words : List (List 
 
   module _ {before now : S} {out : O} {s : Status} where
     -- a file that ends it
-    pub stopped : {file : ℕ} {k : Kind} {next : k.Value → Script} → Passes disk before now → EndsAt disk words before now s file k → Runs disk screen words deeds before now out out s (reads file k next)
+    pub stopped : {file : ℕ} {k : Kind} {next : k.Value → Script} → Passes disk before now → EndsAtFile disk words before now s file k → Runs disk screen words deeds before now out out s (reads file k next)
     stopped passes end = record { run = inl (record { why = end; passes = passes; silent = refl }) }
 
   module _ {now : S} {out : O} {s : Status} where
     -- a test that does
     pub failed : {Refuses : Status → Type 0} {Pass : Type 0} {next : Script} → Refuses s → Runs disk screen words deeds now now out out s (tests Refuses Pass next)
     failed refused = record { run = inl (record { why = refused; passes = record { held = refl; reads = none_falls _; writes = none_falls _ }; silent = refl }) }
+
+  -- ---- a file that is read where it is asked for
+  pub went_where : {X : Type 0} (asked : Bool) (file : ℕ) (k : Kind) (next : Option k.Value → Script) (seen : X → k.Value) (o : Option X) {before mid now : S} {out out_now : O} {s : Status} →
+      ReadsWhere disk asked k file (word_of words file) seen (Ok o) before mid → Runs disk screen words deeds mid now out out_now s (next (option_map seen o)) →
+      Runs disk screen words deeds before now out out_now s (reads_where asked file k next)
+  went_where true file k next seen (Some x) did rest = went_on did.2 did.0 rest
+  went_where true file k next seen None did rest = absurd did.0
+  went_where false file k next seen o {before} {mid} {now} {out} {out_now} {s} did rest =
+      let none : o ≡ None = cc did.0 in
+      subst (λ (from : S). Runs disk screen words deeds from now out out_now s (next None)) did.1 (subst (λ (x : Option _). Runs disk screen words deeds mid now out out_now s (next (option_map seen x))) none rest)
+
+  pub stopped_where : {X : Type 0} (asked : Bool) (file : ℕ) (k : Kind) (next : Option k.Value → Script) (seen : X → k.Value) {before now : S} {out : O} {s : Status} →
+      ReadsWhere disk asked k file (word_of words file) seen (Err s) before now → Runs disk screen words deeds before now out out s (reads_where asked file k next)
+  stopped_where true file k next seen did = stopped did.2 did.1
+  stopped_where false file k next seen did = absurd (let never : ⊥ = cc did.0 in never)
 
   -- ---- what is done once the files are read
   -- nothing, where memory runs out or the answer is a refusal

@@ -1,11 +1,11 @@
 -- The contents that a run along a script read, and that they call for its answer alone.
-use Rattle.std.proofs.Common.{◌≡◌, inl, inr, ℕ, zero, suc, ◌<◌, ◌≤◌, List, Option, refl, sym, subst, arith}
+use Rattle.std.proofs.Common.{◌≡◌, inl, inr, ℕ, zero, suc, ◌<◌, ◌≤◌, Bool, true, false, List, Option, Some, None, refl, sym, subst, arith}
 use Rattle.io_edge.specs.Faults.{Files}
 use Rattle.command_line.specs.Words.{word_of}
 use Rattle.command_line.specs.Answers.{Contents, ForContents, FileHolds, IsFileRefused, IsAnswer, IsCaused}
 use Rattle.command_line.specs.Does.{IsTelling}
 use Rattle.command_line.specs.Kind.{Kind, IsRead, EndsRead}
-use Rattle.command_line.specs.Script.{Act, Script, Way, Along, ends, reads, tests, calls_of}
+use Rattle.command_line.specs.Script.{Act, Script, Way, Along, ends, reads, tests, reads_where, calls_of}
 use Rattle.command_line.proofs.Composing.{told_contents, all_told, some_contents, replace, replaced_told}
 use Rattle.command_line.proofs.Doing.{IsRefusal}
 use Rattle.command_line.specs.declared.status.Status.{Status}
@@ -47,9 +47,28 @@ IsSound least (reads file k next) =
     × ((x : k.Value) → IsSound (suc file) (next x))
 IsSound least (tests Refuses Passes next) = IsTest Refuses Passes × IsSound least next
 
+-- what is called for goes from one script to another
+abbrev pub Sees : (script other : Script) → Type 0
+Sees script other = (contents : Contents) (s : Status) → calls_of script contents s → calls_of other contents s
+
+pub sees_next : (file : ℕ) (k : Kind) (next other : k.Value → Script) → ((x : k.Value) → Sees (next x) (other x)) → Sees (reads file k next) (reads file k other)
+sees_next file k next other h contents s (inl refused) = inl refused
+sees_next file k next other h contents s (inr right) = inr (right.0, right.1, h right.0 contents s right.2)
+
+pub sees_where : (asked : Bool) (file : ℕ) (k : Kind) (next other : Option k.Value → Script) → ((o : Option k.Value) → Sees (next o) (other o)) → Sees (reads_where asked file k next) (reads_where asked file k other)
+sees_where true file k next other h = sees_next file k (λ x. next (Some x)) (λ x. other (Some x)) (λ x. h (Some x))
+sees_where false file k next other h = h None
+
 -- what is seen whole
 pub whole : {X : Type 0} (next : X → Script) (y x : X) → y ≡ x → (contents : Contents) (s : Status) → calls_of (next y) contents s → calls_of (next x) contents s
 whole {X} next y x same contents s h = subst (λ (z : X). calls_of (next z) contents s) same h
+
+-- a file that is read where it is asked for
+pub sound_where : (least : ℕ) (asked : Bool) (file : ℕ) (k : Kind) (next : Option k.Value → Script) → least ≤ file → IsRefusedBy file k →
+    ((y x : k.Value) → k.view y ≡ k.view x → (contents : Contents) (s : Status) → calls_of (next (Some y)) contents s → calls_of (next (Some x)) contents s) → ((x : k.Value) → IsSound (suc file) (next (Some x))) →
+    IsSound least (next None) → IsSound least (reads_where asked file k next)
+sound_where least true file k next low by seen some none = (low, by, seen, some)
+sound_where least false file k next low by seen some none = none
 
 -- what it calls for tells
 pub sound_telling : (least : ℕ) (script : Script) → IsSound least script → (contents : Contents) (s : Status) → calls_of script contents s → IsTelling s

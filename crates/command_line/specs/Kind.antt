@@ -1,5 +1,5 @@
 -- A kind of file: which bytes are right for what, and with which status others are refused.
-use Rattle.std.specs.Prelude.{◌≡◌, ℕ, List, Option}
+use Rattle.std.specs.Prelude.{◌≡◌, ℕ, Bool, true, false, List, Option, Some, None, Result, Ok, IfOk, IfErr, IsSomeAnd}
 use Rattle.io_edge.specs.Faults.{Files, NoneFalls}
 use Rattle.io_edge.specs.declared.store.Store.{Ghosts as Disk}
 use Rattle.command_line.specs.Answers.{IsRightFor, EndsReading}
@@ -35,3 +35,16 @@ pub record Passes {S : Type 0} (disk : Disk S) (before now : S) : Type 0 where
   pub held : disk.held now ≡ disk.held before
   pub reads : NoneFalls (disk.read_faults before) (disk.read_faults now)
   pub writes : NoneFalls (disk.write_faults before) (disk.write_faults now)
+
+-- a reader of the file at a position gave what the file is right for, as it is seen, or the status that ends the run; and reads alone came
+pub record ReadsFile {S X : Type 0} (disk : Disk S) (k : Kind) (file : ℕ) (name : List ℕ) (seen : X → k.Value) (r : Result X Status) (before now : S) : Type 0 where
+  pub right : IfOk r (λ x. IsRead k file (disk.held before) name (seen x))
+  pub ends : IfErr r (EndsRead k file (disk.held before) name (disk.read_faults before name) (disk.read_faults now name))
+  pub passes : Passes disk before now
+
+-- the same of a file that is read where it is asked for; else nothing was done
+abbrev pub ReadsWhere : {S X : Type 0} (disk : Disk S) (asked : Bool) (k : Kind) (file : ℕ) (name : List ℕ) (seen : X → k.Value) → Result (Option X) Status → (before now : S) → Type 0
+ReadsWhere disk true k file name seen r before now =
+    IfOk r (λ o. IsSomeAnd o (λ x. IsRead k file (disk.held before) name (seen x))) ×
+    IfErr r (EndsRead k file (disk.held before) name (disk.read_faults before name) (disk.read_faults now name)) × Passes disk before now
+ReadsWhere disk false k file name seen r before now = (r ≡ Ok None) × (now ≡ before)

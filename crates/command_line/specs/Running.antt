@@ -1,5 +1,5 @@
 -- A run of a command along its script.
-use Rattle.std.specs.Prelude.{◌≡◌, ℕ, List}
+use Rattle.std.specs.Prelude.{◌≡◌, ℕ, List, Result, IfOk, IfErr}
 use Rattle.io_edge.specs.declared.store.Store.{Ghosts as Disk}
 use Rattle.io_edge.specs.declared.sink.Sink.{Ghosts as Screen}
 use Rattle.command_line.specs.Words.{word_of}
@@ -15,12 +15,12 @@ pub record Stops {S O : Type 0} (disk : Disk S) (before now : S) (out out_now : 
   pub passes : Passes disk before now
   pub silent : out_now ≡ out
 
-abbrev pub EndsAt : {S : Type 0} → Disk S → List (List ℕ) → (before now : S) → Status → ℕ → Kind → Type 0
-EndsAt disk words before now s file k = EndsRead k file (disk.held before) (word_of words file) (disk.read_faults before (word_of words file)) (disk.read_faults now (word_of words file)) s
+abbrev pub EndsAtFile : {S : Type 0} → Disk S → List (List ℕ) → (before now : S) → Status → ℕ → Kind → Type 0
+EndsAtFile disk words before now s file k = EndsRead k file (disk.held before) (word_of words file) (disk.read_faults before (word_of words file)) (disk.read_faults now (word_of words file)) s
 
 module _ {S O : Type 0} (disk : Disk S) (screen : Screen O) (words : List (List ℕ)) (deeds : Deeds) (before now : S) (out out_now : O) (s : Status) where
   abbrev pub Stopping : ℕ → Kind → Type 0
-  Stopping file k = Stops disk before now out out_now (EndsAt disk words before now s file k)
+  Stopping file k = Stops disk before now out out_now (EndsAtFile disk words before now s file k)
 
   abbrev pub Failing : (Status → Type 0) → Type 0
   Failing Refuses = Stops disk before now out out_now (Refuses s)
@@ -37,3 +37,8 @@ module _ {S O : Type 0} (disk : Disk S) (screen : Screen O) (words : List (List 
 -- of a command that has no output
 abbrev pub RunsInStore : {S : Type 0} → Disk S → List (List ℕ) → Deeds → (before now : S) → Status → Script → Type 0
 RunsInStore disk words deeds before now s script = Runs disk no_output words deeds before now tt tt s script
+
+-- what a reader of files gave: what then runs along what comes next has run along the script, and so has the status that ended it
+pub record ReadsAlong {S X : Type 0} (disk : Disk S) (words : List (List ℕ)) (deeds : Deeds) (script : Script) (next : X → Script) (r : Result X Status) (before mid : S) : Type 0 where
+  pub went : IfOk r (λ x. (now : S) (s : Status) → RunsInStore disk words deeds mid now s (next x) → RunsInStore disk words deeds before now s script)
+  pub ended : IfErr r (λ s. RunsInStore disk words deeds before mid s script)

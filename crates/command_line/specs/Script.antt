@@ -1,5 +1,5 @@
 -- The files that a command reads, one after the other, and what it does then. Its row of the table of commands follows.
-use Rattle.std.specs.Prelude.{◌≡◌, ◌≢◌, ◌⊎◌, ℕ, List, Option, ⊤}
+use Rattle.std.specs.Prelude.{◌≡◌, ◌≢◌, ◌⊎◌, ℕ, Bool, true, false, List, Option, Some, None, ⊤}
 use Rattle.io_edge.specs.Faults.{Files}
 use Rattle.command_line.specs.Answers.{Contents, ForContents, FileHolds, IsFileRefused, IsCaused}
 use Rattle.command_line.specs.Deeds.{Deeds}
@@ -33,6 +33,11 @@ pub data Script : Type 1 where
   reads : (file : ℕ) (k : Kind) → (k.Value → Script) → Script
   -- what was read is refused with a status, or this is true of it
   tests : (Refuses : Status → Type 0) (Passes : Type 0) → Script → Script
+
+-- a file that is read where it is asked for, and what comes next is by its value where there is one
+abbrev pub reads_where : (asked : Bool) (file : ℕ) (k : Kind) → (Option k.Value → Script) → Script
+reads_where true file k next = reads file k (λ x. next (Some x))
+reads_where false file k next = next None
 
 -- what is said at each step of a script: of a file that is right, of one that stops it, of a test that does, and of its end
 pub record Way : Type 1 where

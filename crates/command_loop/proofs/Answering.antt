@@ -1,5 +1,5 @@
 -- The script of `loop`, and what is answered and printed once its files are read.
-use Rattle.std.proofs.Common.{◌≡◌, ◌≢◌, inl, inr, ℕ, ◌≤◌, Bool, true, false, List, Option, Some, None, refl, subst, arith}
+use Rattle.std.proofs.Common.{◌≡◌, ◌≢◌, inl, inr, ℕ, ◌≤◌, Bool, true, false, List, Option, Some, None, refl, ap, subst, arith}
 use Rattle.std.specs.Prelude.{IfSome, IsSomeAnd}
 use Rattle.io_edge.specs.Faults.{Rose}
 use Rattle.io_edge.specs.declared.sink.Sink.{Ghosts as Screen}
@@ -14,14 +14,14 @@ use Rattle.state_files.proofs.TurnFacts.{turns_small}
 use Rattle.command_line.specs.Answers.{Contents, IsAnswer, IsCaused}
 use Rattle.command_line.specs.Script.{ends, calls_of}
 use Rattle.command_line.specs.Does.{IsTelling, Prints}
-use Rattle.command_line.proofs.Doing.{done_telling}
+use Rattle.command_line.proofs.Doing.{done_telling, sort_of, plain_refusal}
 use Rattle.command_line.proofs.Gathering.{IsTest, IsSound, whole}
 use Rattle.command_line.proofs.Following.{IsSoundWork}
 use Rattle.command_line.specs.declared.status.Status.{Status}
 use Rattle.command_line.specs.declared.status.Status.TheVariants.{Done, Memory, ReadFault, WriteFault}
 use Rattle.command_design_files.proofs.Designs.{same_design}
-use Rattle.command_design_files.proofs.Stopping.{design_refused}
-use Rattle.command_files.proofs.Stopping.{controller_refused, states_refused, shifts_refused}
+use Rattle.command_design_files.proofs.Stopping.{text_refused}
+use Rattle.command_files.proofs.Stopping.{controllers_refused}
 use Rattle.command_loop.specs.Loop.{Course, course_of, MayPrintLine, IsMismatch, LoopsCall, LoopsPrint, TellsLeavingLater, loop_act, loop_shifts, loop_controller, loop_design}
 use Rattle.command_loop.specs.Printing.{LoopsEnd, AreRowsFor}
 use Rattle.command_loop.specs.Deeds.{loop_work, loop_deeds}
@@ -30,8 +30,8 @@ use Rattle.command_loop.proofs.Uniqueness.{one_call, one_mismatch, not_matched}
 
 -- ---- the script
 loops_telling : (d : Design) (c : Numbers) (l : Course) (turns : ℕ) (m : Matrix) (s : Status) → LoopsCall d c l turns m s → IsTelling s
-loops_telling d c l turns m s (inl wide) = let is = wide.is in record { usage = λ e. cc; text = λ at e. cc; controller = λ at e. cc }
-loops_telling d c l turns m s (inr (inl leaving)) = let is = leaving.1.is in record { usage = λ e. cc; text = λ at e. cc; controller = λ at e. cc }
+loops_telling d c l turns m s (inl wide) = (plain_refusal s (ap sort_of wide.is)).telling
+loops_telling d c l turns m s (inr (inl leaving)) = (plain_refusal s (ap sort_of leaving.1.is)).telling
 loops_telling d c l turns m s (inr (inr done)) = done_telling s done.0
 
 pub mismatch_test : (d : Design) (c : Numbers) → IsTest (IsMismatch d c) (IsFor c d)
@@ -40,7 +40,7 @@ mismatch_test d c = record { refusal = mismatch_refusal d c; one = one_mismatch 
 module _ (turns : ℕ) where
   shifts_sound : (disturbed : Bool) (d : Design) (c : Numbers) (m : Matrix) → IsSound 4 (loop_shifts turns disturbed d c m)
   shifts_sound true d c m =
-      (omega arith, shifts_refused c.states turns 5, whole (λ v. ends (loop_act turns d c (Some v) m)), λ v. loops_telling d c (course_of d c (Some v)) turns m)
+      (omega arith, text_refused 5, whole (λ v. ends (loop_act turns d c (Some v) m)), λ v. loops_telling d c (course_of d c (Some v)) turns m)
   shifts_sound false d c m = loops_telling d c (course_of d c None) turns m
 
   -- a design is known by its numbers
@@ -52,13 +52,13 @@ module _ (turns : ℕ) where
   loop_sound disturbed = record {
     sound = (
       omega arith,
-      design_refused 1,
+      text_refused 1,
       sees disturbed,
       λ p. (
         omega arith,
-        controller_refused 2,
+        controllers_refused 2,
         whole (loop_controller turns disturbed (design_of p)),
-        λ c. (mismatch_test (design_of p) c, (omega arith, states_refused c.states 3, whole (loop_shifts turns disturbed (design_of p) c), shifts_sound disturbed (design_of p) c)),
+        λ c. (mismatch_test (design_of p) c, (omega arith, text_refused 3, whole (loop_shifts turns disturbed (design_of p) c), shifts_sound disturbed (design_of p) c)),
       ),
     );
     first = inl refl;

@@ -19,7 +19,7 @@ stay_is words disturbed is = record {
   report = omega (arith, here);
   apart = λ e. is.report 3 (omega arith) (omega (arith, here)) (λ k. omega (arith, k)) (sym e);
   faces = λ faced. omega (arith, here);
-  range = λ faced. more disturbed (length words) 6 is.count;
+  range = more disturbed (length words) 6 is.count;
   faces_order = omega arith;
   range_order = omega arith;
 }
@@ -46,7 +46,7 @@ lean_stay_is words disturbed is = record {
   report = omega (arith, here);
   apart = λ e. is.report 4 (omega arith) (omega (arith, here)) (λ k. omega (arith, k)) (sym e);
   faces = λ faced. omega (arith, here);
-  range = λ faced. more disturbed (length words) 7 is.count;
+  range = more disturbed (length words) 7 is.count;
   faces_order = omega arith;
   range_order = omega arith;
 }

@@ -12,12 +12,14 @@ use Rattle.qp_model.specs.declared.refusal.Refusal.TheVariants as refusals
 use Rattle.command_line.specs.Answers.{IsAnswer}
 use Rattle.command_line.specs.Does.{IsTelling}
 use Rattle.command_line.specs.TwoTexts.{IsUnmade}
-use Rattle.command_line.proofs.Doing.{IsRefusal, done_telling}
+use Rattle.command_line.proofs.Doing.{IsRefusal, done_telling, sort_of, plain_refusal}
 use Rattle.command_line.proofs.TwoTexts.{unmade_memory, unmade}
 use Rattle.command_line.specs.declared.status.Status.{Status}
 use Rattle.command_line.specs.declared.status.Status.TheVariants.{Done, Memory}
-use Rattle.command_generate.specs.Made.{IsRefusedFor}
+use Rattle.command_generate.specs.Made.{IsCausedRefusal}
+use Rattle.command_generate.proofs.Engine.CauseLaws.{memory_apart}
 use Rattle.command_generate.proofs.Making.{refused_for, making_telling}
+use Rattle.lean_engine.proofs.CauseLaws as lean
 use Rattle.command_make.specs.Made.{CauseOf, PassesOf, MakingCallsWith}
 use Rattle.command_make.specs.Excess.{AreStatedExcesses}
 use Rattle.command_make.specs.Stay.{stay_status, FacesCall}
@@ -26,37 +28,18 @@ use Rattle.command_make.specs.Checking.{IsKeptWith, IsCaughtWith}
 
 -- ---- the status of a fault
 pub fault_refusal : (fault : StayFault) (s : Status) → s ≡ stay_status fault → IsRefusal s
-fault_refusal (faults.TooWide quantity) s is = record {
-  done = λ e. cc;
-  memory = λ e. cc;
-  read = λ f e. cc;
-  write = λ f e. cc;
-  telling = record { usage = λ e. cc; text = λ f e. cc; controller = λ f e. cc };
-}
-fault_refusal (faults.Unequal entry input left right) s is = record {
-  done = λ e. cc;
-  memory = λ e. cc;
-  read = λ f e. cc;
-  write = λ f e. cc;
-  telling = record { usage = λ e. cc; text = λ f e. cc; controller = λ f e. cc };
-}
-fault_refusal (faults.NoStay entry bound) s is = record {
-  done = λ e. cc;
-  memory = λ e. cc;
-  read = λ f e. cc;
-  write = λ f e. cc;
-  telling = record { usage = λ e. cc; text = λ f e. cc; controller = λ f e. cc };
-}
+fault_refusal (faults.TooWide quantity) s is = plain_refusal s (ap sort_of is)
+fault_refusal fault s is = plain_refusal s (ap sort_of is)
 
 module _ (d : Design) (t : Targets) (plans : Plans) (reference : Option Plans) where
   pub no_memory : CauseOf d t plans reference refusals.Memory → ⊥
   no_memory = go reference
     where
       go : (other : Option Plans) → CauseOf d t plans other refusals.Memory → ⊥
-      go None never = never
-      go (Some references) never = never
+      go None = memory_apart d t plans
+      go (Some references) = lean.memory_apart d t plans references
 
-  refusal : (s : Status) → IsRefusedFor (CauseOf d t plans reference) s → IsRefusal s
+  refusal : (s : Status) → IsCausedRefusal (CauseOf d t plans reference) s → IsRefusal s
   refusal = refused_for (CauseOf d t plans reference) (PassesOf d t plans reference) no_memory
 
   -- ---- what is called for tells
@@ -85,7 +68,7 @@ module _ (d : Design) (t : Targets) (plans : Plans) (reference : Option Plans) w
     -- ---- answered by the faces, with the numbers of all rows: there is one list of these, and no refusal
     module _ (excess : List ℤ) (stated : AreStatedExcesses d t plans reference excess) (one : (other : List ℤ) → AreStatedExcesses d t plans reference other → other ≡ excess)
         (making : IsAnswer (MakingCallsWith d t plans reference) Done) where
-      not_refused : (r : Status) → IsRefusedFor (CauseOf d t plans reference) r → ⊥
+      not_refused : (r : Status) → IsCausedRefusal (CauseOf d t plans reference) r → ⊥
       not_refused r why = (refusal r why).done (making.only r (inl why))
 
       by_excess : (r : Status) (other : List ℤ) → AreStatedExcesses d t plans reference other → FacesCall d (at other) u.faces u.range r → FacesCall d (at excess) u.faces u.range r

@@ -17,10 +17,10 @@ use Rattle.command_line.specs.Status.{status_of}
 use Rattle.command_line.specs.declared.status.Status.TheVariants.{Done}
 use Rattle.command_generate.specs.Engine.Bounds.{stated_cost}
 use Rattle.command_generate.specs.Engine.Targets.{targets_of}
-use Rattle.command_generate.specs.Made.{IsRefusedFor}
+use Rattle.command_generate.specs.Made.{IsCausedRefusal}
 use Rattle.command_generate.proofs.Making.{refused_for}
 use Rattle.command_generate.proofs.Passing as plain
-use Rattle.command_make.specs.Made.{CauseOf, PassesOf, MakingCallsWith, IsMadeWith}
+use Rattle.command_make.specs.Made.{CauseOf, PassesOf, MakingCallsWith, IsMadeByPlans}
 use Rattle.command_make.specs.Excess.{AreStatedExcesses, made_with}
 use Rattle.command_make.specs.Checking.{AreSmall, IsKeptWith}
 use Rattle.command_make.specs.Stay.{KeepsLoops}
@@ -41,11 +41,11 @@ pub record Facts (p : DesignParts) (plans : Plans) (reference : Option Plans) (c
 none_of : (p : DesignParts) (plans : Plans) (reference : Option Plans) → IsAnswer (MakingCallsWith (design_of p) (targets_of p) plans reference) Done → (r : Refusal) →
     CauseOf (design_of p) (targets_of p) plans reference r → ⊥
 none_of p plans reference making r cause =
-    let why : IsRefusedFor (CauseOf (design_of p) (targets_of p) plans reference) (status_of r) = record { refusal = r; cause = cause; is = refl } in
+    let why : IsCausedRefusal (CauseOf (design_of p) (targets_of p) plans reference) (status_of r) = record { refusal = r; cause = cause; is = refl } in
     (refused_for (CauseOf (design_of p) (targets_of p) plans reference) (PassesOf (design_of p) (targets_of p) plans reference) (no_memory (design_of p) (targets_of p) plans reference) (status_of r) why).done
     (making.only (status_of r) (inl why))
 
-pub facts : (p : DesignParts) (plans : Plans) (reference : Option Plans) (c : Numbers) (b : Printed) (errors : ℤ) → IsMadeWith p plans reference c b →
+pub facts : (p : DesignParts) (plans : Plans) (reference : Option Plans) (c : Numbers) (b : Printed) (errors : ℤ) → IsMadeByPlans p plans reference c b →
     errors ≡ pos (stated_cost (design_of p) (unsigned_abs b.multiplier) c.fraction_bits) → IsAnswer (MakingCallsWith (design_of p) (targets_of p) plans reference) Done → Facts p plans reference c b errors
 facts p plans None c b errors made cost making =
     let passes = plain.own_passes p plans c b (none_of p plans None making) made.built in

@@ -7,5 +7,4 @@ pub mod LeanExcesses
 pub mod Facts
 -- ---- the commands by their names and their scripts, and what is written
 pub mod Asking
-pub mod Going
 pub mod Written

@@ -18,19 +18,18 @@ use Rattle.stay_check.specs.LoopStay.{IsKeptAt}
 use Rattle.stay_check.proofs.LoopLaws.{unshifted}
 use Rattle.stay_check.proofs.CheckFacts.{zeros_are}
 use Rattle.command_line.specs.Words.{word_of}
-use Rattle.command_line.specs.Limit.{file_limit}
-use Rattle.command_line.specs.Answers.{Contents, FileHolds, IsFileRefused}
-use Rattle.command_line.specs.Script.{Script, ends, calls_of, leaves_at, leaves_of}
+use Rattle.command_line.specs.Answers.{Contents}
+use Rattle.command_line.specs.Script.{Script, ends, reads_where, calls_of, leaves_at, leaves_of}
 use Rattle.command_line.specs.TwoTexts.{BothStand, Two, LeavesTwo}
-use Rattle.command_line.proofs.Gathering.{IsSound, whole}
+use Rattle.command_line.proofs.Gathering.{IsSound, Sees, sees_next, sees_where, sound_where, whole}
 use Rattle.command_line.proofs.Following.{IsSoundWork, left_told}
-use Rattle.command_line.proofs.Beside.{IsSilent}
+use Rattle.command_line.proofs.Beside.{IsSilent, silent_where}
 use Rattle.command_line.proofs.TwoTexts.{some_weaker}
 use Rattle.command_line.specs.declared.status.Status.{Status}
 use Rattle.command_line.specs.declared.status.Status.TheVariants.{Done}
-use Rattle.command_design_files.specs.Texts.{PolicyRight, PolicyWrong}
-use Rattle.command_design_files.proofs.Stopping.{design_refused, policy_refused}
-use Rattle.command_files.proofs.Stopping.{faces_refused, range_refused}
+use Rattle.command_design_files.specs.Reading.{policy_kind}
+use Rattle.command_files.specs.Reading.{faces_kind, range_kind}
+use Rattle.command_design_files.proofs.Stopping.{text_refused}
 use Rattle.command_generate.specs.Engine.Targets.{Targets, targets_of}
 use Rattle.command_generate.specs.Made.{AreTextsOf}
 use Rattle.command_generate.specs.Generate.{IsMadeFrom}
@@ -38,72 +37,54 @@ use Rattle.command_generate.proofs.SameDesign.{along}
 use Rattle.command_generate.proofs.Written.{made_and_written}
 use Rattle.command_make.specs.Stay.{no_shifts, IsRangeIn, KeepsLoops, LoopsStay, IsStayed}
 use Rattle.command_make.specs.Lean.{IsMadeOfFiles, IsLeanWritten, IsLeanStayed}
-use Rattle.command_make.specs.Make.{IsMadeUnder, Making, make_act, with_range, with_faces, with_reference, make_after, make_work, stay_asked, lean_asked}
+use Rattle.command_make.specs.Make.{IsMadeUnder, Making, under_of, make_act, with_range, with_faces, with_reference, with_policy, after_policy, make_after, make_work, stay_asked, lean_asked}
 use Rattle.command_make.specs.declared.command.Asked.{Asked}
 use Rattle.command_make.proofs.Calling.{telling}
 
 -- ---- a script that asks for its files in their order
-module _ (asked : Asked) (faces_order : 3 < asked.faces) (range_order : asked.faces < asked.range) (d : Design) (t : Targets) (Made : Making) where
-  range_sound : (least : ℕ) → least ≤ asked.range → (disturbed : Bool) (plans : Plans) (reference : Option Plans) (faces : FaceNumbers) → IsSound least (with_range asked d t Made disturbed plans reference faces)
-  range_sound least low true plans reference faces = (
-    low,
-    range_refused d.states asked.range,
-    whole (λ range. ends (make_act asked d t Made plans reference (Some (record { faces = faces; range = range })))),
-    λ range. telling d t plans reference (Some (record { faces = faces; range = range })),
-  )
-  range_sound least low false plans reference faces = telling d t plans reference (Some (record { faces = faces; range = no_shifts d.states }))
+module _ (asked : Asked) (faces_order : 3 < asked.faces) (range_order : asked.faces < asked.range) (d : Design) (t : Targets) (Made : Making) (plans : Plans) where
+  range_sound : (least : ℕ) → least ≤ asked.range → (reference : Option Plans) (faces : Option FaceNumbers) → IsSound least (with_range asked d t Made plans reference faces)
+  range_sound least low reference faces =
+      sound_where least asked.disturbed _ _ _ low (text_refused asked.range) (whole (λ range. ends (make_act asked d t Made plans reference (under_of d.states faces (Some range)))))
+      (λ range. telling d t plans reference (under_of d.states faces (Some range))) (telling d t plans reference (under_of d.states faces None))
 
-  faces_sound : (least : ℕ) → least ≤ 4 → (faced disturbed : Bool) (plans : Plans) (reference : Option Plans) → IsSound least (with_faces asked d t Made faced disturbed plans reference)
-  faces_sound least low true disturbed plans reference = (
-    omega (arith, low, faces_order),
-    faces_refused d asked.faces,
-    whole (with_range asked d t Made disturbed plans reference),
-    range_sound (suc asked.faces) (omega (arith, range_order)) disturbed plans reference,
-  )
-  faces_sound least low false disturbed plans reference = telling d t plans reference None
+  faces_sound : (least : ℕ) → least ≤ 4 → (reference : Option Plans) → IsSound least (with_faces asked d t Made plans reference)
+  faces_sound least low reference =
+      sound_where least asked.faced _ _ _ (omega (arith, low, faces_order)) (text_refused asked.faces) (whole (λ faces. with_range asked d t Made plans reference (Some faces)))
+      (λ faces. range_sound (suc asked.faces) (omega (arith, range_order)) reference (Some faces)) (range_sound least (omega (arith, low, faces_order, range_order)) reference None)
 
-  reference_sound : (lean faced disturbed : Bool) (plans : Plans) → IsSound 3 (with_reference asked d t Made lean faced disturbed plans)
-  reference_sound true faced disturbed plans = (
-    omega arith,
-    policy_refused d 3,
-    whole (λ references. with_faces asked d t Made faced disturbed plans (Some references)),
-    λ references. faces_sound 4 (omega arith) faced disturbed plans (Some references),
-  )
-  reference_sound false faced disturbed plans = faces_sound 3 (omega arith) faced disturbed plans None
+  reference_sound : IsSound 3 (with_reference asked d t Made plans)
+  reference_sound =
+      sound_where 3 asked.lean _ _ _ (omega arith) (text_refused 3) (whole (λ references. with_faces asked d t Made plans (Some references))) (λ references. faces_sound 4 (omega arith) (Some references)) (faces_sound 3 (omega arith) None)
 
--- of a design its numbers are seen
-module _ (asked : Asked) (y x : DesignParts) (same : design_numbers y ≡ design_numbers x) (contents : Contents) (s : Status) (plans : Plans) where
-  abbrev Calls : (lean faced disturbed : Bool) → DesignParts → Type 0
-  Calls lean faced disturbed p = calls_of (with_reference asked (design_of p) (targets_of p) (IsMadeUnder p) lean faced disturbed plans) contents s
+-- what is called for speaks of nothing that is made; of a design its numbers are seen
+makes_any : (asked : Asked) (d : Design) (t : Targets) (Made Other : Making) → Sees (with_policy asked d t Made) (with_policy asked d t Other)
+makes_any asked d t Made Other =
+    sees_next 2 (policy_kind d) (with_reference asked d t Made) (with_reference asked d t Other)
+    (λ plans. sees_where asked.lean 3 (policy_kind d) (with_faces asked d t Made plans) (with_faces asked d t Other plans)
+    (λ reference. sees_where asked.faced asked.faces (faces_kind d) (with_range asked d t Made plans reference) (with_range asked d t Other plans reference)
+    (λ faces. sees_where asked.disturbed asked.range (range_kind d.states) (λ range. ends (make_act asked d t Made plans reference (under_of d.states faces range)))
+    (λ range. ends (make_act asked d t Other plans reference (under_of d.states faces range))) (λ range contents s h. h))))
 
-  -- what is called for speaks of nothing that is made
-  abbrev Nothing : Making
-  Nothing plans reference under c b = ⊥
+abbrev Nothing : Making
+Nothing plans reference under c b = ⊥
 
-  sees : (lean faced disturbed : Bool) → Calls lean faced disturbed y → Calls lean faced disturbed x
-  sees true true true = along (λ d t. calls_of (with_reference asked d t Nothing true true true plans) contents s) y x same
-  sees true true false = along (λ d t. calls_of (with_reference asked d t Nothing true true false plans) contents s) y x same
-  sees true false disturbed = along (λ d t. calls_of (with_reference asked d t Nothing true false disturbed plans) contents s) y x same
-  sees false true true = along (λ d t. calls_of (with_reference asked d t Nothing false true true plans) contents s) y x same
-  sees false true false = along (λ d t. calls_of (with_reference asked d t Nothing false true false plans) contents s) y x same
-  sees false false disturbed = along (λ d t. calls_of (with_reference asked d t Nothing false false disturbed plans) contents s) y x same
-
-policy_sees : (asked : Asked) (y x : DesignParts) → design_numbers y ≡ design_numbers x → (contents : Contents) (s : Status) → calls_of (make_after asked y) contents s → calls_of (make_after asked x) contents s
-policy_sees asked y x same contents s (inl refused) = inl (along (λ d t. IsFileRefused file_limit 2 (PolicyWrong d 2) (contents 2) s) y x same refused)
-policy_sees asked y x same contents s (inr (plans, right, rest)) =
-    inr (plans, along (λ d t. FileHolds file_limit (PolicyRight d plans) (contents 2)) y x same right, sees asked y x same contents s plans asked.lean asked.faced asked.disturbed rest)
+policy_sees : (asked : Asked) (y x : DesignParts) → design_numbers y ≡ design_numbers x → Sees (make_after asked y) (make_after asked x)
+policy_sees asked y x same contents s h =
+    makes_any asked (design_of x) (targets_of x) Nothing (IsMadeUnder x) contents s
+    (along (λ d t. calls_of (with_policy asked d t Nothing) contents s) y x same (makes_any asked (design_of y) (targets_of y) (IsMadeUnder y) Nothing contents s h))
 
 pub make_sound : (asked : Asked) → 3 < asked.faces → asked.faces < asked.range → IsSoundWork (make_work asked)
 make_sound asked faces_order range_order = record {
   sound = (
     omega arith,
-    design_refused 1,
+    text_refused 1,
     policy_sees asked,
     λ p. (
       omega arith,
-      policy_refused (design_of p) 2,
-      whole (with_reference asked (design_of p) (targets_of p) (IsMadeUnder p) asked.lean asked.faced asked.disturbed),
-      reference_sound asked faces_order range_order (design_of p) (targets_of p) (IsMadeUnder p) asked.lean asked.faced asked.disturbed,
+      text_refused 2,
+      whole (after_policy asked p),
+      reference_sound asked faces_order range_order (design_of p) (targets_of p) (IsMadeUnder p),
     ),
   );
   first = inl refl;
@@ -111,19 +92,7 @@ make_sound asked faces_order range_order = record {
 
 -- it prints nothing
 pub make_silent : (asked : Asked) → IsSilent (make_work asked).script
-make_silent asked p plans = by asked.lean
-  where
-    ranged : (disturbed : Bool) (reference : Option Plans) (faces : FaceNumbers) → IsSilent (with_range asked (design_of p) (targets_of p) (IsMadeUnder p) disturbed plans reference faces)
-    ranged true reference faces = λ range s old. refl
-    ranged false reference faces = λ s old. refl
-
-    faced : (with : Bool) (reference : Option Plans) → IsSilent (with_faces asked (design_of p) (targets_of p) (IsMadeUnder p) with asked.disturbed plans reference)
-    faced true reference = ranged asked.disturbed reference
-    faced false reference = λ s old. refl
-
-    by : (lean : Bool) → IsSilent (with_reference asked (design_of p) (targets_of p) (IsMadeUnder p) lean asked.faced asked.disturbed plans)
-    by true = λ references. faced asked.faced (Some references)
-    by false = faced asked.faced None
+make_silent asked p plans = silent_where asked.lean _ _ _ (λ reference. silent_where asked.faced _ _ _ (λ faces. silent_where asked.disturbed _ _ _ (λ range s old. refl)))
 
 -- ---- loops
 -- without shifts
@@ -165,7 +134,8 @@ module _ (words : List (List ℕ)) (s : Status) (files : Files) (now : Option Fi
   Both Made first second new = Two (AreTextsOf Made (word_of words second)) (BothStand files new (word_of words first) (word_of words second))
 
   -- the range that holds, and what is left under it
-  under : (asked : Asked) (d : Design) (t : Targets) (Made : Making) (plans : Plans) (reference : Option Plans) (faces : FaceNumbers) (disturbed : Bool) → Left (with_range asked d t Made disturbed plans reference faces) →
+  under : (asked : Asked) (d : Design) (t : Targets) (Made : Making) (plans : Plans) (reference : Option Plans) (faces : FaceNumbers) (disturbed : Bool) →
+      Left (reads_where disturbed asked.range (range_kind d.states) (λ range. ends (make_act asked d t Made plans reference (under_of d.states (Some faces) range)))) →
       (range : Matrix) × IsRangeIn disturbed asked.range words files d.states range
       × LeavesTwo (AreTextsOf (Made plans reference (Some (record { faces = faces; range = range }))) (word_of words asked.report)) asked.controller asked.report words s (Some files) now
   under asked d t Made plans reference faces true (inl none) = absurd (none.done is)

@@ -4,3 +4,4 @@ pub mod Stay
 pub mod Lean
 pub mod Checking
 pub mod Make
+pub mod Inputs

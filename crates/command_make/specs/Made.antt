@@ -1,5 +1,5 @@
 -- What a design with a policy calls for, with reference plans or without, and what is made of them.
-use Rattle.std.specs.Prelude.{ℕ, Option, Some, None}
+use Rattle.std.specs.Prelude.{ℕ, Option, Some, None, option_map}
 use Rattle.qp_model.specs.problem.Design.{Design}
 use Rattle.qp_model.specs.problem.Policy.{Plans}
 use Rattle.qp_model.specs.problem.Parts.{design_of}
@@ -34,8 +34,7 @@ MakingCallsWith d t plans reference s = CallsFor (CauseOf d t plans reference) (
 
 -- the reference plans that were read
 abbrev pub reference_of : Option Policy → Option Plans
-reference_of None = None
-reference_of (Some reference) = Some (plans_of reference)
+reference_of = option_map plans_of
 
 -- ---- what is made
 -- the controller and its bounds are made leanly of them, and certified, and the bounds are within the targets
@@ -44,6 +43,6 @@ pub record IsLeanMadeOf (p : DesignParts) (plans references : Plans) (c : Number
   pub certified : IsCertified (design_of p) c b
   pub targets : IsWithinTargets (targets_of p) b
 
-abbrev pub IsMadeWith : DesignParts → Plans → (reference : Option Plans) → (Numbers → Printed → Type 0)
-IsMadeWith p plans None = IsMadeOf p plans
-IsMadeWith p plans (Some references) = IsLeanMadeOf p plans references
+abbrev pub IsMadeByPlans : DesignParts → Plans → (reference : Option Plans) → (Numbers → Printed → Type 0)
+IsMadeByPlans p plans None = IsMadeOf p plans
+IsMadeByPlans p plans (Some references) = IsLeanMadeOf p plans references

@@ -11,14 +11,14 @@ use Rattle.qp_model.specs.bounds.Printed.{Printed}
 use Rattle.stay_check.specs.FaceForms.{FaceNumbers}
 use Rattle.command_line.specs.Words.{word_of}
 use Rattle.command_line.specs.Deeds.{Deeds}
-use Rattle.command_line.specs.Script.{Act, Script, ends, reads, Work, deeds_of_work}
+use Rattle.command_line.specs.Script.{Act, Script, ends, reads, reads_where, Work, deeds_of_work}
 use Rattle.command_line.specs.TwoTexts.{two_texts, two_work}
 use Rattle.command_line.specs.declared.status.Status.{Status}
 use Rattle.command_design_files.specs.Reading.{design_kind, policy_kind}
 use Rattle.command_files.specs.Reading.{faces_kind, range_kind}
 use Rattle.command_generate.specs.Engine.Targets.{Targets, targets_of}
-use Rattle.command_generate.specs.Made.{IsRefusedFor, AreTextsOf}
-use Rattle.command_make.specs.Made.{CauseOf, MakingCallsWith, IsMadeWith}
+use Rattle.command_generate.specs.Made.{IsCausedRefusal, AreTextsOf}
+use Rattle.command_make.specs.Made.{CauseOf, MakingCallsWith, IsMadeByPlans}
 use Rattle.command_make.specs.Excess.{AreStatedExcesses}
 use Rattle.command_make.specs.Stay.{FacedCalls, KeepsLoops, no_shifts}
 use Rattle.command_make.specs.declared.command.Asked.{Asked}
@@ -28,16 +28,22 @@ pub record Under : Type 0 where
   pub faces : FaceNumbers
   pub range : Matrix
 
+-- by what was read; without a range they are to hold under no shifts
+abbrev pub under_of : (n : ℕ) → Option FaceNumbers → (range : Option Matrix) → Option Under
+under_of n None range = None
+under_of n (Some faces) None = Some (record { faces = faces; range = no_shifts n })
+under_of n (Some faces) (Some range) = Some (record { faces = faces; range = range })
+
 -- ---- what is called for, and what is made
 -- a refusal, or each test is passed; with faces they answer then
 abbrev pub CallsUnder : Design → Targets → Plans → (reference : Option Plans) → (under : Option Under) → (Status → Type 0)
 CallsUnder d t plans reference None = MakingCallsWith d t plans reference
-CallsUnder d t plans reference (Some u) = FacedCalls (IsRefusedFor (CauseOf d t plans reference)) (AreStatedExcesses d t plans reference) d u.faces u.range
+CallsUnder d t plans reference (Some u) = FacedCalls (IsCausedRefusal (CauseOf d t plans reference)) (AreStatedExcesses d t plans reference) d u.faces u.range
 
 -- a controller and its bounds; with faces its loops stay in the box
 abbrev pub IsMadeUnder : DesignParts → Plans → (reference : Option Plans) → (under : Option Under) → Numbers → Printed → Type 0
-IsMadeUnder p plans reference None c b = IsMadeWith p plans reference c b
-IsMadeUnder p plans reference (Some u) c b = IsMadeWith p plans reference c b × KeepsLoops p c b u.range
+IsMadeUnder p plans reference None c b = IsMadeByPlans p plans reference c b
+IsMadeUnder p plans reference (Some u) c b = IsMadeByPlans p plans reference c b × KeepsLoops p c b u.range
 
 -- ---- the script of a command, by what it asks for and the positions of its files
 -- what is made, by all that was read
@@ -50,22 +56,25 @@ module _ (asked : Asked) (d : Design) (t : Targets) (Made : Making) where
       two_texts (CallsUnder d t plans reference under) (λ words. AreTextsOf (Made plans reference under) (word_of words asked.report)) asked.controller asked.report
 
   -- the range, where there are disturbances
-  abbrev pub with_range : (disturbed : Bool) → Plans → (reference : Option Plans) → FaceNumbers → Script
-  with_range true plans reference faces = reads asked.range (range_kind d.states) (λ range. ends (make_act plans reference (Some (record { faces = faces; range = range }))))
-  with_range false plans reference faces = ends (make_act plans reference (Some (record { faces = faces; range = no_shifts d.states })))
+  abbrev pub with_range : Plans → (reference : Option Plans) → Option FaceNumbers → Script
+  with_range plans reference faces = reads_where asked.disturbed asked.range (range_kind d.states) (λ range. ends (make_act plans reference (under_of d.states faces range)))
 
   -- faces, where it asks for them
-  abbrev pub with_faces : (faced disturbed : Bool) → Plans → (reference : Option Plans) → Script
-  with_faces true disturbed plans reference = reads asked.faces (faces_kind d) (with_range disturbed plans reference)
-  with_faces false disturbed plans reference = ends (make_act plans reference None)
+  abbrev pub with_faces : Plans → (reference : Option Plans) → Script
+  with_faces plans reference = reads_where asked.faced asked.faces (faces_kind d) (with_range plans reference)
 
   -- reference plans, where it makes a lean controller
-  abbrev pub with_reference : (lean faced disturbed : Bool) → Plans → Script
-  with_reference true faced disturbed plans = reads 3 (policy_kind d) (λ references. with_faces faced disturbed plans (Some references))
-  with_reference false faced disturbed plans = with_faces faced disturbed plans None
+  abbrev pub with_reference : Plans → Script
+  with_reference plans = reads_where asked.lean 3 (policy_kind d) (with_faces plans)
+
+  abbrev pub with_policy : Script
+  with_policy = reads 2 (policy_kind d) with_reference
+
+abbrev pub after_policy : Asked → DesignParts → Plans → Script
+after_policy asked p = with_reference asked (design_of p) (targets_of p) (IsMadeUnder p)
 
 abbrev pub make_after : Asked → DesignParts → Script
-make_after asked p = reads 2 (policy_kind (design_of p)) (with_reference asked (design_of p) (targets_of p) (IsMadeUnder p) asked.lean asked.faced asked.disturbed)
+make_after asked p = with_policy asked (design_of p) (targets_of p) (IsMadeUnder p)
 
 abbrev pub make_work : Asked → Work
 make_work asked = two_work (reads 1 design_kind (make_after asked)) asked.controller asked.report
@@ -80,18 +89,23 @@ pub record IsAsked (words : List (List ℕ)) (asked : Asked) : Type 0 where
   pub report : asked.report < length words
   pub apart : word_of words asked.report ≢ word_of words asked.controller
   pub faces : asked.faced ≡ true → asked.faces < length words
-  pub range : asked.faced ≡ true → asked.disturbed ≡ true → asked.range < length words
+  pub range : asked.disturbed ≡ true → asked.range < length words
   pub faces_order : 3 < asked.faces
   pub range_order : asked.faces < asked.range
 
 -- ---- the commands, and their rows of the table
+-- reference plans move the files behind the policy by one
+abbrev pub asked_of : (lean faced disturbed : Bool) → Asked
+asked_of true faced disturbed = record { lean = true; faced = faced; disturbed = disturbed; controller = 4; report = 5; faces = 6; range = 7 }
+asked_of false faced disturbed = record { lean = false; faced = faced; disturbed = disturbed; controller = 3; report = 4; faces = 5; range = 6 }
+
 -- `stay`: with the texts of faces and of the range behind the four names of `generate`
 abbrev pub stay_asked : (disturbed : Bool) → Asked
-stay_asked disturbed = record { lean = false; faced = true; disturbed = disturbed; controller = 3; report = 4; faces = 5; range = 6 }
+stay_asked = asked_of false true
 
 -- `lean`: with reference plans behind the policy, without faces or with them
 abbrev pub lean_asked : (faced disturbed : Bool) → Asked
-lean_asked faced disturbed = record { lean = true; faced = faced; disturbed = disturbed; controller = 4; report = 5; faces = 6; range = 7 }
+lean_asked = asked_of true
 
 abbrev pub stay_deeds : (disturbed : Bool) → Deeds
 stay_deeds disturbed = make_deeds (stay_asked disturbed)

@@ -7,7 +7,7 @@ ghost use Rattle.command_generate.specs.Engine.Bounds.{stated_cost};
 ghost use Rattle.command_generate.specs.Engine.Targets.{targets_of};
 ghost use Rattle.command_line.specs.Answers.{IsAnswer};
 ghost use Rattle.command_line.specs.TwoTexts.{IsUnmade};
-ghost use Rattle.command_make.specs.Made.{MakingCallsWith, IsLeanMadeOf, IsMadeWith, reference_of};
+ghost use Rattle.command_make.specs.Made.{MakingCallsWith, IsLeanMadeOf, IsMadeByPlans, reference_of};
 
 use command_generate::{Made, make_controller};
 use command_line::Status;
@@ -47,7 +47,7 @@ pub fn make(
 ) -> Result<Made, Status>
     requires plans { IsPolicyFor (design_of design.now) (plans_of policy.now) }
     requires references { IfSome reference.now (λ r. IsPolicyFor (design_of design.now) (plans_of r)) }
-    ensures made { IfOk result (λ m. IsMadeWith design.now (plans_of policy.now) (reference_of reference.now) m.controller (printed m.bounds)) }
+    ensures made { IfOk result (λ m. IsMadeByPlans design.now (plans_of policy.now) (reference_of reference.now) m.controller (printed m.bounds)) }
     ensures errors { IfOk result (λ m.
         m.eps ≡ pos (stated_cost (design_of design.now) (unsigned_abs m.bounds.multiplier) m.controller.fraction_bits)) }
     ensures called { IfOk result (λ _. IsAnswer

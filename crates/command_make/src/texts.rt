@@ -1,50 +1,86 @@
 // The texts that are written, of what was read.
-ghost use Rattle.std.specs.Prelude.{◌≡◌, ◌⊎◌, length, Some, None, IfOk, IfErr, IfSome};
+ghost use Rattle.std.specs.Prelude.{◌≡◌, ◌⊎◌, length, Some, None, IfOk, IfErr};
 ghost use Rattle.integer_algebra.specs.Sums.{at};
 ghost use Rattle.qp_model.specs.problem.Design.{rows};
 ghost use Rattle.qp_model.specs.problem.Parts.{design_of};
-ghost use Rattle.qp_model.specs.problem.Policy.{plans_of, IsPolicyFor};
 ghost use Rattle.qp_model.specs.bounds.Printed.{printed};
 ghost use Rattle.qp_model.specs.text.ControllerText.{IsControllerText};
 ghost use Rattle.stay_check.specs.FaceForms.{faces_of, AreFacesFor};
 ghost use Rattle.state_files.specs.RangeText.{IsShiftRange};
 ghost use Rattle.command_line.specs.Answers.{IsAnswer};
 ghost use Rattle.command_line.specs.TwoTexts.{IsUnmade};
-ghost use Rattle.command_generate.specs.Engine.Targets.{targets_of};
 ghost use Rattle.command_generate.specs.Made.{IsReport, AreTextsOf};
-ghost use Rattle.command_make.specs.Made.{reference_of};
 ghost use Rattle.command_make.specs.Checking.{IsKeptWith, IsCaughtWith};
-ghost use Rattle.command_make.specs.Make.{CallsUnder, IsMadeUnder};
+ghost use Rattle.command_make.specs.Inputs.{AreInputs, under_in, calls_of_inputs, made_of_inputs};
 
 use crate::check::check_under;
 use crate::excess::row_excess;
+use crate::inputs::Inputs;
 use crate::made::make;
 use command_generate::{Made, texts_made};
 use command_line::{Status, Texts};
 use mat_int::Mat;
-use qp_model::{Design, Policy};
+use qp_model::Design;
 use stay_check::Faces;
 use std::alloc::Global;
 
-/// Both texts of a design with a policy, and with reference plans where there are any; or the status that tells why there are none.
-pub fn plain_texts(
+/// Both texts of what was read, or the status that tells why there are none.
+pub fn texts_of(alloc: Global, inputs: &Inputs, report_name: &str) -> Result<Texts, Status>
+    requires { AreInputs inputs.now }
+    ensures texts { IfOk result (λ t. AreTextsOf (made_of_inputs inputs.now (under_in inputs.now)) report_name.now t.first.items t.second.items) }
+    ensures called { IfOk result (λ _. IsAnswer (calls_of_inputs inputs.now (under_in inputs.now)) Status.Done) }
+    ensures unmade { IfErr result (IsUnmade (calls_of_inputs inputs.now (under_in inputs.now))) }
+{
+    match &inputs.faces {
+        None => plain_texts(alloc, inputs, report_name),
+        Some(faces) => match &inputs.range {
+            Some(range) => faced_texts(alloc, inputs, faces, range, report_name),
+            None => {
+                let none = Mat::zero(alloc, 2, inputs.design.parts().states)?;
+                faced_texts(alloc, inputs, faces, &none, report_name)
+            }
+        },
+    }
+}
+
+// The texts where there are no faces.
+fn plain_texts(alloc: Global, inputs: &Inputs, report_name: &str) -> Result<Texts, Status>
+    requires { AreInputs inputs.now }
+    ensures texts { IfOk result (λ t. AreTextsOf (made_of_inputs inputs.now None) report_name.now t.first.items t.second.items) }
+    ensures called { IfOk result (λ _. IsAnswer (calls_of_inputs inputs.now None) Status.Done) }
+    ensures unmade { IfErr result (IsUnmade (calls_of_inputs inputs.now None)) }
+{
+    let made = make(alloc, &inputs.design, &inputs.policy, &inputs.reference)?;
+    texts_made(alloc, &made, report_name)
+}
+
+// The texts where the faces show that the loop stays in the box under shifts of this range.
+fn faced_texts(
     alloc: Global,
-    design: &Design,
-    policy: &Policy,
-    reference: &Option<Policy>,
+    inputs: &Inputs,
+    faces: &Faces,
+    range: &Mat,
     report_name: &str,
 ) -> Result<Texts, Status>
-    requires plans { IsPolicyFor (design_of design.now) (plans_of policy.now) }
-    requires references { IfSome reference.now (λ r. IsPolicyFor (design_of design.now) (plans_of r)) }
-    ensures texts { IfOk result (λ t. AreTextsOf (IsMadeUnder design.now (plans_of policy.now) (reference_of reference.now) None)
+    requires inputs { AreInputs inputs.now }
+    requires faces { AreFacesFor (design_of inputs.now.design) (faces_of faces.now) }
+    requires range { IsShiftRange inputs.now.design.states range.now }
+    ensures texts { IfOk result (λ t. AreTextsOf (made_of_inputs inputs.now (Some (record { faces = faces_of faces.now; range = range.now })))
         report_name.now t.first.items t.second.items) }
-    ensures called { IfOk result (λ _. IsAnswer
-        (CallsUnder (design_of design.now) (targets_of design.now) (plans_of policy.now) (reference_of reference.now) None) Status.Done) }
-    ensures unmade { IfErr result (IsUnmade
-        (CallsUnder (design_of design.now) (targets_of design.now) (plans_of policy.now) (reference_of reference.now) None)) }
+    ensures called { IfOk result (λ _. IsAnswer (calls_of_inputs inputs.now (Some (record { faces = faces_of faces.now; range = range.now }))) Status.Done) }
+    ensures unmade { IfErr result (IsUnmade (calls_of_inputs inputs.now (Some (record { faces = faces_of faces.now; range = range.now })))) }
 {
-    let made = make(alloc, design, policy, reference)?;
-    texts_made(alloc, &made, report_name)
+    let made = make(alloc, &inputs.design, &inputs.policy, &inputs.reference)?;
+    let excess = row_excess(alloc, &inputs.design, &inputs.reference, &made)?;
+    texts_checked(
+        alloc,
+        &inputs.design,
+        &made,
+        faces,
+        range,
+        &excess,
+        report_name,
+    )
 }
 
 // Both texts of what was made, where the faces show that a turn of its closed loop stays in the box under shifts of this range, each row exceeded by at most
@@ -68,33 +104,4 @@ fn texts_checked(
 {
     check_under(design, faces, excess, range)?;
     texts_made(alloc, made, report_name)
-}
-
-/// The same, where the faces show that the loop stays in the box under shifts of this range.
-pub fn faced_texts(
-    alloc: Global,
-    design: &Design,
-    policy: &Policy,
-    reference: &Option<Policy>,
-    faces: &Faces,
-    range: &Mat,
-    report_name: &str,
-) -> Result<Texts, Status>
-    requires plans { IsPolicyFor (design_of design.now) (plans_of policy.now) }
-    requires references { IfSome reference.now (λ r. IsPolicyFor (design_of design.now) (plans_of r)) }
-    requires faces { AreFacesFor (design_of design.now) (faces_of faces.now) }
-    requires range { IsShiftRange design.now.states range.now }
-    ensures texts { IfOk result (λ t. AreTextsOf
-        (IsMadeUnder design.now (plans_of policy.now) (reference_of reference.now) (Some (record { faces = faces_of faces.now; range = range.now })))
-        report_name.now t.first.items t.second.items) }
-    ensures called { IfOk result (λ _. IsAnswer
-        (CallsUnder (design_of design.now) (targets_of design.now) (plans_of policy.now) (reference_of reference.now)
-        (Some (record { faces = faces_of faces.now; range = range.now }))) Status.Done) }
-    ensures unmade { IfErr result (IsUnmade
-        (CallsUnder (design_of design.now) (targets_of design.now) (plans_of policy.now) (reference_of reference.now)
-        (Some (record { faces = faces_of faces.now; range = range.now })))) }
-{
-    let made = make(alloc, design, policy, reference)?;
-    let excess = row_excess(alloc, design, reference, &made)?;
-    texts_checked(alloc, design, &made, faces, range, &excess, report_name)
 }

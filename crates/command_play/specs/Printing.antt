@@ -1,31 +1,18 @@
 -- What a listing with states is answered, and what the output gets, on the way.
-use Rattle.std.specs.Prelude.{◌≡◌, ◌≢◌, ◌⊎◌, ℕ, ◌+◌, ◌<◌, ◌≤◌, ℤ, List, ◌++◌, length}
+use Rattle.std.specs.Prelude.{◌≡◌, ◌≢◌, ◌⊎◌, ℕ, ◌<◌, ◌≤◌, List, ◌++◌, length}
 use Rattle.io_edge.specs.Faults.{GrowsByPart}
 use Rattle.mat_int.specs.Matrix.{Matrix, row_of}
 use Rattle.mac_listing.specs.Listing.{Instructions}
 use Rattle.mac_machine.specs.Machine.{NeverTraps}
-use Rattle.mac_machine.specs.Traps.{Stops}
-use Rattle.mac_machine.specs.declared.stop.Stop.TheVariants as stops
-use Rattle.command_play.specs.Plays.{AreInBox, HaveRunRoom, IsTrapped, PlaysCall, run_lines}
+use Rattle.command_play.specs.Plays.{AreInBox, HaveRunRoom, IsTrapped, run_lines}
 use Rattle.command_line.specs.declared.status.Status.{Status}
 use Rattle.command_line.specs.declared.status.Status.TheVariants.{Done, Memory, WriteFault, Trap}
-
--- the run from the state of a record traps, and the status tells where
-pub record TrapsFrom (l : Instructions) (entry : ℕ) (xi : List ℤ) (s : Status) : Type 0 where
-  pub step : ℕ
-  pub place : ℕ
-  pub here : Stops l xi (stops.Trap step place)
-  pub is : s ≡ Trap entry step place
 
 -- a line may be printed: there is a state, all lie in the box, and the first run has room
 pub record MayPrint (l : Instructions) (states : Matrix) : Type 0 where
   pub inside : AreInBox l states (length states.rows)
   pub some : 0 < length states.rows
   pub room : NeverTraps l (row_of states 0)
-
--- what a listing with states is answered: out of memory, or a line may be printed and a print failed, or what is called for
-abbrev pub PlaysEnd : Instructions → Matrix → Status → Type 0
-PlaysEnd l states s = (s ≡ Memory) ⊎ (((s ≡ WriteFault 0) × MayPrint l states) ⊎ PlaysCall l states s)
 
 -- ---- what the output gets
 -- the status tells of a trap

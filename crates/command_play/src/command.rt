@@ -3,11 +3,12 @@ ghost use Rattle.command_line.specs.Words.{IsPlay};
 ghost use Rattle.command_line.specs.Does.{Does};
 ghost use Rattle.command_play.specs.Deeds.{play_deeds};
 
+use crate::lines::player_of;
 use crate::listing::read_listing_file;
-use crate::runs::print_plays;
 use command_files::read_states_file;
 use command_line::Status;
 use io_edge::{Sink, Store, Words};
+use plan_lines::print_prepared;
 use std::alloc::Global;
 
 /// Prints a line for each state of the second file: what the machine of the first file's listing puts out from it, over the listing's denominator.
@@ -21,7 +22,7 @@ pub fn play<S: Store, O: Sink>(alloc: Global, words: &Words, store: &mut S, out:
         Err(ended) => return ended,
     };
     match read_states_file(alloc, 2, words.at(2), listing.parts().inputs, store) {
-        Ok(states) => print_plays(alloc, &listing, &states, out),
+        Ok(states) => print_prepared(alloc, player_of(alloc, &listing), &states, out),
         Err(status) => status,
     }
 }

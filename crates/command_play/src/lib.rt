@@ -2,9 +2,7 @@
 #![tactic(auto)]
 
 mod command;
-mod inside;
 mod lines;
 mod listing;
-mod runs;
 
 pub use command::play;

@@ -1,16 +1,12 @@
 // The lines of runs.
-ghost use Rattle.std.specs.Prelude.{◌≡◌, ◌≢◌, ◌⊎◌, ℕ, ◌+◌, ◌<◌, ◌≤◌, ◌^◌, ◌∷◌, length, IfOk, IfErr, OnOk, IfSome, IsSomeAnd};
-ghost use Rattle.io_edge.specs.Faults.{Rose};
-ghost use Rattle.mac_machine.specs.Box.{IsInBox};
-ghost use Rattle.mac_machine.specs.Machine.{NeverTraps, outputs_of, play_line};
-ghost use Rattle.command_play.specs.Plays.{AreInBox, run_line};
-ghost use Rattle.command_play.specs.Printing.{TellsTrapLater, TrapsFrom, PlaysEnd, PlaysPrint};
+ghost use Rattle.std.specs.Prelude.{◌≡◌, ℕ, ◌∷◌, IfOk};
+ghost use Rattle.mac_machine.specs.Machine.{outputs_of, play_line};
 
 use command_line::Status;
-use io_edge::Sink;
+use mac_listing::Listing;
 use mac_machine::{Machine, Stop};
 use number_text::spaced_text;
-use packed_rows::PackedRows;
+use plan_lines::PreparedMachine;
 use std::alloc::{AllocError, Global};
 
 // What a machine's words put out: the denominator and each word.
@@ -35,55 +31,41 @@ fn output_line(alloc: Global, machine: &Machine) -> Result<Vec<u8>, AllocError>
     Ok(line.into_bytes())
 }
 
-// The line of the run from the state of a record, which lies in the box, or the status that tells of its trap.
-fn line_from(
-    alloc: Global,
-    machine: &mut Machine,
-    entry: u32,
-    state: &[i128],
-) -> Result<Vec<u8>, Status>
-    requires { IsInBox machine.old.listing state.now }
-    ensures line { IfOk result (λ line. line.items ≡ run_line machine.old.listing state.now) }
-    ensures room { OnOk result (NeverTraps machine.old.listing state.now) }
-    ensures ends { IfErr result (λ s. (s ≡ Status.Memory) ⊎ TrapsFrom machine.old.listing entry state.now s) }
-    ensures listing { machine.new.listing ≡ machine.old.listing }
-{
-    match machine.play(state) {
-        Ok(()) => Ok(output_line(alloc, machine)?),
-        Err(Stop::Trap { step, place }) => Err(Status::Trap { entry, step, place }),
-        Err(Stop::OutsideBox { .. }) => unreachable!(),
-    }
+/// A machine that puts out the lines of its listing's runs.
+#[derive(Drop)]
+pub struct Player<'a> {
+    machine: Machine<'a>,
 }
 
-// Prints the lines of states of the box, each as soon as its run has ended, until one traps.
-pub fn print_lines<O: Sink>(
-    alloc: Global,
-    machine: &mut Machine,
-    states: &PackedRows,
-    out: &mut O,
-) -> Status
-    requires width { states.now.cols ≡ machine.old.listing.states }
-    requires count { length states.now.rows < 2 ^ 32 }
-    requires inside { AreInBox machine.old.listing states.now (length states.now.rows) }
-    ensures ends { PlaysEnd machine.old.listing states.now result }
-    ensures printed { IfSome (O.got out.old) (λ old. IsSomeAnd (O.got out.new) (PlaysPrint machine.old.listing states.now result old)) }
-    ensures quiet { result ≢ Status.Done → result ≢ Status.Memory → result ≢ Status.WriteFault 0 → ¬ TellsTrapLater result → out.new ≡ out.old }
-    ensures failed { result ≡ Status.WriteFault 0 → Rose (O.faults out.old) (O.faults out.new) }
-    ensures no_fewer { O.faults out.old ≤ O.faults out.new }
+/// The machine of a listing.
+pub fn player_of(alloc: Global, listing: &Listing) -> Result<Player<'_>, AllocError>
+    ensures { IfOk result (λ p. p.machine.listing ≡ listing.now) }
 {
-    let Ok(mut walk) = states.walk(alloc) else {
-        return Status::Memory;
-    };
-    for i in 0..states.rows() {
-        walk.step();
-        match line_from(alloc, machine, i as u32 + 1, walk.row()) {
-            Ok(line) => {
-                if out.put(&line).is_err() {
-                    return Status::WriteFault { file: 0 };
-                }
-            }
-            Err(status) => return status,
+    let machine = Machine::prepare(alloc, listing)?;
+    Ok(Player { machine })
+}
+
+impl<'a> PreparedMachine for Player<'a> {
+    ghost use Rattle.mac_listing.specs.Listing.{Instructions};
+    ghost use Rattle.command_play.specs.Making.{making_of_runs};
+
+    ghost Subject = { Instructions };
+
+    ghost subject = { λ p. p.machine.listing };
+
+    ghost makes = { making_of_runs };
+
+    ghost is_for = { λ p n. n ≡ p.machine.listing.states };
+
+    fn refused(&self, state: &[i128]) -> Option<u32> {
+        self.machine.first_outside(state)
+    }
+
+    fn line(&mut self, alloc: Global, entry: u32, state: &[i128]) -> Result<Vec<u8>, Status> {
+        match self.machine.play(state) {
+            Ok(()) => Ok(output_line(alloc, &self.machine)?),
+            Err(Stop::Trap { step, place }) => Err(Status::Trap { entry, step, place }),
+            Err(Stop::OutsideBox { .. }) => unreachable!(),
         }
     }
-    Status::Done
 }

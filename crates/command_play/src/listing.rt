@@ -1,7 +1,6 @@
 // A listing's file.
-ghost use Rattle.std.specs.Prelude.{◌≡◌, ◌≢◌, ◌⊎◌, ℕ, IfOk, IfErr};
-ghost use Rattle.io_edge.specs.Faults.{NoneFalls};
-ghost use Rattle.command_line.specs.Kind.{IsRead, EndsRead};
+ghost use Rattle.std.specs.Prelude.{◌≡◌, ℕ};
+ghost use Rattle.command_line.specs.Kind.{ReadsFile};
 ghost use Rattle.command_play.specs.Texts.{listing_kind};
 
 use command_design_files::{FILE_LIMIT, read_bytes};
@@ -28,11 +27,7 @@ pub fn read_listing_file<S: Store>(
     name: &str,
     store: &mut S,
 ) -> Result<Listing, Status>
-    ensures right { IfOk result (λ l. IsRead listing_kind file (S.held store.old) name.now l) }
-    ensures ends { IfErr result (EndsRead listing_kind file (S.held store.old) name.now (S.read_faults store.old name.now) (S.read_faults store.new name.now)) }
-    ensures held { S.held store.new ≡ S.held store.old }
-    ensures reads { NoneFalls (S.read_faults store.old) (S.read_faults store.new) }
-    ensures writes { NoneFalls (S.write_faults store.old) (S.write_faults store.new) }
+    ensures { ReadsFile S.Store listing_kind file name.now (λ l. l) result store.old store.new }
 {
     let bytes = read_bytes(alloc, FILE_LIMIT, file, name, store)?;
     match read_listing(alloc, &bytes) {

@@ -73,7 +73,7 @@ fn answer<S: Store, O: Sink>(
 /// in the box. `lean`, a design file, a policy file, a file of reference plans, a controller file and a report file: does what `generate` does, with as many
 /// steps as the policy's excess over the reference plans asks for; with a file of faces, and one of a range of disturbances or none, where these show that
 /// the closed loop stays in the box. `split`, a design file, a file of cuts, a file of policies, a file of cells and a report file: does what `generate` does
-/// for each cell of the design's box that the cuts make. `serve`, a file of cells and a states file: prints a line for each state, the averaged plan of
+/// for each cell of the design's box that the cuts make and that has a policy. `serve`, a file of cells and a states file: prints a line for each state, the averaged plan of
 /// the first cell's controller whose box holds it. `c`, a controller file, a name, a source file and a header file: writes the controller's program in C,
 /// whose functions have that name. `settle`, a design file, a controller file and a certificate file, and one of a range of disturbances or
 /// none: prints the turn from which every closed loop from the certificate's start box lies in a small box for good, and that box.
@@ -99,9 +99,9 @@ pub fn run<S: Store, O: Sink>(alloc: Global, words: &Words, store: &mut S, out: 
     ensures kept { (disturbed : Bool) → IsLeanStay words.now disturbed → result ≡ Status.Done
         → IfSome (S.held store.old) (λ files. IsSomeAnd (S.held store.new) (IsLeanStayed disturbed words.now files)) }
 
-    // Where `split` answers `Done`, its two files hold the text of a controller for each cell of the design's box and the reports of their bounds. The boxes
-    // of the cells split the design's box: no two have a state in common, and each grid state of the box lies in that of one controller alone, which is
-    // certified there with its bounds.
+    // Where `split` answers `Done`, its two files hold the text of a controller for each cell of the design's box that has a policy, and the reports of their
+    // bounds. The boxes of the cells split the design's box: no two have a state in common, and each grid state of the box lies in one. Where that cell has a
+    // policy, the state lies in the box of one controller alone, which is certified there with its bounds, and else in that of none.
     ensures split { IsSplit words.now → result ≡ Status.Done
         → IfSome (S.held store.old) (λ files. IsSomeAnd (S.held store.new) (IsSplitWritten words.now files)) }
     // Where the first file of `serve` holds such a text, and the second states each of which lies in some cell's box, all is done but for want of memory and

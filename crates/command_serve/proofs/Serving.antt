@@ -1,14 +1,13 @@
 -- The first cell whose box holds a state.
-use Rattle.std.proofs.Common.{◌≡◌, inl, inr, ℕ, zero, suc, ◌+◌, ◌<◌, ◌≤◌, ℤ, List, [], ◌∷◌, ◌++◌, length, get_or, set, take, refl, sym, ap, ◌∙◌, subst, arith}
-use Rattle.std.proofs.lemmas.Bool.{cases_lt, cases_order}
+use Rattle.std.proofs.Common.{◌≡◌, inl, inr, ℕ, zero, suc, ◌+◌, ◌<◌, ◌≤◌, ℤ, List, [], ◌∷◌, ◌++◌, length, get_or, set, take, refl, sym, ap, ◌∙◌, arith}
+use Rattle.std.proofs.lemmas.Bool.{cases_order}
 use Rattle.std.proofs.lemmas.List.{get_or-map, length-map, map-append, take_more}
-use Rattle.mat_int.specs.Matrix.{Matrix, row_of}
 use Rattle.qp_model.specs.machine.Controller.{Numbers}
 use Rattle.qp_model.specs.text.ControllerText.{plan_line}
 use Rattle.fixed_kernel.specs.Progress.{Progress}
 use Rattle.cell_file.specs.Cells.{AreCells}
 use Rattle.cell_file.specs.Finding.{NoneHolds, IsFirstHolding}
-use Rattle.command_serve.specs.Served.{cell_states, HaveWidth, IsHeldBySome, AreServed, controllers_of}
+use Rattle.command_serve.specs.Served.{cell_states, HaveWidth, IsHeldBySome, controllers_of}
 use Rattle.command_serve.specs.Laws.{OneCellLaw}
 
 -- a list that has an element has one
@@ -72,13 +71,6 @@ pub kernels_kept : (kernels : List Progress) (k : ℕ) (p : Progress) → k < le
 kernels_kept [] k p lt same = refl
 kernels_kept (q ∷ kernels) zero p lt same = ap (λ (c : Numbers). c ∷ controllers_of kernels) same
 kernels_kept (q ∷ kernels) (suc k) p lt same = ap (λ (cs : List Numbers). q.controller ∷ cs) (kernels_kept kernels k p (omega (arith, lt)) same)
-
--- ---- states of a matrix
-pub one_served : (cells : List Numbers) (states : Matrix) (i : ℕ) (xi : List ℤ) → AreServed cells states i → xi ≡ row_of states i → IsHeldBySome cells xi → AreServed cells states (i + 1)
-one_served cells states i xi served same held e lt = elim (cases_lt e i) [
-  | inl before ↦ served e before
-  | inr after ↦ subst (λ (k : ℕ). IsHeldBySome cells (row_of states k)) (let is : i ≡ e = omega (arith, lt, after) in is) (subst (IsHeldBySome cells) same held)
-]
 
 -- ---- the width of states
 pub first_states : (cells : List Numbers) (c : Numbers) → 1 ≤ length cells → cell_states cells ≡ (get_or cells 0 c).states

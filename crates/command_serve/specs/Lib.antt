@@ -2,6 +2,7 @@ pub mod Served
 pub mod Unserved
 pub mod Lines
 pub mod Printing
+pub mod Making
 pub mod Serve
 pub mod Laws
 pub mod Held

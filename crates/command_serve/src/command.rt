@@ -5,11 +5,12 @@ ghost use Rattle.command_line.specs.Does.{Does};
 ghost use Rattle.command_serve.specs.Served.{cell_states};
 ghost use Rattle.command_serve.specs.Deeds.{serve_deeds};
 
-use crate::states::serve_states;
+use crate::cells::cells_of;
 use command_files::{read_cells_file, read_states_file};
 use command_line::Status;
 use io_edge::{Sink, Store, Words};
 use overflow_check::Controller;
+use plan_lines::print_prepared;
 use std::alloc::Global;
 
 // How many numbers a state of cells has.
@@ -31,7 +32,7 @@ pub fn serve<S: Store, O: Sink>(alloc: Global, words: &Words, store: &mut S, out
         Err(ended) => return ended,
     };
     match read_states_file(alloc, 2, words.at(2), state_size(&cells), store) {
-        Ok(states) => serve_states(alloc, &cells, &states, out),
+        Ok(states) => print_prepared(alloc, cells_of(alloc, &cells), &states, out),
         Err(status) => status,
     }
 }

@@ -21,10 +21,9 @@ use Rattle.command_line.proofs.Following.{IsSoundWork, nothing_printed}
 use Rattle.command_line.specs.declared.status.Status.{Status}
 use Rattle.command_line.specs.declared.status.Status.TheVariants.{Done, Memory, ReadFault, WriteFault}
 use Rattle.command_loop.proofs.Answering.{mismatch_test}
-use Rattle.command_loop.proofs.CommandFiles.Stopping.{controller_refused, range_refused}
+use Rattle.command_loop.proofs.CommandFiles.Stopping.{controllers_refused}
 use Rattle.command_loop.proofs.DesignFiles.Designs.{same_design}
-use Rattle.command_loop.proofs.DesignFiles.Stopping.{text_refused, design_refused}
-use Rattle.command_settle.specs.CertificateFile.{CertificateWrong}
+use Rattle.command_loop.proofs.DesignFiles.Stopping.{text_refused}
 use Rattle.command_settle.specs.Disturbances.{no_disturbances}
 use Rattle.command_settle.specs.Settle.{CertificateCalls, range_box, told_text, SettlingPrints, settle_act, settle_range, settle_controller, settle_design}
 use Rattle.command_settle.specs.Files.{IsUntold, SettlingEnds}
@@ -38,11 +37,8 @@ quietly s old new done fault (inr (inl is)) = absurd (fault is)
 quietly s old new done fault (inr (inr same)) = same
 
 -- ---- the script
-pub certificate_refused : (c : Numbers) (file : ℕ) (content : Option (List ℕ)) (s : Status) → IsFileRefused file_limit file (CertificateWrong c file) content s → IsRefusal s
-certificate_refused c file = text_refused file (CertificateWrong c file) (λ bytes s wrong. (wrong.0, wrong.2))
-
 range_sound : (disturbed : Bool) (d : Design) (c : Numbers) (f : CertificateNumbers) → IsSound 4 (settle_range disturbed d c f)
-range_sound true d c f = (omega arith, range_refused c.states 4, whole (λ range. ends (settle_act d c f range)), calls_telling d c f)
+range_sound true d c f = (omega arith, text_refused 4, whole (λ range. ends (settle_act d c f range)), calls_telling d c f)
 range_sound false d c f = calls_telling d c f (no_disturbances c.states)
 
 -- a design is known by its numbers
@@ -54,13 +50,13 @@ pub settle_sound : (disturbed : Bool) → IsSoundWork (settle_work disturbed)
 settle_sound disturbed = record {
   sound = (
     omega arith,
-    design_refused 1,
+    text_refused 1,
     sees disturbed,
     λ p. (
       omega arith,
-      controller_refused 2,
+      controllers_refused 2,
       whole (settle_controller disturbed (design_of p)),
-      λ c. (mismatch_test (design_of p) c, (omega arith, certificate_refused c 3, whole (settle_range disturbed (design_of p) c), range_sound disturbed (design_of p) c)),
+      λ c. (mismatch_test (design_of p) c, (omega arith, text_refused 3, whole (settle_range disturbed (design_of p) c), range_sound disturbed (design_of p) c)),
     ),
   );
   first = inl refl;

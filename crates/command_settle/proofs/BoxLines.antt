@@ -3,7 +3,7 @@ use Rattle.std.proofs.Common.{◌≡◌, ℕ, zero, suc, ◌+◌, ◌<◌, List,
 use Rattle.settle_check.specs.Still.{Box}
 use Rattle.settle_check.specs.Certificates.{state_box, IsBoxOf}
 use Rattle.settle_check.specs.declared.certificate.Settled.{Settled}
-use Rattle.command_settle.specs.SettledText.{turn_line, coordinate_line, cost_line, lines_to, settled_text}
+use Rattle.command_settle.specs.SettledText.{turn_line, coordinate_line, cost_row_line, lines_to, settled_text}
 
 -- ---- one line more
 pub none_yet : (line : ℕ → List ℕ) → lines_to line 0 ≡ []
@@ -34,7 +34,7 @@ pub text_same : (turn n after m : ℕ) (z y : Box) (b : Settled) (text : List �
 text_same turn n after m z y b text h g is =
     is ∙ ap (λ (i : ℕ). settled_text turn i (state_box b.rest) after (length b.costs.low.items) (state_box b.costs)) h.low.long
     ∙ ap (λ (i : ℕ). settled_text turn n (state_box b.rest) after i (state_box b.costs)) g.low.long
-    ∙ ap (λ (lines : List ℕ). (turn_line turn ++ lines) ++ lines_to (cost_line after (state_box b.costs)) m)
+    ∙ ap (λ (lines : List ℕ). (turn_line turn ++ lines) ++ lines_to (cost_row_line after (state_box b.costs)) m)
     (lines_same (coordinate_line (state_box b.rest)) (coordinate_line z) n (λ k o. rw (h.low.is k o, h.high.is k o) refl))
     ∙ ap (λ (lines : List ℕ). (turn_line turn ++ lines_to (coordinate_line z) n) ++ lines)
-    (lines_same (cost_line after (state_box b.costs)) (cost_line after y) m (λ k o. rw (g.low.is k o, g.high.is k o) refl))
+    (lines_same (cost_row_line after (state_box b.costs)) (cost_row_line after y) m (λ k o. rw (g.low.is k o, g.high.is k o) refl))

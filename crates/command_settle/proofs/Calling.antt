@@ -9,7 +9,7 @@ use Rattle.settle_check.specs.declared.fault.SettleFault.{SettleFault}
 use Rattle.settle_check.specs.declared.fault.SettleFault.TheVariants as faults
 use Rattle.command_line.specs.Answers.{IsAnswer}
 use Rattle.command_line.specs.Does.{IsTelling}
-use Rattle.command_line.proofs.Doing.{done_telling}
+use Rattle.command_line.proofs.Doing.{IsRefusal, done_telling, plain_refusal}
 use Rattle.command_line.specs.declared.status.Status.{Status}
 use Rattle.command_line.specs.declared.status.Status.TheVariants.{Done, Memory}
 use Rattle.command_settle.specs.Settle.{settle_status, range_box, CertificateCalls}
@@ -23,23 +23,16 @@ module _ (d : Design) (c : Numbers) (f : CertificateNumbers) (range : Matrix) wh
   IsFault = IsSettleFault d c (range_box range) (certificate_in f)
 
   -- ---- the status of a fault
-  pub fault_uncut : (fault : SettleFault) → IsFault fault → IsUncut (settle_status fault)
-  fault_uncut faults.Memory why = absurd why
-  fault_uncut faults.TooWide why = record { done = λ e. cc; read = λ file e. cc; write = λ file e. cc }
-  fault_uncut (faults.Moves row left right) why = record { done = λ e. cc; read = λ file e. cc; write = λ file e. cc }
-  fault_uncut (faults.Unsettled turn coordinate bound) why = record { done = λ e. cc; read = λ file e. cc; write = λ file e. cc }
-  fault_uncut (faults.NoReturn turn coordinate bound) why = record { done = λ e. cc; read = λ file e. cc; write = λ file e. cc }
+  fault_refusal : (fault : SettleFault) → IsFault fault → IsRefusal (settle_status fault)
+  fault_refusal faults.Memory why = absurd why
+  fault_refusal fault why = plain_refusal (settle_status fault) refl
 
-  fault_telling : (fault : SettleFault) → IsFault fault → IsTelling (settle_status fault)
-  fault_telling faults.Memory why = absurd why
-  fault_telling faults.TooWide why = record { usage = λ e. cc; text = λ at e. cc; controller = λ at e. cc }
-  fault_telling (faults.Moves row left right) why = record { usage = λ e. cc; text = λ at e. cc; controller = λ at e. cc }
-  fault_telling (faults.Unsettled turn coordinate bound) why = record { usage = λ e. cc; text = λ at e. cc; controller = λ at e. cc }
-  fault_telling (faults.NoReturn turn coordinate bound) why = record { usage = λ e. cc; text = λ at e. cc; controller = λ at e. cc }
+  pub fault_uncut : (fault : SettleFault) → IsFault fault → IsUncut (settle_status fault)
+  fault_uncut fault why = let is = fault_refusal fault why in record { done = is.done; read = is.read; write = is.write }
 
   pub calls_telling : (s : Status) → CertificateCalls d c f range s → IsTelling s
   calls_telling s (inl done) = done_telling s done.0
-  calls_telling s (inr fault) = subst IsTelling (sym fault.2) (fault_telling fault.0 fault.1)
+  calls_telling s (inr fault) = subst IsTelling (sym fault.2) (fault_refusal fault.0 fault.1).telling
 
   -- where all loops settle, the certificate passed every test
   pub done_passes : CertificateCalls d c f range Done → Passes
@@ -58,10 +51,7 @@ module _ (d : Design) (c : Numbers) (f : CertificateNumbers) (range : Matrix) wh
   -- it has a fault
   never_memory : (fault : SettleFault) → IsFault fault → fault ≡ faults.Memory → ⊥
   never_memory faults.Memory why is = why
-  never_memory faults.TooWide why is = cc
-  never_memory (faults.Moves row left right) why is = cc
-  never_memory (faults.Unsettled turn coordinate bound) why is = cc
-  never_memory (faults.NoReturn turn coordinate bound) why is = cc
+  never_memory fault why is = cc
 
   pub failing : (fault : SettleFault) (s : Status) → s ≡ settle_status fault → (fault ≡ faults.Memory) ⊎ IsFault fault → (Passes → fault ≡ faults.Memory) →
       ((told : SettleFault) → IsFault told → (fault ≡ told) ⊎ (fault ≡ faults.Memory)) → IsUntold d c f range s

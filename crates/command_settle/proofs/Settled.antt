@@ -22,17 +22,16 @@ use Rattle.command_line.specs.Script.{calls_of, shows_of}
 use Rattle.command_line.proofs.Composing.{weaker}
 use Rattle.command_line.specs.declared.status.Status.{Status}
 use Rattle.command_line.specs.declared.status.Status.TheVariants.{Done}
-use Rattle.command_loop.proofs.CommandFiles.Stopping.{controller_refused, range_refused}
+use Rattle.command_loop.proofs.CommandFiles.Stopping.{controllers_refused}
 use Rattle.command_loop.proofs.Refusals.{mismatch_refusal}
 use Rattle.command_loop.specs.DesignFiles.Texts.{DesignRight}
 use Rattle.command_loop.specs.CommandFiles.Texts.{ControllerRight}
-use Rattle.command_loop.proofs.DesignFiles.Stopping.{design_refused}
+use Rattle.command_loop.proofs.DesignFiles.Stopping.{text_refused}
 use Rattle.command_settle.specs.CertificateFile.{CertificateRight}
 use Rattle.command_settle.specs.Disturbances.{no_disturbances, HoldsDisturbances}
 use Rattle.command_settle.specs.Settle.{CertificateCalls, OfCertificate, SettlingPrints, range_box, settle_range, settle_script}
 use Rattle.command_settle.specs.Settled.{SettlesTold, AreLoopsSettled}
 use Rattle.command_settle.proofs.Calling.{done_passes}
-use Rattle.command_settle.proofs.Answering.{certificate_refused}
 
 -- ---- loops settle by what files hold
 held_design : (p : DesignParts) (bytes : List ℕ) → DesignRight p bytes → IsDesign p
@@ -52,7 +51,7 @@ held_settles p c f range design controller certificate d r for z passes =
 -- ---- what is called for
 of_range : (disturbed : Bool) (k : Contents) (d : Design) (c : Numbers) (f : CertificateNumbers) → calls_of (settle_range disturbed d c f) k Done →
     (range : Matrix) × HoldsDisturbances disturbed c.states (k 4) range × CertificateCalls d c f range Done
-of_range true k d c f (inl refused) = absurd ((range_refused c.states 4 (k 4) Done refused).done refl)
+of_range true k d c f (inl refused) = absurd ((text_refused 4 (k 4) Done refused).done refl)
 of_range true k d c f (inr (range, right, call)) = (range, right, call)
 of_range false k d c f call = (no_disturbances c.states, refl, call)
 
@@ -64,10 +63,10 @@ module _ (disturbed : Bool) (k : Contents) (got got_now : Option (List ℕ)) (no
   untold d c f range settles = record { settles = settles; printed = rw none tt }
 
   of_call : calls_of (settle_script disturbed) k Done → OfCertificate disturbed k Told
-  of_call (inl refused) = absurd ((design_refused 1 (k 1) Done refused).done refl)
-  of_call (inr (p, design, inl refused)) = absurd ((controller_refused 2 (k 2) Done refused).done refl)
+  of_call (inl refused) = absurd ((text_refused 1 (k 1) Done refused).done refl)
+  of_call (inr (p, design, inl refused)) = absurd ((controllers_refused 2 (k 2) Done refused).done refl)
   of_call (inr (p, design, inr (c, controller, inl other))) = absurd ((mismatch_refusal (design_of p) c Done other).done refl)
-  of_call (inr (p, design, inr (c, controller, inr (for, inl refused)))) = absurd ((certificate_refused c 3 (k 3) Done refused).done refl)
+  of_call (inr (p, design, inr (c, controller, inr (for, inl refused)))) = absurd ((text_refused 3 (k 3) Done refused).done refl)
   of_call (inr (p, design, inr (c, controller, inr (for, inr (f, certificate, rest))))) =
       let last = of_range disturbed k (design_of p) c f rest in
       record {

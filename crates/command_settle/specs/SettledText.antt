@@ -12,8 +12,8 @@ abbrev pub coordinate_line : Box → ℕ → List ℕ
 coordinate_line z i = text_of (line_of (codes "state") (pos (i + 1) ∷ z.low i ∷ z.high i ∷ []) ∷ [])
 
 -- the line of row k of the cost: its number from 1, the turns from a start after which it lies there, and its least and its greatest over row_den 2^grid
-abbrev pub cost_line : (turns : ℕ) → Box → ℕ → List ℕ
-cost_line turns z k = text_of (line_of (codes "cost") (pos (k + 1) ∷ pos turns ∷ z.low k ∷ z.high k ∷ []) ∷ [])
+abbrev pub cost_row_line : (turns : ℕ) → Box → ℕ → List ℕ
+cost_row_line turns z k = text_of (line_of (codes "cost") (pos (k + 1) ∷ pos turns ∷ z.low k ∷ z.high k ∷ []) ∷ [])
 
 -- the first lines of these
 unfoldable pub lines_to : (line : ℕ → List ℕ) → ℕ → List ℕ
@@ -22,4 +22,4 @@ lines_to line (suc k) = lines_to line k ++ line k
 
 -- the turn and the box of n coordinates, and m rows of the cost
 abbrev pub settled_text : (turn n : ℕ) → Box → (after m : ℕ) → Box → List ℕ
-settled_text turn n z after m y = (turn_line turn ++ lines_to (coordinate_line z) n) ++ lines_to (cost_line after y) m
+settled_text turn n z after m y = (turn_line turn ++ lines_to (coordinate_line z) n) ++ lines_to (cost_row_line after y) m

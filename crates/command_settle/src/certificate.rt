@@ -1,16 +1,15 @@
 // A certificate's file.
 ghost use Rattle.std.specs.Prelude.{◌≡◌, ◌⊎◌, ◌<◌, ◌^◌, length, IfOk, IfErr, MatchResult};
-ghost use Rattle.io_edge.specs.Faults.{NoneFalls};
 ghost use Rattle.settle_check.specs.Certificates.{IsCertificateFor};
 ghost use Rattle.number_text.specs.declared.text_fault.TextFault.{TextFault};
 ghost use Rattle.number_text.specs.declared.text_fault.TextFault.TheVariants.{Memory};
 ghost use Rattle.settle_check.specs.Still.{box_of};
 ghost use Rattle.settle_check.specs.CertificateText.{CertificateNumbers, certificate_numbers, IsCertificateText, IsCertificateFault};
-ghost use Rattle.command_line.specs.Kind.{IsRead, EndsRead};
+ghost use Rattle.command_line.specs.Kind.{ReadsFile};
 ghost use Rattle.command_settle.specs.CertificateFile.{certificate_kind};
 
 use command_line::Status;
-use command_loop::{FILE_LIMIT, read_bytes, text_status};
+use command_loop::{FILE_LIMIT, read_bytes, told_text};
 use io_edge::Store;
 use number_text::TextFault;
 use overflow_check::Controller;
@@ -25,19 +24,11 @@ pub fn read_certificate_file<S: Store>(
     controller: &Controller,
     store: &mut S,
 ) -> Result<CertificateParts, Status>
-    ensures right { IfOk result (λ p. IsRead (certificate_kind controller.now) file (S.held store.old) name.now (certificate_numbers p)) }
+    ensures read { ReadsFile S.Store (certificate_kind controller.now) file name.now certificate_numbers result store.old store.new }
     ensures sized { IfOk result (IsCertificateFor controller.now.states) }
-    ensures ends { IfErr result (λ e. EndsRead (certificate_kind controller.now) file (S.held store.old) name.now
-        (S.read_faults store.old name.now) (S.read_faults store.new name.now) e) }
-    ensures held { S.held store.new ≡ S.held store.old }
-    ensures reads { NoneFalls (S.read_faults store.old) (S.read_faults store.new) }
-    ensures writes { NoneFalls (S.write_faults store.old) (S.write_faults store.new) }
 {
     let bytes = read_bytes(alloc, FILE_LIMIT, file, name, store)?;
-    match certificate_for(alloc, &bytes, controller) {
-        Ok(certificate) => Ok(certificate),
-        Err(fault) => Err(text_status(file, fault)),
-    }
+    told_text(file, certificate_for(alloc, &bytes, controller))
 }
 
 // The certificate of a text for a controller.

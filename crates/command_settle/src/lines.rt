@@ -1,7 +1,7 @@
 // The text that tells where loops settle.
 ghost use Rattle.std.specs.Prelude.{◌≡◌, ◌++◌, ◌<◌, length, IfOk, OnOk, string_bytes};
 ghost use Rattle.settle_check.specs.Certificates.{state_box};
-ghost use Rattle.command_settle.specs.SettledText.{turn_line, coordinate_line, cost_line, lines_to, settled_text};
+ghost use Rattle.command_settle.specs.SettledText.{turn_line, coordinate_line, cost_row_line, lines_to, settled_text};
 
 use number_text::push_line;
 use settle_check::{Settled, StateBox};
@@ -43,7 +43,7 @@ fn push_cost(
 ) -> Result<(), AllocError>
     requires row { k < length costs.now.low.items }
     requires high { length costs.now.high.items ≡ length costs.now.low.items }
-    ensures { OnOk result (string_bytes text.new ≡ string_bytes text.old ++ cost_line turns (state_box costs.now) k) }
+    ensures { OnOk result (string_bytes text.new ≡ string_bytes text.old ++ cost_row_line turns (state_box costs.now) k) }
 {
     push_line(
         alloc,
@@ -56,7 +56,7 @@ fn push_cost(
 // The lines of all.
 fn costs_text(alloc: Global, turns: u32, costs: &StateBox) -> Result<String, AllocError>
     requires high { length costs.now.high.items ≡ length costs.now.low.items }
-    ensures { IfOk result (λ text. string_bytes text ≡ lines_to (cost_line turns (state_box costs.now)) (length costs.now.low.items)) }
+    ensures { IfOk result (λ text. string_bytes text ≡ lines_to (cost_row_line turns (state_box costs.now)) (length costs.now.low.items)) }
 {
     let mut text = String::new(alloc);
     for k in 0..costs.low.len() {

@@ -7,10 +7,9 @@ use Rattle.fixed_kernel.specs.Outside.{IsFirstOutside}
 use Rattle.command_line.specs.Limit.{file_limit}
 use Rattle.command_line.specs.Answers.{FileHolds}
 use Rattle.command_line.specs.Script.{Act, Script, ends, reads}
-use Rattle.command_line.specs.declared.status.Status.{Status}
 use Rattle.command_files.specs.Texts.{ControllerRight, StatesRight}
 use Rattle.command_files.specs.Reading.{controller_kind, states_kind}
-use Rattle.plan_lines.specs.Inside.{AreInside, IsFirstOut}
+use Rattle.plan_lines.specs.Inside.{AreInside}
 use Rattle.plan_lines.specs.Printing.{lines_of_plans, lines_act}
 
 -- two files hold a controller and states that all lie in its box
@@ -18,10 +17,6 @@ pub record HoldsRuns (controller states : Option (List ℕ)) (c : Numbers) (m : 
   pub controller_right : FileHolds file_limit (ControllerRight c) controller
   pub states_right : FileHolds file_limit (StatesRight c.states m) states
   pub inside : AreInside c m (length m.rows)
-
--- the state of a record is the first that lies outside the box, and the status tells which, and its first coordinate outside
-abbrev pub IsOutside : Numbers → Matrix → Status → Type 0
-IsOutside c m s = IsFirstOut (λ e. IsAdmissible c (row_of m e)) (λ e. IsFirstOutside c (row_of m e)) (length m.rows) s
 
 -- the first state outside the box is told, or the lines of the averaged plans are printed
 abbrev pub solve_act : Numbers → Matrix → Act

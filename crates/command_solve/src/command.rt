@@ -3,10 +3,11 @@ ghost use Rattle.command_line.specs.Words.{IsSolve};
 ghost use Rattle.command_line.specs.Does.{Does};
 ghost use Rattle.command_solve.specs.Deeds.{solve_deeds};
 
-use crate::runs::print_runs;
 use command_files::{read_controller_file, read_states_file};
 use command_line::Status;
+use fixed_kernel::Kernel;
 use io_edge::{Sink, Store, Words};
+use plan_lines::print_prepared;
 use std::alloc::Global;
 
 /// Prints a line for each state of the second file, the averaged plan of the first file's controller from that state, over `K*2^f`; nothing where
@@ -20,7 +21,7 @@ pub fn solve<S: Store, O: Sink>(alloc: Global, words: &Words, store: &mut S, out
         Err(ended) => return ended,
     };
     match read_states_file(alloc, 2, words.at(2), controller.parts().n, store) {
-        Ok(states) => print_runs(alloc, &controller, &states, out),
+        Ok(states) => print_prepared(alloc, Kernel::prepare(alloc, &controller), &states, out),
         Err(status) => status,
     }
 }

@@ -2,7 +2,5 @@
 #![tactic(auto)]
 
 mod command;
-mod inside;
-mod runs;
 
 pub use command::solve;

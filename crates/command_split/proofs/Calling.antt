@@ -1,5 +1,6 @@
 -- What the cells of a design with their policies call for.
-use Rattle.std.proofs.Common.{◌≡◌, ◌≢◌, ◌⊎◌, inl, inr, ℕ, ℤ, List, refl, sym, ap, ◌∙◌}
+use Rattle.std.proofs.Common.{◌≡◌, ◌≢◌, ◌⊎◌, inl, inr, ℕ, ℤ, List, Option, Some, None, refl, sym, ap, ◌∙◌}
+use Rattle.std.specs.Prelude.{IfSome, IsSomeAnd}
 use Rattle.qp_model.specs.problem.Policy.{Plans}
 use Rattle.qp_model.specs.problem.Parts.{design_numbers, design_of}
 use Rattle.qp_model.specs.machine.Controller.{Numbers}
@@ -11,14 +12,14 @@ use Rattle.qp_model.specs.declared.refusal.Refusal.{Refusal}
 use Rattle.qp_model.specs.declared.refusal.Refusal.TheVariants as refusals
 use Rattle.cell_split.specs.Cells.{IsCell}
 use Rattle.cell_maker.specs.declared.make.CellRefusal.{CellRefusal}
-use Rattle.cell_maker.specs.Made.{cell_plans, IsCellRefused, IsCellMade, PassesCell, AreCellsMade, IsFirstRefused, IsOnlyRefused}
+use Rattle.cell_maker.specs.Made.{cell_plans, IsCellRefused, IsCellAccepted, IsCellMade, PassesCell, AreCellsMade, IsFirstRefused, IsOnlyRefused}
 use Rattle.cell_maker.proofs.CellDesigns.{cell_same}
-use Rattle.cell_maker.proofs.Cells.{made_at}
+use Rattle.cell_maker.proofs.Cells.{IsMadeAt, made_at}
 use Rattle.command_generate.proofs.Passing.{built_passes}
 use Rattle.command_line.specs.Answers.{IsAnswer}
 use Rattle.command_line.specs.TwoTexts.{IsUnmade}
-use Rattle.command_line.proofs.Doing.{IsRefusal}
-use Rattle.command_line.proofs.TwoTexts.{unmade_memory, unmade}
+use Rattle.command_line.proofs.Doing.{IsRefusal, sort_of, plain_refusal}
+use Rattle.command_line.proofs.TwoTexts.{unmade_memory, unmade, some_weaker}
 use Rattle.command_line.specs.declared.status.Status.{Status}
 use Rattle.command_line.specs.declared.status.Status.TheVariants.{Done, Memory, Cell}
 use Rattle.command_split.specs.Cells.{CellsCall}
@@ -37,23 +38,30 @@ abbrev pub TellsCell : CellRefusal → Status → Type 0
 TellsCell e s = ((s ≡ Memory) × (e.refusal ≡ refusals.Memory)) ⊎ ((s ≡ Cell e.cell e.refusal) × (e.refusal ≢ refusals.Memory))
 
 pub cell_refusal : (cell : ℕ) (refusal : Refusal) (s : Status) → s ≡ Cell cell refusal → IsRefusal s
-cell_refusal cell refusal s is = record {
-  done = λ e. cc;
-  memory = λ e. cc;
-  read = λ f e. cc;
-  write = λ f e. cc;
-  telling = record { usage = λ e. cc; text = λ f e. cc; controller = λ f e. cc };
-}
+cell_refusal cell refusal s is = plain_refusal s (ap sort_of is)
 
-module _ (p : DesignParts) (cuts : List (List ℤ)) (policies : List Plans) where
+-- ---- of a cell that has plans
+if_weaker : {A : Type 0} (o : Option A) (P Q : A → Type 0) → ((a : A) → P a → Q a) → IfSome o P → IfSome o Q
+if_weaker (Some a) P Q h p = h a p
+if_weaker None P Q h p = tt
+
+never_both : {A : Type 0} (o : Option A) (P Q : A → Type 0) → ((a : A) → P a → Q a → ⊥) → IfSome o P → IsSomeAnd o Q → ⊥
+never_both (Some a) P Q h p q = h a p q
+never_both None P Q h p q = q
+
+module _ (p : DesignParts) (cuts : List (List ℤ)) (policies : List (Option Plans)) where
   pub done_called : (cells : List Numbers) (bounds : List Printed) → AreCellsMade p cuts policies cells bounds → IsAnswer (CellsCall p cuts policies) Done
   done_called cells bounds made = record { called = inr (refl, λ k cell. passes k cell); only = only }
     where
-      passes : (k : ℕ) → IsCell cuts k → PassesCell p cuts k (cell_plans policies k)
-      passes k cell = let at = made_at p cuts policies _ cells bounds made k cell.low cell.high in passes_made p cuts k (cell_plans policies k) at.controller at.bounds at.made
+      passes : (k : ℕ) → IsCell cuts k → IfSome (cell_plans policies k) (PassesCell p cuts k)
+      passes k cell =
+          if_weaker (cell_plans policies k) (IsMadeAt p cuts k) (PassesCell p cuts k) (λ plans at. passes_made p cuts k plans at.controller at.bounds at.made)
+          (made_at p cuts policies _ cells bounds made k cell.low cell.high)
 
       none : (e : CellRefusal) → IsFirstRefused p cuts policies e → ⊥
-      none e first = (made_at p cuts policies _ cells bounds made e.cell first.cell.low first.cell.high).made.accepted e.refusal first.here
+      none e first =
+          never_both (cell_plans policies e.cell) (IsMadeAt p cuts e.cell) (λ plans. IsCellRefused p cuts e.cell plans e.refusal) (λ plans at refused. at.made.accepted e.refusal refused)
+          (made_at p cuts policies _ cells bounds made e.cell first.cell.low first.cell.high) first.here
 
       only : (t : Status) → CellsCall p cuts policies t → t ≡ Done
       only t (inl refused) = absurd (none refused.refusal refused.first)
@@ -67,7 +75,14 @@ module _ (p : DesignParts) (cuts : List (List ℤ)) (policies : List Plans) wher
     where
       only : (t : Status) → CellsCall p cuts policies t → t ≡ s
       only t (inl other) = other.is ∙ ap (λ (f : CellRefusal). Cell f.cell f.refusal) (why.only other.refusal other.first) ∙ sym told.0
-      only t (inr done) = absurd (why.fails (done.1 e.cell why.first.cell))
+      only t (inr done) =
+          let o = cell_plans policies e.cell in
+          absurd (never_both o (λ plans. PassesCell p cuts e.cell plans × (PassesCell p cuts e.cell plans → ⊥)) (λ plans. IsCellRefused p cuts e.cell plans e.refusal) (λ plans both refused. both.1 both.0)
+          (both o (done.1 e.cell why.first.cell) why.fails) why.first.here)
+        where
+          both : (o : Option Plans) → IfSome o (PassesCell p cuts e.cell) → IfSome o (λ plans. PassesCell p cuts e.cell plans → ⊥) → IfSome o (λ plans. PassesCell p cuts e.cell plans × (PassesCell p cuts e.cell plans → ⊥))
+          both (Some plans) passes fails = (passes, fails)
+          both None passes fails = tt
 
 -- of a design its numbers are seen
 module _ (p q : DesignParts) (e : design_numbers p ≡ design_numbers q) (cuts : List (List ℤ)) where
@@ -77,16 +92,16 @@ module _ (p q : DesignParts) (e : design_numbers p ≡ design_numbers q) (cuts :
   refused_back : (k : ℕ) (plans : Plans) (r : Refusal) → IsCellRefused q cuts k plans r → IsCellRefused p cuts k plans r
   refused_back k plans r h = record { design = h.design; cell = cell_same q p cuts k h.design (sym e) h.cell; cause = h.cause }
 
-  pub calls_same : (policies : List Plans) (s : Status) → CellsCall p cuts policies s → CellsCall q cuts policies s
+  pub calls_same : (policies : List (Option Plans)) (s : Status) → CellsCall p cuts policies s → CellsCall q cuts policies s
   calls_same policies s (inl refused) = inl (record { refusal = refused.refusal; first = first; is = refused.is })
     where
       first : IsFirstRefused q cuts policies refused.refusal
       first = record {
         cell = refused.first.cell;
-        before = λ k some lt r h. refused.first.before k some lt r (refused_back k (cell_plans policies k) r h);
-        here = refused_same refused.refusal.cell (cell_plans policies refused.refusal.cell) refused.refusal.refusal refused.first.here;
+        before = λ k some lt. if_weaker (cell_plans policies k) (IsCellAccepted p cuts k) (IsCellAccepted q cuts k) (λ plans accepted r h. accepted r (refused_back k plans r h)) (refused.first.before k some lt);
+        here = some_weaker (cell_plans policies refused.refusal.cell) _ _ (λ plans h. refused_same refused.refusal.cell plans refused.refusal.refusal h) refused.first.here;
       }
-  calls_same policies s (inr done) = inr (done.0, λ k cell. same k (done.1 k cell))
+  calls_same policies s (inr done) = inr (done.0, λ k cell. if_weaker (cell_plans policies k) (PassesCell p cuts k) (PassesCell q cuts k) (same k) (done.1 k cell))
     where
-      same : (k : ℕ) → PassesCell p cuts k (cell_plans policies k) → PassesCell q cuts k (cell_plans policies k)
-      same k h = record { design = h.design; cell = cell_same p q cuts k h.design e h.cell; margin = h.margin; exponent = h.exponent; bits = h.bits; all = h.all }
+      same : (k : ℕ) (plans : Plans) → PassesCell p cuts k plans → PassesCell q cuts k plans
+      same k plans h = record { design = h.design; cell = cell_same p q cuts k h.design e h.cell; margin = h.margin; exponent = h.exponent; bits = h.bits; all = h.all }

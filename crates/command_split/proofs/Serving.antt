@@ -1,5 +1,7 @@
 -- The controllers of cells are alike, and each state of the design's box lies in the box of one of them.
-use Rattle.std.proofs.Common.{◌≡◌, ℕ, ◌+◌, ◌-◌, ◌<◌, ◌≤◌, ℤ, ◌≤ℤ◌, List, [], ◌∷◌, length, get_or, sym, ap, subst, ◌∙◌, arith}
+use Rattle.std.proofs.Common.{◌≡◌, inl, inr, ℕ, zero, suc, ◌+◌, ◌-◌, ◌<◌, ◌≤◌, ℤ, ◌≤ℤ◌, List, [], ◌∷◌, length, get_or, Option, Some, None, refl, sym, ap, subst, ◌∙◌, arith}
+use Rattle.std.specs.Prelude.{IfSome, MatchOption}
+use Rattle.std.proofs.lemmas.Bool.{cases_lt}
 use Rattle.integer_algebra.specs.Sums.{at}
 use Rattle.qp_model.specs.problem.Box.{IsGridState}
 use Rattle.qp_model.specs.problem.Parts.{IsDesign, DesignNumbers, design_of}
@@ -11,9 +13,12 @@ use Rattle.qp_model.specs.bounds.Certified.{IsCertifiedAt}
 use Rattle.qp_model.specs.bounds.Printed.{Printed}
 use Rattle.qp_model.specs.declared.design_parts.DesignParts.{DesignParts}
 use Rattle.cell_split.specs.Cells.{cell_low, cell_high, cell_count, cell_of, AreCutsFor, Splits, IsServed}
+use Rattle.cell_split.specs.PoliciesText.{covered}
 use Rattle.cell_split.proofs.CellLaws.{split_law}
+use Rattle.cell_split.proofs.PolicyFacts.{none_covered, covered_next, covered_below}
 use Rattle.cell_split.proofs.Designs.{from_numbers}
 use Rattle.cell_file.specs.Cells.{AreAlike}
+use Rattle.cell_file.specs.Finding.{NoneHolds}
 use Rattle.cell_maker.specs.Made.{cell_plans, IsCellMade, AreCellsMade}
 use Rattle.command_split.specs.Cells.{HaveCellBoxes, IsServedBy, EachIsServed}
 use Rattle.command_split.proofs.BoxFree.{certified_same}
@@ -80,51 +85,109 @@ some_bound : (bounds : List Printed) → 0 < length bounds → Printed
 some_bound [] some = absurd (omega (arith, some))
 some_bound (b ∷ bounds) some = b
 
-module _ (p : DesignParts) (cuts : List (List ℤ)) (policies : List Plans) (cells : List Numbers) (bounds : List Printed) (made : AreCellsMade p cuts policies cells bounds) where
+-- the cell of a controller, from 0, and its plans
+pub record IsOfCell (policies : List (Option Plans)) (n i : ℕ) : Type 0 where
+  pub cell : ℕ
+  pub inside : cell < n
+  pub plans : Plans
+  pub own : cell_plans policies (cell + 1) ≡ Some plans
+  pub place : i ≡ covered policies cell
+
+-- each controller is that of a cell
+pub cell_of_controller : (policies : List (Option Plans)) (n i : ℕ) → i < covered policies n → IsOfCell policies n i
+cell_of_controller policies zero i lt = absurd (omega (arith, lt, none_covered policies))
+cell_of_controller policies (suc n) i lt = elim (cases_lt i (covered policies n)) [
+  | inl l ↦ (let c = cell_of_controller policies n i l in record { cell = c.cell; inside = omega (arith, c.inside); plans = c.plans; own = c.own; place = c.place })
+  | inr l ↦ last (cell_plans policies (n + 1)) refl l
+]
+  where
+    last : (o : Option Plans) → cell_plans policies (n + 1) ≡ o → covered policies n ≤ i → IsOfCell policies (suc n) i
+    last None is l = absurd (omega (arith, lt, l, covered_next policies n None is))
+    last (Some plans) is l = record { cell = n; inside = omega arith; plans = plans; own = is; place = omega (arith, lt, l, covered_next policies n (Some plans) is) }
+
+module _ (p : DesignParts) (cuts : List (List ℤ)) (policies : List (Option Plans)) (cells : List Numbers) (bounds : List Printed) (made : AreCellsMade p cuts policies cells bounds) where
   -- what was made of one, whatever stands for those that aren't there
-  own_made : (k : ℕ) (c : Numbers) → k < cell_count cuts → (b : Printed) × IsCellMade p cuts (k + 1) (cell_plans policies (k + 1)) (get_or cells k c) b
-  own_made k c lt = let b = some_bound bounds (omega (arith, lt, made.bound_count)) in (get_or bounds k b, made.each k c b lt)
+  own_made : (k : ℕ) (c : Numbers) (plans : Plans) → k < cell_count cuts → cell_plans policies (k + 1) ≡ Some plans → (b : Printed) × IsCellMade p cuts (k + 1) plans (get_or cells (covered policies k) c) b
+  own_made k c plans lt own =
+      let below = covered_below policies k (cell_count cuts) plans lt own in
+      let b = some_bound bounds (omega (arith, below, made.bound_count)) in
+      (get_or bounds (covered policies k) b, rw own at (made.each k c b lt))
+
+  -- of that number
+  made_of : (i : ℕ) (c : Numbers) (own : IsOfCell policies (cell_count cuts) i) → (b : Printed) × IsCellMade p cuts (own.cell + 1) own.plans (get_or cells i c) b
+  made_of i c own = let m = own_made own.cell c own.plans own.inside own.own in (m.0, rw own.place m.1)
+
+  its_cell : (i : ℕ) → i < length cells → IsOfCell policies (cell_count cuts) i
+  its_cell i lt = cell_of_controller policies (cell_count cuts) i (omega (arith, lt, made.count))
 
   pub are_alike : (i : ℕ) (c : Numbers) → i < length cells → AreAlike (get_or cells 0 c) (get_or cells i c)
   are_alike i c lt =
-      let first = own_made 0 c (omega (arith, lt, made.count)) in
-      let other = own_made i c (omega (arith, lt, made.count)) in
+      let first = made_of 0 c (its_cell 0 (omega (arith, lt))) in
+      let other = made_of i c (its_cell i lt) in
       alike_of p _ _ (own_sizes p cuts _ _ _ _ first.1) (own_sizes p cuts _ _ _ _ other.1)
 
-  pub boxes : HaveCellBoxes p cuts cells
-  boxes = record { low = λ k c lt. own_low p cuts _ _ _ _ (own_made k c lt).1; high = λ k c lt. own_high p cuts _ _ _ _ (own_made k c lt).1 }
+  boxed : (Box : ℕ → Numbers → Type 0) → ((k : ℕ) (c : Numbers) (plans : Plans) (b : Printed) → IsCellMade p cuts k plans c b → Box k c) →
+      (k : ℕ) (c : Numbers) → k < cell_count cuts → (o : Option Plans) → cell_plans policies (k + 1) ≡ o → IfSome o (λ _. Box (k + 1) (get_or cells (covered policies k) c))
+  boxed Box box k c lt None own = tt
+  boxed Box box k c lt (Some plans) own = let m = own_made k c plans lt own in box (k + 1) (get_or cells (covered policies k) c) plans m.0 m.1
+
+  pub boxes : HaveCellBoxes p cuts policies cells
+  boxes = record {
+    low = λ k c lt. boxed (λ j x. Holds x.low p.states (cell_low (at p.lo.items) cuts j)) (λ j x plans b m. own_low p cuts j plans x b m) k c lt (cell_plans policies (k + 1)) refl;
+    high = λ k c lt. boxed (λ j x. Holds x.high p.states (cell_high (at p.hi.items) cuts j)) (λ j x plans b m. own_high p cuts j plans x b m) k c lt (cell_plans policies (k + 1)) refl;
+  }
 
   module _ (design : IsDesign p) (cut : AreCutsFor (design_of p) cuts) where
     pub splits : Splits (design_of p) cuts
     splits = split_law (design_of p) cuts design.box cut
 
-    pub each_served : EachIsServed (design_of p) cells bounds
-    each_served xi long inside = here (own.cell - 1) (forth own.cell own.is_cell.low)
+    module _ (xi : List ℤ) (long : length xi ≡ p.states) (own : IsServed (design_of p) cuts (at xi)) where
+      -- a controller whose box has the state is that of the state's cell
+      same_cell : (k : ℕ) (c : Numbers) → k < length cells → IsAdmissible (get_or cells k c) xi → (it : IsOfCell policies (cell_count cuts) k) → it.cell + 1 ≡ own.cell
+      same_cell k c lt has it =
+          own.alone (it.cell + 1) (record { low = omega arith; high = omega (arith, it.inside) }) (of_cell p cuts (it.cell + 1) _ _ _ (made_of k c it).1 xi has)
+
+      -- the cell has no plans
+      unserved : cell_plans policies own.cell ≡ None → NoneHolds cells xi (length cells)
+      unserved none k c lt has =
+          let it = its_cell k lt in
+          let is = ap (cell_plans policies) (same_cell k c lt has it) in
+          let never : Some it.plans ≡ None = sym it.own ∙ is ∙ none in
+          cc
+
+      -- it has plans
+      served_by : (i : ℕ) (plans : Plans) → i + 1 ≡ own.cell → cell_plans policies (i + 1) ≡ Some plans → IsServedBy (design_of p) cells bounds xi
+      served_by i plans same is =
+          let there : i < cell_count cuts = omega (arith, same, own.is_cell.high) in
+          let below = covered_below policies i (cell_count cuts) plans there is in
+          let state : IsGridState (cell_of (design_of p) cuts (i + 1)) (at xi) = subst (λ (k : ℕ). IsGridState (cell_of (design_of p) cuts k) (at xi)) (sym same) own.here in
+          record {
+            index = covered policies i;
+            first = record {
+              there = omega (arith, below, made.count);
+              here = λ c. admissible p cuts (i + 1) _ _ _ (own_made i c plans there is).1 xi long state;
+              before = λ k c lt has. let it = alone k c (omega (arith, lt, below, made.count)) has in omega (arith, it, lt);
+            };
+            alone = alone;
+            certified = λ c b. certified_at p cuts (i + 1) plans _ _ (rw is at (made.each i c b there)) xi long state;
+          }
+        where
+          alone : (k : ℕ) (c : Numbers) → k < length cells → IsAdmissible (get_or cells k c) xi → k ≡ covered policies i
+          alone k c lt has =
+              let it = its_cell k lt in
+              let at_cell = same_cell k c lt has it in
+              let one : it.cell ≡ i = omega (arith, at_cell, same) in
+              it.place ∙ ap (covered policies) one
+
+      by_plans : (i : ℕ) → i + 1 ≡ own.cell → (o : Option Plans) → cell_plans policies own.cell ≡ o → MatchOption o (NoneHolds cells xi (length cells)) (λ _. IsServedBy (design_of p) cells bounds xi)
+      by_plans i same None is = unserved is
+      by_plans i same (Some plans) is = served_by i plans same (ap (cell_plans policies) same ∙ is)
+
+    pub each_served : EachIsServed (design_of p) cuts policies cells bounds
+    each_served xi long inside = record { own = own; by = by_plans xi long own (own.cell - 1) (forth own.cell own.is_cell.low) (cell_plans policies own.cell) refl }
       where
         own : IsServed (design_of p) cuts (at xi)
         own = splits.served (at xi) inside
 
         forth : (k : ℕ) → 1 ≤ k → k - 1 + 1 ≡ k
         forth k some = omega (arith, some)
-
-        -- a controller whose box has it is that of its cell
-        alone : (i : ℕ) → i + 1 ≡ own.cell → (k : ℕ) (c : Numbers) → k < length cells → IsAdmissible (get_or cells k c) xi → k ≡ i
-        alone i same k c lt has =
-            let m : k < cell_count cuts = omega (arith, lt, made.count) in
-            let at_cell = own.alone (k + 1) (record { low = omega arith; high = omega (arith, m) }) (of_cell p cuts (k + 1) _ _ _ (own_made k c m).1 xi has) in
-            omega (arith, at_cell, same)
-
-        here : (i : ℕ) → i + 1 ≡ own.cell → IsServedBy (design_of p) cells bounds xi
-        here i same =
-            let there : i < cell_count cuts = omega (arith, same, own.is_cell.high) in
-            let state : IsGridState (cell_of (design_of p) cuts (i + 1)) (at xi) = subst (λ (k : ℕ). IsGridState (cell_of (design_of p) cuts k) (at xi)) (sym same) own.here in
-            record {
-              index = i;
-              first = record {
-                there = omega (arith, there, made.count);
-                here = λ c. admissible p cuts (i + 1) _ _ _ (own_made i c there).1 xi long state;
-                before = λ k c lt has. let is = alone i same k c (omega (arith, lt, there, made.count)) has in omega (arith, is, lt);
-              };
-              alone = alone i same;
-              certified = λ c b. certified_at p cuts (i + 1) _ _ _ (made.each i c b there) xi long state;
-            }

@@ -21,9 +21,9 @@ use Rattle.command_line.proofs.Following.{IsSoundWork, left_told}
 use Rattle.command_line.specs.declared.status.Status.{Status}
 use Rattle.command_line.specs.declared.status.Status.TheVariants.{Done}
 use Rattle.command_design_files.proofs.Designs.{same_design}
-use Rattle.command_design_files.proofs.Stopping.{design_refused}
-use Rattle.command_files.specs.Texts.{CutsRight, CutsWrong, CellPoliciesRight, CellPoliciesWrong}
-use Rattle.command_files.proofs.Stopping.{cuts_refused, cell_policies_refused}
+use Rattle.command_design_files.proofs.Stopping.{text_refused}
+use Rattle.command_files.specs.Texts.{CutsRight, CellPoliciesRight}
+use Rattle.command_files.specs.Reading.{cuts_kind, cell_policies_kind}
 use Rattle.command_line.proofs.TwoTexts.{some_weaker}
 use Rattle.command_split.specs.Cells.{CellsCall}
 use Rattle.command_split.specs.Split.{split_act, split_after, split_after_cuts, split_work, AreCellTexts, IsSplitWritten}
@@ -32,17 +32,17 @@ use Rattle.command_split.proofs.Serving.{boxes, splits, each_served}
 use Rattle.qp_model.specs.problem.Policy.{Plans}
 
 -- ---- its script
-telling : (p : DesignParts) (cuts : List (List ℤ)) (policies : List Plans) (s : Status) → CellsCall p cuts policies s → IsTelling s
+telling : (p : DesignParts) (cuts : List (List ℤ)) (policies : List (Option Plans)) (s : Status) → CellsCall p cuts policies s → IsTelling s
 telling p cuts policies s (inl why) = (cell_refusal why.refusal.cell why.refusal.refusal s why.is).telling
 telling p cuts policies s (inr done) = done_telling s done.0
 
 -- of a design its numbers are seen
 sees : (y x : DesignParts) → design_numbers y ≡ design_numbers x → (contents : Contents) (s : Status) → calls_of (split_after y) contents s → calls_of (split_after x) contents s
-sees y x same contents s (inl refused) = inl (subst (λ (d : Design). IsFileRefused file_limit 2 (CutsWrong d 2) (contents 2) s) (same_design y x same) refused)
+sees y x same contents s (inl refused) = inl (subst (λ (d : Design). IsFileRefused file_limit 2 ((cuts_kind d).wrong 2) (contents 2) s) (same_design y x same) refused)
 sees y x same contents s (inr (cuts, right, rest)) = inr (cuts, subst (λ (d : Design). FileHolds file_limit (CutsRight d cuts) (contents 2)) (same_design y x same) right, after rest)
   where
     after : calls_of (split_after_cuts y cuts) contents s → calls_of (split_after_cuts x cuts) contents s
-    after (inl refused) = inl (subst (λ (d : Design). IsFileRefused file_limit 3 (CellPoliciesWrong d (cell_count cuts) 3) (contents 3) s) (same_design y x same) refused)
+    after (inl refused) = inl (subst (λ (d : Design). IsFileRefused file_limit 3 ((cell_policies_kind d (cell_count cuts)).wrong 3) (contents 3) s) (same_design y x same) refused)
     after (inr (policies, here, calls)) =
         inr (policies, subst (λ (d : Design). FileHolds file_limit (CellPoliciesRight d (cell_count cuts) policies) (contents 3)) (same_design y x same) here, calls_same y x same cuts policies s calls)
 
@@ -50,13 +50,13 @@ pub split_sound : IsSoundWork split_work
 split_sound = record {
   sound = (
     omega arith,
-    design_refused 1,
+    text_refused 1,
     sees,
     λ p. (
       omega arith,
-      cuts_refused (design_of p) 2,
+      text_refused 2,
       whole (split_after_cuts p),
-      λ cuts. (omega arith, cell_policies_refused (design_of p) (cell_count cuts) 3, whole (λ policies. ends (split_act p cuts policies)), telling p cuts),
+      λ cuts. (omega arith, text_refused 3, whole (λ policies. ends (split_act p cuts policies)), telling p cuts),
     ),
   );
   first = inl refl;

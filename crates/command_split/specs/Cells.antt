@@ -1,5 +1,5 @@
 -- What the cells of a design's box with their policies call for, and by which controller each state is served.
-use Rattle.std.specs.Prelude.{◌≡◌, ◌⊎◌, ℕ, ◌+◌, ◌<◌, ℤ, List, length, get_or}
+use Rattle.std.specs.Prelude.{◌≡◌, ◌⊎◌, ℕ, ◌+◌, ◌<◌, ℤ, List, length, get_or, Option, IfSome, MatchOption}
 use Rattle.integer_algebra.specs.Sums.{at}
 use Rattle.qp_model.specs.problem.Box.{IsGridState}
 use Rattle.qp_model.specs.problem.Design.{Design}
@@ -10,8 +10,9 @@ use Rattle.qp_model.specs.machine.Machine.{IsAdmissible}
 use Rattle.qp_model.specs.bounds.Certified.{IsCertifiedAt}
 use Rattle.qp_model.specs.bounds.Printed.{Printed}
 use Rattle.qp_model.specs.declared.design_parts.DesignParts.{DesignParts}
-use Rattle.cell_split.specs.Cells.{cell_low, cell_high, cell_count, IsCell}
-use Rattle.cell_file.specs.Finding.{IsFirstHolding}
+use Rattle.cell_split.specs.Cells.{cell_low, cell_high, cell_count, IsCell, IsServed}
+use Rattle.cell_split.specs.PoliciesText.{covered}
+use Rattle.cell_file.specs.Finding.{IsFirstHolding, NoneHolds}
 use Rattle.cell_maker.specs.Made.{cell_plans, PassesCell, IsFirstRefused}
 use Rattle.cell_maker.specs.declared.make.CellRefusal.{CellRefusal}
 use Rattle.command_line.specs.declared.status.Status.{Status}
@@ -19,24 +20,24 @@ use Rattle.command_line.specs.declared.status.Status.TheVariants.{Done, Cell}
 
 -- ---- answers
 -- the design of a cell is refused, the first, and the status says which and why
-pub record IsRefusedCell (p : DesignParts) (cuts : List (List ℤ)) (policies : List Plans) (s : Status) : Type 0 where
+pub record IsRefusedCell (p : DesignParts) (cuts : List (List ℤ)) (policies : List (Option Plans)) (s : Status) : Type 0 where
   pub refusal : CellRefusal
   pub first : IsFirstRefused p cuts policies refusal
   pub is : s ≡ Cell refusal.cell refusal.refusal
 
--- the design of each cell with its plans passes every test
-abbrev pub EachPasses : DesignParts → List (List ℤ) → List Plans → Type 0
-EachPasses p cuts policies = (k : ℕ) → IsCell cuts k → PassesCell p cuts k (cell_plans policies k)
+-- the design of each cell that has plans passes every test with them
+abbrev pub EachPasses : DesignParts → List (List ℤ) → List (Option Plans) → Type 0
+EachPasses p cuts policies = (k : ℕ) → IsCell cuts k → IfSome (cell_plans policies k) (PassesCell p cuts k)
 
--- what a design with cuts and the policies of their cells calls for: the first refusal, or each cell's design passes every test
-abbrev pub CellsCall : DesignParts → List (List ℤ) → List Plans → Status → Type 0
+-- what a design with cuts and the policies of their cells calls for: the first refusal, or the design of each cell with plans passes every test
+abbrev pub CellsCall : DesignParts → List (List ℤ) → List (Option Plans) → Status → Type 0
 CellsCall p cuts policies s = IsRefusedCell p cuts policies s ⊎ ((s ≡ Done) × EachPasses p cuts policies)
 
 -- ---- controllers
--- the own box of each controller is that of its cell; the first, of index 0, is that of cell 1
-pub record HaveCellBoxes (p : DesignParts) (cuts : List (List ℤ)) (cells : List Numbers) : Type 0 where
-  pub low : (k : ℕ) (c : Numbers) → k < cell_count cuts → Holds (get_or cells k c).low p.states (cell_low (at p.lo.items) cuts (k + 1))
-  pub high : (k : ℕ) (c : Numbers) → k < cell_count cuts → Holds (get_or cells k c).high p.states (cell_high (at p.hi.items) cuts (k + 1))
+-- The own box of each controller is that of its cell: that of cell k + 1, if this has plans, is the controller before which there are as many as cells before it have plans.
+pub record HaveCellBoxes (p : DesignParts) (cuts : List (List ℤ)) (policies : List (Option Plans)) (cells : List Numbers) : Type 0 where
+  pub low : (k : ℕ) (c : Numbers) → k < cell_count cuts → IfSome (cell_plans policies (k + 1)) (λ _. Holds (get_or cells (covered policies k) c).low p.states (cell_low (at p.lo.items) cuts (k + 1)))
+  pub high : (k : ℕ) (c : Numbers) → k < cell_count cuts → IfSome (cell_plans policies (k + 1)) (λ _. Holds (get_or cells (covered policies k) c).high p.states (cell_high (at p.hi.items) cuts (k + 1)))
 
 -- One controller has the state in its box, and no other; so it is the first that has. It is certified there with its bounds, for the whole design.
 pub record IsServedBy (d : Design) (cells : List Numbers) (bounds : List Printed) (xi : List ℤ) : Type 0 where
@@ -45,6 +46,11 @@ pub record IsServedBy (d : Design) (cells : List Numbers) (bounds : List Printed
   pub alone : (k : ℕ) (c : Numbers) → k < length cells → IsAdmissible (get_or cells k c) xi → k ≡ index
   pub certified : (c : Numbers) (b : Printed) → IsCertifiedAt d (get_or cells index c) (get_or bounds index b) xi
 
+-- One cell has the state. If the cell has plans, the state is served by one controller; if not, no controller has it in its box, so that `serve` refuses it.
+pub record IsServedByCell (d : Design) (cuts : List (List ℤ)) (policies : List (Option Plans)) (cells : List Numbers) (bounds : List Printed) (xi : List ℤ) : Type 0 where
+  pub own : IsServed d cuts (at xi)
+  pub by : MatchOption (cell_plans policies own.cell) (NoneHolds cells xi (length cells)) (λ _. IsServedBy d cells bounds xi)
+
 -- so it is at each grid state of the box
-abbrev pub EachIsServed : Design → List Numbers → List Printed → Type 0
-EachIsServed d cells bounds = (xi : List ℤ) → length xi ≡ d.states → IsGridState d (at xi) → IsServedBy d cells bounds xi
+abbrev pub EachIsServed : Design → List (List ℤ) → List (Option Plans) → List Numbers → List Printed → Type 0
+EachIsServed d cuts policies cells bounds = (xi : List ℤ) → length xi ≡ d.states → IsGridState d (at xi) → IsServedByCell d cuts policies cells bounds xi

@@ -28,8 +28,8 @@ abbrev pub report_texts : List Printed → List ℕ
 report_texts bounds = flat_map report_text bounds
 
 -- ---- what it does: it reads a design, cuts of its box and the policies of all cells, and writes the texts of what is made of them
--- the text of the controllers of all cells and the reports of their bounds
-pub record AreCellTexts (p : DesignParts) (cuts : List (List ℤ)) (policies : List Plans) (text report : List ℕ) : Type 0 where
+-- the text of the controllers of all cells that have plans, and the reports of their bounds
+pub record AreCellTexts (p : DesignParts) (cuts : List (List ℤ)) (policies : List (Option Plans)) (text report : List ℕ) : Type 0 where
   pub design : IsDesign p
   pub cut : AreCutsFor (design_of p) cuts
   pub cells : List Numbers
@@ -38,7 +38,7 @@ pub record AreCellTexts (p : DesignParts) (cuts : List (List ℤ)) (policies : L
   pub is_text : IsCellsText text cells
   pub is_report : report ≡ report_texts bounds
 
-abbrev pub split_act : DesignParts → List (List ℤ) → List Plans → Act
+abbrev pub split_act : DesignParts → List (List ℤ) → List (Option Plans) → Act
 split_act p cuts policies = two_texts (CellsCall p cuts policies) (λ words. AreCellTexts p cuts policies) 4 5
 
 abbrev pub split_after_cuts : DesignParts → List (List ℤ) → Script
@@ -60,18 +60,19 @@ pub record HoldsCutDesign (design cuts : Option (List ℕ)) (p : DesignParts) (l
   pub design_right : FileHolds file_limit (DesignRight p) design
   pub cuts_right : FileHolds file_limit (CutsRight (design_of p) lists) cuts
 
--- The controllers and their bounds are those of the cells of the design's box, one for each in their order: each is built of its cell's design, certified for it and within its
--- targets. The cells split the box, each controller's own box is its cell's, and each grid state of the design's box is served by one controller.
+-- The controllers and their bounds are those of the cells of the design's box that have plans, one for each in their order: each is built of its cell's design, certified for it
+-- and within its targets. The cells split the box, each controller's own box is its cell's, and each grid state of the design's box lies in one cell: it is served by one
+-- controller, if the cell has plans, and by none, if not.
 pub record AreSplitFrom (design cuts policies : Option (List ℕ)) (cells : List Numbers) (bounds : List Printed) : Type 0 where
   pub p : DesignParts
   pub lists : List (List ℤ)
-  pub plans : List Plans
+  pub plans : List (Option Plans)
   pub inputs : HoldsCutDesign design cuts p lists
   pub policies_right : FileHolds file_limit (CellPoliciesRight (design_of p) (cell_count lists) plans) policies
   pub splits : Splits (design_of p) lists
   pub made : AreCellsMade p lists plans cells bounds
-  pub boxes : HaveCellBoxes p lists cells
-  pub served : EachIsServed (design_of p) cells bounds
+  pub boxes : HaveCellBoxes p lists plans cells
+  pub served : EachIsServed (design_of p) lists plans cells bounds
 
 -- of what the names hold
 abbrev pub AreSplitOfFiles : (words : List (List ℕ)) → Files → List Numbers → List Printed → Type 0

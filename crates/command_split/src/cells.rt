@@ -1,5 +1,6 @@
 // The controllers of all cells and their texts.
-ghost use Rattle.std.specs.Prelude.{◌≡◌, ◌≢◌, ◌⊎◌, ◌≤◌, ◌<◌, ◌++◌, ℕ, List, All, length, get_or, map, take, IfOk, IfErr};
+ghost use Rattle.std.specs.Prelude.{◌≡◌, ◌≢◌, ◌⊎◌, ◌≤◌, ◌<◌, ◌++◌, ℕ, List, All, length, get_or, map, take, IfOk, IfErr, IfSome};
+ghost use Rattle.std.specs.Option.{option_map};
 ghost use Rattle.std.specs.List.{flat_map};
 ghost use Rattle.qp_model.specs.problem.Parts.{IsDesign, design_of};
 ghost use Rattle.qp_model.specs.problem.Policy.{plans_of, IsPolicyFor};
@@ -7,6 +8,7 @@ ghost use Rattle.qp_model.specs.machine.Controller.{Numbers};
 ghost use Rattle.qp_model.specs.bounds.Printed.{printed};
 ghost use Rattle.bound_report.specs.Report.{report_text};
 ghost use Rattle.cell_split.specs.Cells.{cell_count, AreCutsFor};
+ghost use Rattle.cell_split.specs.PoliciesText.{covered};
 ghost use Rattle.cell_maker.specs.Made.{AreCellsMade};
 ghost use Rattle.cell_file.specs.Cells.{AreAlike};
 ghost use Rattle.cell_file.specs.Text.{IsCellsText};
@@ -42,14 +44,14 @@ fn cells_made(
     alloc: Global,
     design: &Design,
     cuts: &Cuts,
-    policies: &[Policy],
+    policies: &[Option<Policy>],
 ) -> Result<MadeCells, Status>
     requires cuts { AreCutsFor (design_of design.now) cuts.now }
     requires count { length policies.now ≡ cell_count cuts.now }
-    requires sized { All (λ p. IsPolicyFor (design_of design.now) (plans_of p)) policies.now }
-    ensures made { IfOk result (λ m. AreCellsMade design.now cuts.now (map plans_of policies.now) m.controllers.items (map printed m.bounds.items)) }
-    ensures called { IfOk result (λ _. IsAnswer (CellsCall design.now cuts.now (map plans_of policies.now)) Status.Done) }
-    ensures unmade { IfErr result (IsUnmade (CellsCall design.now cuts.now (map plans_of policies.now))) }
+    requires sized { All (λ o. IfSome o (λ p. IsPolicyFor (design_of design.now) (plans_of p))) policies.now }
+    ensures made { IfOk result (λ m. AreCellsMade design.now cuts.now (map (option_map plans_of) policies.now) m.controllers.items (map printed m.bounds.items)) }
+    ensures called { IfOk result (λ _. IsAnswer (CellsCall design.now cuts.now (map (option_map plans_of) policies.now)) Status.Done) }
+    ensures unmade { IfErr result (IsUnmade (CellsCall design.now cuts.now (map (option_map plans_of) policies.now))) }
 {
     match make_cells(alloc, design, cuts, policies) {
         Ok(made) => Ok(made),
@@ -84,19 +86,20 @@ fn texts_made(alloc: Global, made: &MadeCells) -> Result<Texts, Status>
     Ok(Texts { first, second })
 }
 
-/// Both texts of the cells of a design's box with their policies; or the status that tells why there are none.
+/// Both texts of the cells of a design's box that have a policy, one at least; or the status that tells why there are none.
 pub(crate) fn texts_of(
     alloc: Global,
     design: &Design,
     cuts: &Cuts,
-    policies: &[Policy],
+    policies: &[Option<Policy>],
 ) -> Result<Texts, Status>
     requires cuts { AreCutsFor (design_of design.now) cuts.now }
     requires count { length policies.now ≡ cell_count cuts.now }
-    requires sized { All (λ p. IsPolicyFor (design_of design.now) (plans_of p)) policies.now }
-    ensures texts { IfOk result (λ t. AreCellTexts design.now cuts.now (map plans_of policies.now) t.first.items t.second.items) }
-    ensures called { IfOk result (λ _. IsAnswer (CellsCall design.now cuts.now (map plans_of policies.now)) Status.Done) }
-    ensures unmade { IfErr result (IsUnmade (CellsCall design.now cuts.now (map plans_of policies.now))) }
+    requires sized { All (λ o. IfSome o (λ p. IsPolicyFor (design_of design.now) (plans_of p))) policies.now }
+    requires some { 1 ≤ covered (map (option_map plans_of) policies.now) (cell_count cuts.now) }
+    ensures texts { IfOk result (λ t. AreCellTexts design.now cuts.now (map (option_map plans_of) policies.now) t.first.items t.second.items) }
+    ensures called { IfOk result (λ _. IsAnswer (CellsCall design.now cuts.now (map (option_map plans_of) policies.now)) Status.Done) }
+    ensures unmade { IfErr result (IsUnmade (CellsCall design.now cuts.now (map (option_map plans_of) policies.now))) }
 {
     // A design keeps its rules, and the cuts make 1 to 64 cells; with these read, that is known on every way out.
     let _parts = design.parts();

@@ -15,7 +15,7 @@ use io_edge::{Store, Words};
 use qp_model::Design;
 use std::alloc::Global;
 
-/// Makes a controller for each cell of the box of the design in the first file, as the cuts in the second split it, with the policies in the third, and
+/// Makes a controller for each cell of the box of the design in the first file, as the cuts in the second split it, that has a policy in the third, and
 /// writes the text of all controllers to the fourth and the texts of their reports, one after the other, to the fifth. Nothing is written before both are
 /// there.
 pub fn split<S: Store>(alloc: Global, words: &Words, store: &mut S) -> Status

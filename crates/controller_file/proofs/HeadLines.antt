@@ -207,7 +207,8 @@ bits_follow ls l b len p h =
     let last = sym (four_is l (codes "bits") (pos f.0) (pos g.0) (pos s.0) (pos w.0) p f.1 g.1 s.1 w.1) in
     changed ls l b d (drop 3 (keyed_lines d)) (g.2.1, f.2, s.2.1, w.2, b.whole.form.steps, sized.clamp_low, sized.clamp_high) even (own_box c b.whole.form) (λ i. front i ++ (last i ∷ drop 3 (keyed_lines d)))
 
-pub steps_follow : (ls : List Keyed) (l : Keyed) (b : IsBeginning IsAnyWhole ls) → length ls ≡ 3 → place_of l ≡ place (codes "steps") 1 → IsFrom (pos 1) (pos (most_steps b.whole.numbers.version)) (at l.numbers 0) → IsBeginning IsAnyWhole (ls ++ l ∷ [])
+pub steps_follow : (ls : List Keyed) (l : Keyed) (b : IsBeginning IsAnyWhole ls) → length ls ≡ 3 → place_of l ≡ place (codes "steps") 1
+    → IsFrom (pos 1) (pos (most_steps b.whole.numbers.version)) (at l.numbers 0) → IsBeginning IsAnyWhole (ls ++ l ∷ [])
 steps_follow ls l b len p h =
     let c = b.whole.numbers in
     let own = own_head c b.whole.form in

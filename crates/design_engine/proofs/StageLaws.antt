@@ -1,5 +1,5 @@
 -- The tests of any controller as lists: those of the corners, of a form and of an aim. Each list tells at most one refusal, and none where all are passed.
-use Rattle.std.proofs.Common.{◌≡◌, inl, inr, ℕ, ◌^◌, ◌≤◌, ℤ, pos, ◌*ℤ◌, ◌≤ℤ◌, ◌<ℤ◌, unsigned_abs, arith, refl, sym, ◌∙◌}
+use Rattle.std.proofs.Common.{◌≡◌, inl, inr, ℕ, ◌^◌, ◌≤◌, ℤ, pos, ◌*ℤ◌, ◌≤ℤ◌, ◌<ℤ◌, unsigned_abs, arith, rules, refl, sym, ◌∙◌}
 use Rattle.std.proofs.lemmas.Int.{ints}
 use Rattle.integer_algebra.proofs.OrderLaws.{le_of_lt_z, mul-le-mul_right_z}
 use Rattle.frac_scaled.specs.declared.fraction.Frac.{Frac}
@@ -22,8 +22,8 @@ use Rattle.design_engine.specs.Stages.{Nothing, Sized, Finds, IsFlat, OfForm, Is
 use Rattle.design_engine.specs.Tests.{width_of, PassesForm, HasFormCause, PassesAim, IsLong, IsFine, AfterBits, AfterSteps, HasAimCause}
 use Rattle.design_engine.specs.declared.aimed.Aim.{Aim}
 use Rattle.qp_model.specs.declared.refusal.Refusal.{Refusal}
-use Rattle.qp_model.specs.declared.refusal.Refusal.TheVariants.{NoMargin, TooWide}
-use Rattle.design_engine.proofs.TestLaws.{IsOne, IsNone, nothing_one, nothing_none, next_one, next_none, sized_one, sized_none, sized_map, sized_clear, finds_one, finds_none}
+use Rattle.qp_model.specs.declared.refusal.Refusal.TheVariants.{Memory, NoMargin, Curvature, TooManySteps, TooFine, TooWide}
+use Rattle.design_engine.proofs.TestLaws.{IsOne, IsNone, IsApart, nothing_one, nothing_none, next_one, next_none, sized_one, sized_none, sized_map, sized_clear, sized_apart, finds_one, finds_none}
 use Rattle.design_engine.proofs.CauseCases.{wide_corner, wide_form}
 use Rattle.design_engine.proofs.OneOfEach.{one_margin, one_slack, one_corner, one_row, one_exponent, no_exponent, one_choice, no_choice, slack_positive}
 
@@ -52,6 +52,19 @@ aim_clear d a s f none few bits =
     let error = sized_clear Error _ (Finds ℕ (IsFine d a) (AreBitsOf d a) (AfterBits d a s)) (λ e h. none e (inr (few, h))) in
     let descent = sized_clear Descent _ (Sized Width (width_of d a s f) Nothing) (λ e h. error.1 e (inr (f, bits, h))) in
     record { before = record { steps = few; error = error.0; choice = bits }; descent = descent.0; width = (sized_clear Width _ Nothing descent.1).0 }
+
+pub aim_apart : (d : Design) (a : Aim) (s : ℕ) → IsApart (HasAimCause d a s)
+aim_apart d a s e memory (inl h) = long (pos (steps_of a s)) (sym memory ∙ h.0)
+  where
+    long : (k : ℤ) → Memory ≡ TooManySteps k → ⊥
+    long k g = search rules
+aim_apart d a s e memory (inr h) = sized_apart Error _ (Finds ℕ (IsFine d a) (AreBitsOf d a) (AfterBits d a s)) chosen e memory h.1
+  where
+    fine : (eps : ℤ) → Memory ≡ TooFine eps → ⊥
+    fine eps g = search rules
+    chosen : IsApart (Finds ℕ (IsFine d a) (AreBitsOf d a) (AfterBits d a s))
+    chosen e memory (inl h) = fine _ (sym memory ∙ h.0)
+    chosen e memory (inr h) = sized_apart Descent _ (Sized Width (width_of d a s h.0) Nothing) (sized_apart Width _ Nothing (λ e memory never. never)) e memory h.2
 
 -- ---- a form, and then what is tested with the step exponent
 module _ (d : Design) (after : ℕ → Refusal → Type 0) where
@@ -86,6 +99,15 @@ module _ (d : Design) (after : ℕ → Refusal → Type 0) where
       let curvature = sized_clear curvature_named _ _ rows.1 in
       (record { prediction = prediction.0; hessian = hessian.0; rows = rows.0; curvature = curvature.0 }, λ s exponent e h. curvature.1 e (inr (s, exponent, h)))
 
+  pub form_apart : ((s : ℕ) → IsApart (after s)) → IsApart (OfForm d after)
+  form_apart apart = sized_apart Prediction _ _ (sized_apart Hessian _ _ (sized_apart Rows _ _ (sized_apart curvature_named _ _ found)))
+    where
+      flat : Memory ≡ Curvature → ⊥
+      flat g = search rules
+      found : IsApart (Finds ℕ (IsFlat d) (IsExponentOf d) after)
+      found e memory (inl h) = flat (sym memory ∙ h.0)
+      found e memory (inr h) = apart h.0 e memory h.2
+
   pub form_none : (s : ℕ) → PassesForm d → IsExponentOf d s → IsNone (after s) → IsNone (OfForm d after)
   form_none s h exponent none = sized_none Prediction _ _ h.prediction (sized_none Hessian _ _ h.hessian (sized_none Rows _ _ h.rows (sized_none curvature_named _ _ h.curvature
       (finds_none ℕ (IsFlat d) (IsExponentOf d) after s flat_clash (one_exponent d) exponent none))))
@@ -113,6 +135,15 @@ module _ (d : Design) (plans : Plans) (after : Margin → Refusal → Type 0) wh
       let slack = sized_clear CornerSlack _ _ prediction.1 in
       let cost = sized_clear CornerCost _ _ slack.1 in
       (record { prediction = prediction.0; slack = slack.0; cost = cost.0 }, λ e h. cost.1 e (inr (m, (margin, units), h)))
+
+  pub corners_apart : ((m : Margin) → IsApart (after m)) → IsApart (OfCorners d plans after)
+  corners_apart apart = sized_apart Prediction _ _ (sized_apart CornerSlack _ _ (sized_apart CornerCost _ _ found))
+    where
+      short : (corner row : ℕ) (slack : Frac) → Memory ≡ NoMargin corner row slack → ⊥
+      short corner row slack g = search rules
+      found : IsApart (Finds Margin (IsShort d plans) (IsWideMargin d plans) after)
+      found e memory (inl h) = short h.0 h.1 h.2 (sym memory ∙ h.3)
+      found e memory (inr h) = apart h.0 e memory h.2
 
   short_one : IsOne (IsShort d plans)
   short_one e other a b =

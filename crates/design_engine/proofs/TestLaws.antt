@@ -1,9 +1,9 @@
 -- A list of tests, one after the other, each of which tells a refusal where it fails: it tells at most one, and none where all are passed.
-use Rattle.std.proofs.Common.{◌≡◌, inl, inr, ◌⊎◌, ℕ, ◌^◌, ◌<◌, ◌≤◌, arith, refl, sym, ◌∙◌, subst}
+use Rattle.std.proofs.Common.{◌≡◌, inl, inr, ◌⊎◌, ℕ, ◌^◌, ◌<◌, ◌≤◌, arith, rules, refl, sym, ◌∙◌, subst}
 use Rattle.std.proofs.lemmas.Bool.{cases_lt}
 use Rattle.qp_model.specs.declared.quantity.Quantity.{Quantity}
 use Rattle.qp_model.specs.declared.refusal.Refusal.{Refusal}
-use Rattle.qp_model.specs.declared.refusal.Refusal.TheVariants.{TooWide}
+use Rattle.qp_model.specs.declared.refusal.Refusal.TheVariants.{Memory, TooWide}
 use Rattle.design_engine.specs.Stages.{Nothing, Next, IsPast, Sized, Finds}
 
 -- at most one refusal
@@ -55,6 +55,17 @@ sized_map quantity size more other f e (inr h) = inr (h.0, f e h.1)
 pub sized_clear : (quantity : Quantity) (size : ℕ) (more : Refusal → Type 0) → IsNone (Sized quantity size more) → (size ≤ 2 ^ 126) × IsNone more
 sized_clear quantity size more none =
     elim (cases_lt (2 ^ 126) size) [ inl lt ↦ absurd (none (TooWide quantity) (inl (refl, lt))) | inr le ↦ (le, λ e h. none e (inr (le, h))) ]
+
+-- ---- out of memory is told by no test
+abbrev pub IsApart : (Refusal → Type 0) → Type 0
+IsApart told = (e : Refusal) → e ≡ Memory → told e → ⊥
+
+pub sized_apart : (quantity : Quantity) (size : ℕ) (more : Refusal → Type 0) → IsApart more → IsApart (Sized quantity size more)
+sized_apart quantity size more after e memory (inl h) = wide (sym memory ∙ h.0)
+  where
+    wide : Memory ≡ TooWide quantity → ⊥
+    wide g = search rules
+sized_apart quantity size more after e memory (inr h) = after e memory h.1
 
 -- ---- a number that is looked for, and more tests with it
 pub finds_one : (A : Type 0) (told : Refusal → Type 0) (is : A → Type 0) (more : A → Refusal → Type 0) → IsOne told →

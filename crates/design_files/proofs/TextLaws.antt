@@ -1,11 +1,11 @@
 -- A text is a design text or has a first fault, and not both; and it has one of either.
-use Rattle.std.proofs.Common.{◌≡◌, ◌⊎◌, ℕ, ◌+◌, ◌≤◌, ◌<◌, ℤ, pos, ◌≤ℤ◌, List, ◌++◌, length, All, Option, Some, None, IsSome, refl, sym, ap, ◌∙◌, inl, inr, Result, Ok, Err, zero-le, arith}
-use Rattle.std.specs.Prelude.{IsSomeAnd, MatchOption, IfOk, IfErr, IsOkAnd}
+use Rattle.std.proofs.Common.{◌≡◌, ◌⊎◌, ℕ, ◌+◌, ◌≤◌, ◌<◌, ℤ, pos, ◌≤ℤ◌, List, ◌++◌, length, All, Bool, true, false, Option, Some, None, IsSome, refl, sym, ap, ◌∙◌, inl, inr, Result, Ok, Err, zero-le, arith}
+use Rattle.std.specs.Prelude.{◌&&◌, if◌then◌else◌, IsSomeAnd, MatchOption, IfOk, IfErr, IsOkAnd}
 use Rattle.std.proofs.lemmas.Int.{ints}
 use Rattle.std.proofs.lemmas.Option.{same_Some, none-some}
 use Rattle.integer_algebra.specs.Sums.{at}
 use Rattle.mat_int.specs.Matrix.{Matrix, entry_of}
-use Rattle.toml.specs.Data.{Data, Members}
+use Rattle.toml.specs.Data.{Data, Members, integer}
 use Rattle.qp_model.specs.problem.Limits.{text_version, last_version, most_states, most_inputs, most_stages}
 use Rattle.qp_model.specs.problem.Range.{LiesIn, IsDenominator, IsPositive}
 use Rattle.qp_model.specs.problem.Parts.{IsDesign, IsTable, IsNumeratorList, design_numbers}
@@ -14,14 +14,15 @@ use Rattle.qp_model.specs.declared.design_parts.DesignParts.{DesignParts}
 use Rattle.number_text.specs.declared.text_fault.TextFault.{TextFault}
 use Rattle.number_text.specs.declared.text_fault.TextFault.TheVariants.{NotToml, Memory}
 use Rattle.qp_model.specs.declared.design.Design.{Design}
-use Rattle.qp_model.specs.declared.design.Design.{Design}
 use Rattle.qp_model.proofs.RuleLaws.{all_hold, held_after, none_broken, one_fault}
 use Rattle.design_files.specs.Document.{document_of}
 use Rattle.design_files.specs.Numbers.{number_in, list_in, IsMatrix, IsLists}
 use Rattle.design_files.specs.Values.{Values, values_of, in_order, keys_stand, further_keys}
 use Rattle.design_files.specs.Places.{count_rules, denominator_rules, positive_rules, table_rules, cost_row_rules, input_rules, final_row_rules, low_rules, high_rules, size_places, plant_places}
 use Rattle.design_files.specs.Places.{cost_places, limit_places, box_places, target_places, place_rules, key_rules}
-use Rattle.design_files.specs.DesignText.{HasNumbers, IsDesignDocument, IsDesignText, rules_of, IsDesignFault}
+use Rattle.design_files.specs.DesignText.{HasNumbers, IsDesignDocument, IsDesignText, IsDesignFault}
+use Rattle.design_files.specs.AskedText.{is_three, plain_values, asked_rules, IsAskedDocument, IsAskedText, IsAskedFault}
+use Rattle.design_files.specs.declared.places.Asked.{Asked}
 use Rattle.design_files.specs.Sections.{HasSizeNumbers}
 use Rattle.design_files.specs.declared.places.Sizes.{Sizes}
 use Rattle.design_files.proofs.PlaceLaws.{count_is, place_rules_at, after_version, after_sizes, after_plant, after_cost, after_limits}
@@ -70,11 +71,16 @@ high_holds : (n : ℕ) (below value : Option Data) (low zs : List ℤ) → list_
 high_holds n below value low zs there is line box = rw (is, there) (line.long, (record { numbers = line.numbers; box = box }, tt))
 
 -- ---- all of them
-keys_hold : (document : Members) (p : DesignParts) → HasNumbers (values_of document) p → AllHold (further_keys document) → AllHold (key_rules document)
+version_there : (any : Bool) (value : Option Data) (z : ℤ) → number_in (if any && is_three (number_in value) then Some (integer (pos 2)) else value) ≡ Some z → IsSome value
+version_there true None z is = absurd (none-some z is)
+version_there false None z is = absurd (none-some z is)
+version_there any (Some value) z is = refl
+
+keys_hold : (any : Bool) (document : Members) (p : DesignParts) → HasNumbers (plain_values any (values_of document)) p → AllHold (further_keys document) → AllHold (key_rules document)
 unfolding key_rules
-keys_hold document p h further =
+keys_hold any document p h further =
     let v = values_of document in (
-      number_there v.version (pos p.version) h.version,
+      version_there any v.version (pos p.version) h.version,
       (
         number_there v.states (pos p.states) h.states,
         (
@@ -199,27 +205,28 @@ places_hold v p h d =
     (all_hold (limit_places n m v) (after_limits n m v) (limits_hold v p h d)
     (all_hold (box_places n v) (target_places v) (box_hold v p h d) (targets_hold v p h d))))))
 
-document_holds : (p : DesignParts) (document : Members) → IsDesignDocument p document → AllHold (rules_of document)
-document_holds p document is =
-    all_hold (key_rules document) (place_rules (values_of document)) (keys_hold document p is.numbers is.keys) (places_hold (values_of document) p is.numbers is.design)
+document_holds : (any : Bool) (asked : Asked) (document : Members) → IsAskedDocument any asked document → AllHold (asked_rules any document)
+document_holds any asked document is =
+    let v = plain_values any (values_of document) in
+    all_hold (key_rules document) (place_rules v) (keys_hold any document asked.design is.numbers is.keys) (places_hold v asked.design is.numbers is.design)
 
 -- ---- of bytes
 -- a design text has no first fault
-pub no_fault : (bytes : List ℕ) (p : DesignParts) (fault : TextFault) → IsDesignText bytes p → IsDesignFault bytes fault → ⊥
-no_fault bytes p fault is first = apart (document_of bytes) p fault is first
+pub no_fault : (any : Bool) (bytes : List ℕ) (asked : Asked) (fault : TextFault) → IsAskedText any bytes asked → IsAskedFault any bytes fault → ⊥
+no_fault any bytes asked fault is first = apart (document_of bytes) is first
   where
-    apart : (document : Option Members) (p : DesignParts) (fault : TextFault) → IsSomeAnd document (IsDesignDocument p) → MatchOption document (fault ≡ NotToml) (λ document. IsFirstBroken (rules_of document) fault) → ⊥
-    apart None p fault is first = is
-    apart (Some document) p fault is first = none_broken (rules_of document) fault (document_holds p document is) first
+    apart : (document : Option Members) → IsSomeAnd document (IsAskedDocument any asked) → MatchOption document (fault ≡ NotToml) (λ document. IsFirstBroken (asked_rules any document) fault) → ⊥
+    apart None is first = is
+    apart (Some document) is first = none_broken (asked_rules any document) fault (document_holds any asked document is) first
 
 -- there is one first fault
-pub same_fault : (bytes : List ℕ) (a b : TextFault) → IsDesignFault bytes a → IsDesignFault bytes b → a ≡ b
-same_fault bytes a b first second = same (document_of bytes) a b first second
+pub same_fault : (any : Bool) (bytes : List ℕ) (a b : TextFault) → IsAskedFault any bytes a → IsAskedFault any bytes b → a ≡ b
+same_fault any bytes a b first second = same (document_of bytes) first second
   where
-    same : (document : Option Members) (a b : TextFault) → MatchOption document (a ≡ NotToml) (λ document. IsFirstBroken (rules_of document) a) →
-        MatchOption document (b ≡ NotToml) (λ document. IsFirstBroken (rules_of document) b) → a ≡ b
-    same None a b first second = first ∙ sym second
-    same (Some document) a b first second = one_fault (rules_of document) a b first second
+    same : (document : Option Members) → MatchOption document (a ≡ NotToml) (λ document. IsFirstBroken (asked_rules any document) a) →
+        MatchOption document (b ≡ NotToml) (λ document. IsFirstBroken (asked_rules any document) b) → a ≡ b
+    same None first second = first ∙ sym second
+    same (Some document) first second = one_fault (asked_rules any document) a b first second
 
 same_matrix : (value : Option Data) (m k : Matrix) (width : ℕ) → IsMatrix value m → IsMatrix value k → m.cols ≡ width → k.cols ≡ width → m ≡ k
 same_matrix value m k width is also wide long =
@@ -254,12 +261,16 @@ same_numbers v p q h g d e =
     let final_rows : p.final_rows ≡ q.final_rows = same_matrix v.final_rows p.final_rows q.final_rows (p.states + 1) h.final_rows g.final_rows d.final_rows.cols (e.final_rows.cols ∙ sym (ap (λ n. n + 1) states)) in
     rw (version, states, inputs, stages, plant_den, a, b, cost_den, row_den, input, stage_cost, final_cost, limit_den, stage_rows, final_rows, grid, lo, hi, target_den, violation, gap) refl
 
-pub same_design : (bytes : List ℕ) (p q : DesignParts) → IsDesignText bytes p → IsDesignText bytes q → design_numbers p ≡ design_numbers q
-same_design bytes p q first second = same (document_of bytes) p q first second
+abbrev pub AreSame : Asked → Asked → Type 0
+AreSame a b = (design_numbers a.design ≡ design_numbers b.design) × (a.fast ≡ b.fast)
+
+pub same_asked : (any : Bool) (bytes : List ℕ) (a b : Asked) → IsAskedText any bytes a → IsAskedText any bytes b → AreSame a b
+same_asked any bytes a b first second = same (document_of bytes) first second
   where
-    same : (document : Option Members) (p q : DesignParts) → IsSomeAnd document (IsDesignDocument p) → IsSomeAnd document (IsDesignDocument q) → design_numbers p ≡ design_numbers q
-    same None p q first second = absurd first
-    same (Some document) p q first second = same_numbers (values_of document) p q first.numbers second.numbers first.design second.design
+    same : (document : Option Members) → IsSomeAnd document (IsAskedDocument any a) → IsSomeAnd document (IsAskedDocument any b) → AreSame a b
+    same None first second = absurd first
+    same (Some document) first second =
+        (same_numbers (plain_values any (values_of document)) a.design b.design first.numbers second.numbers first.design second.design, first.fast ∙ sym second.fast)
 
 -- no further key stands in a document whose keys are right
 pub no_further : (document : Members) → AllHold (key_rules document) → AllHold (further_keys document)
@@ -267,12 +278,40 @@ unfolding key_rules
 no_further document held = held_after (keys_stand 1 (in_order document)) (further_keys document) held
 
 -- ---- both ways
-pub every_text : (bytes : List ℕ) (answer : Result Design TextFault) → IfOk answer (λ design. IsDesignText bytes design) → IfErr answer (λ fault. (fault ≡ Memory) ⊎ IsDesignFault bytes fault)
-    → (p : DesignParts) → IsDesignText bytes p → (answer ≡ Err Memory) ⊎ IsOkAnd answer (λ design. design_numbers design ≡ design_numbers p)
-every_text bytes (Ok design) read failed p is = inr (same_design bytes design p read is)
-every_text bytes (Err fault) read failed p is = elim failed [ inl none ↦ inl (ap Err none) | inr first ↦ absurd (no_fault bytes p fault is first) ]
+pub every_text : (any : Bool) (bytes : List ℕ) (answer : Result Asked TextFault) → IfOk answer (λ asked. IsAskedText any bytes asked) → IfErr answer (λ fault. (fault ≡ Memory) ⊎ IsAskedFault any bytes fault)
+    → (k : Asked) → IsAskedText any bytes k → (answer ≡ Err Memory) ⊎ IsOkAnd answer (λ asked. AreSame asked k)
+every_text any bytes (Ok asked) read failed k is = inr (same_asked any bytes asked k read is)
+every_text any bytes (Err fault) read failed k is = elim failed [ inl none ↦ inl (ap Err none) | inr first ↦ absurd (no_fault any bytes k fault is first) ]
 
-pub every_fault : (bytes : List ℕ) (answer : Result Design TextFault) → IfOk answer (λ design. IsDesignText bytes design) → IfErr answer (λ fault. (fault ≡ Memory) ⊎ IsDesignFault bytes fault)
+pub every_fault : (any : Bool) (bytes : List ℕ) (answer : Result Asked TextFault) → IfOk answer (λ asked. IsAskedText any bytes asked) → IfErr answer (λ fault. (fault ≡ Memory) ⊎ IsAskedFault any bytes fault)
+    → (fault : TextFault) → IsAskedFault any bytes fault → (answer ≡ Err Memory) ⊎ (answer ≡ Err fault)
+every_fault any bytes (Ok asked) read failed fault first = absurd (no_fault any bytes asked fault read first)
+every_fault any bytes (Err other) read failed fault first = elim failed [ inl none ↦ inl (ap Err none) | inr also ↦ inr (ap Err (same_fault any bytes other fault also first)) ]
+
+-- ---- of version 1 or 2 alone
+pub design_text : (bytes : List ℕ) (asked : Asked) → IsAskedText false bytes asked → IsDesignText bytes asked.design
+design_text bytes asked is = of (document_of bytes) is
+  where
+    of : (document : Option Members) → IsSomeAnd document (IsAskedDocument false asked) → IsSomeAnd document (IsDesignDocument asked.design)
+    of None is = is
+    of (Some document) is = record { numbers = is.numbers; keys = is.keys; design = is.design }
+
+abbrev plain : DesignParts → Asked
+plain p = record { design = p; fast = false }
+
+text_asked : (bytes : List ℕ) (p : DesignParts) → IsDesignText bytes p → IsAskedText false bytes (plain p)
+text_asked bytes p is = of (document_of bytes) is
+  where
+    of : (document : Option Members) → IsSomeAnd document (IsDesignDocument p) → IsSomeAnd document (IsAskedDocument false (plain p))
+    of None is = is
+    of (Some document) is = record { fast = refl; numbers = is.numbers; keys = is.keys; design = is.design }
+
+pub every_design_text : (bytes : List ℕ) (answer : Result Design TextFault) → IfOk answer (λ design. IsDesignText bytes design) → IfErr answer (λ fault. (fault ≡ Memory) ⊎ IsDesignFault bytes fault)
+    → (p : DesignParts) → IsDesignText bytes p → (answer ≡ Err Memory) ⊎ IsOkAnd answer (λ design. design_numbers design ≡ design_numbers p)
+every_design_text bytes (Ok design) read failed p is = inr (same_asked false bytes (plain design) (plain p) (text_asked bytes design read) (text_asked bytes p is)).0
+every_design_text bytes (Err fault) read failed p is = elim failed [ inl none ↦ inl (ap Err none) | inr first ↦ absurd (no_fault false bytes (plain p) fault (text_asked bytes p is) first) ]
+
+pub every_design_fault : (bytes : List ℕ) (answer : Result Design TextFault) → IfOk answer (λ design. IsDesignText bytes design) → IfErr answer (λ fault. (fault ≡ Memory) ⊎ IsDesignFault bytes fault)
     → (fault : TextFault) → IsDesignFault bytes fault → (answer ≡ Err Memory) ⊎ (answer ≡ Err fault)
-every_fault bytes (Ok design) read failed fault first = absurd (no_fault bytes design fault read first)
-every_fault bytes (Err other) read failed fault first = elim failed [ inl none ↦ inl (ap Err none) | inr also ↦ inr (ap Err (same_fault bytes other fault also first)) ]
+every_design_fault bytes (Ok design) read failed fault first = absurd (no_fault false bytes (plain design) fault (text_asked bytes design read) first)
+every_design_fault bytes (Err other) read failed fault first = elim failed [ inl none ↦ inl (ap Err none) | inr also ↦ inr (ap Err (same_fault false bytes other fault also first)) ]

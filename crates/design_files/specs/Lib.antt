@@ -5,3 +5,4 @@ pub mod Keys
 pub mod Places
 pub mod DesignText
 pub mod Sections
+pub mod AskedText

@@ -10,6 +10,8 @@ ghost use Rattle.qp_model.specs.problem.Rules.{Tests};
 ghost use Rattle.design_files.specs.Document.{table_at, standing};
 ghost use Rattle.design_files.specs.Values.{values_of, places, in_order, keys_stand, HasOnly, further_keys};
 ghost use Rattle.design_files.specs.Keys.{found, seen};
+ghost use Rattle.design_files.specs.Numbers.{number_in};
+ghost use Rattle.design_files.specs.AskedText.{is_three};
 ghost use Rattle.design_files.specs.Places.{key_rules};
 ghost use Rattle.design_files.specs.DesignText.{Reads};
 
@@ -55,6 +57,25 @@ impl<'a> Keys<'a> {
     {
         let values = &self.values[..];
         values[place as usize - 1]
+    }
+
+    /// Whether the value at the version is 3.
+    pub fn is_fast(&self) -> bool
+        ensures { result ≡ is_three (number_in (found self.now 1)) }
+    {
+        match self.at(1).as_integer() {
+            Some(version) => version == 3,
+            None => false,
+        }
+    }
+
+    /// The same with another value at the version.
+    pub fn with_version(&self, value: &'a Value) -> Keys<'a>
+        ensures { seen result ≡ record (seen self.now) { version = Some (view value.now) } }
+    {
+        let mut values = self.values;
+        values[0] = value;
+        Keys { values }
     }
 }
 

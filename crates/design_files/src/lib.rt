@@ -6,4 +6,4 @@ mod keys;
 mod numbers;
 mod places;
 
-pub use places::read_design;
+pub use places::{Asked, read_any_design, read_design};

@@ -1,5 +1,5 @@
 //! The places of a design text, read in their order.
-ghost use Rattle.std.specs.Prelude.{◌≡◌, ◌⊎◌, ℕ, ◌<◌, ◌≤◌, ◌+◌, ◌≤ℤ◌, ◌++◌, [], ◌∷◌, length, Some, Err, IfOk, IfErr, IsOkAnd};
+ghost use Rattle.std.specs.Prelude.{◌≡◌, ◌⊎◌, ℕ, true, pos, ◌<◌, ◌≤◌, ◌+◌, ◌≤ℤ◌, ◌++◌, [], ◌∷◌, length, Some, Err, IfOk, IfErr, IsOkAnd};
 ghost use Rattle.integer_algebra.specs.Sums.{at};
 ghost use Rattle.qp_model.specs.declared.design_parts.DesignParts.{DesignParts};
 ghost use Rattle.number_text.specs.declared.text_fault.TextFault.{TextFault};
@@ -14,6 +14,10 @@ ghost use Rattle.design_files.specs.Values.{Values};
 ghost use Rattle.design_files.specs.Places.{count_rules, denominator_rules, positive_rules, table_rules, cost_row_rules, input_rules, low_rules, size_places, plant_places, cost_places, limit_places, box_places, target_places, place_rules};
 ghost use Rattle.design_files.specs.Sections.{HasCount, HasDenominator, HasPositive, HasTable, HasCosts, HasInputs, HasLine, HasSizeNumbers, HasPlant, HasCostNumbers, HasLimits, HasBox, HasTargets, HasFirst, HasLast};
 ghost use Rattle.design_files.specs.DesignText.{HasNumbers, Reads, IsDesignText, IsDesignFault};
+ghost use Rattle.toml.specs.View.{view};
+ghost use Rattle.toml.specs.Data.{integer};
+ghost use Rattle.design_files.specs.AskedText.{asks_fast, plain_values, IsAskedText, IsAskedFault};
+ghost use Rattle.design_files.specs.declared.places.Asked.{Asked};
 
 use crate::document::read_document;
 use crate::keys::{Keys, find_keys};
@@ -29,6 +33,7 @@ use qp_model::{
     Design, DesignParts, FIRST_VERSION, LAST_VERSION, MOST_INPUTS, most_stages, most_states,
 };
 use std::alloc::Global;
+use toml::Value;
 
 /// The design that a text of version 1 or 2 writes, or the text's first fault: that it is no TOML document, then the first key in the
 /// order of the places that is absent, then a further key, and then for each place in turn the shape of its value and the range of
@@ -43,17 +48,69 @@ pub fn read_design(alloc: Global, bytes: &[u8]) -> Result<Design, TextFault>
     ensures every_fault { (fault : TextFault) → IsDesignFault bytes.now fault
         → (result ≡ Err TextFault.Memory) ⊎ (result ≡ Err fault) }
 {
-    read_text(alloc, bytes)
+    match read_text(alloc, bytes, false) {
+        Ok(asked) => Ok(asked.design),
+        Err(fault) => Err(fault),
+    }
 }
 
-// The same, where the other way round follows.
-fn read_text(alloc: Global, bytes: &[u8]) -> Result<Design, TextFault>
-    ensures text { IfOk result (λ design. IsDesignText bytes.now design) }
-    ensures fault { IfErr result (λ fault. (fault ≡ TextFault.Memory) ⊎ IsDesignFault bytes.now fault) }
+/// What a design text asks for.
+#[derive(Drop)]
+pub struct Asked {
+    /// The design.
+    pub design: Design,
+    /// Whether its controllers are to be those of the accelerated machine.
+    pub fast: bool,
+}
+
+/// What a text of version 1, 2 or 3 asks for, or its first fault, as `read_design` tells it. A text of version 3 is the design that it would be with 2 in
+/// its place, and asks for the accelerated machine.
+pub fn read_any_design(alloc: Global, bytes: &[u8]) -> Result<Asked, TextFault>
+    ensures text { IfOk result (λ asked. IsAskedText true bytes.now asked) }
+    ensures fault { IfErr result (λ fault. (fault ≡ TextFault.Memory) ⊎ IsAskedFault true bytes.now fault) }
+
+    // The other way round, unless memory runs out.
+    ensures every_text { (k : Asked) → IsAskedText true bytes.now k
+        → (result ≡ Err TextFault.Memory) ⊎ IsOkAnd result (λ asked. (design_numbers asked.design ≡ design_numbers k.design) × (asked.fast ≡ k.fast)) }
+    ensures every_fault { (fault : TextFault) → IsAskedFault true bytes.now fault
+        → (result ≡ Err TextFault.Memory) ⊎ (result ≡ Err fault) }
+{
+    read_text(alloc, bytes, true)
+}
+
+// The same, where the other way round follows, of version 1 or 2 alone or of any.
+fn read_text(alloc: Global, bytes: &[u8], any: bool) -> Result<Asked, TextFault>
+    ensures text { IfOk result (λ asked. IsAskedText any bytes.now asked) }
+    ensures fault { IfErr result (λ fault. (fault ≡ TextFault.Memory) ⊎ IsAskedFault any bytes.now fault) }
 {
     let document = read_document(alloc, bytes)?;
     let keys = find_keys(&document)?;
-    Ok(Design::new(read_parts(alloc, &keys)?))
+    let second = Value::Integer(2);
+    let plain = plain_keys(&keys, any, &second);
+    let parts = read_parts(alloc, &plain)?;
+    Ok(Asked {
+        design: Design::new(parts),
+        fast: asks_fast(&keys, any),
+    })
+}
+
+// Whether a text of any version asks for the accelerated machine.
+fn asks_fast(keys: &Keys, any: bool) -> bool
+    ensures { result ≡ asks_fast any (seen keys.now) }
+{
+    any && keys.is_fast()
+}
+
+// The keys, with 2 at the version where a text of any version asks for the accelerated machine.
+fn plain_keys<'a>(keys: &Keys<'a>, any: bool, second: &'a Value) -> Keys<'a>
+    requires { view second.now ≡ integer (pos 2) }
+    ensures { seen result ≡ plain_values any (seen keys.now) }
+{
+    if asks_fast(keys, any) {
+        keys.with_version(second)
+    } else {
+        *keys
+    }
 }
 
 #[derive(Clone, Copy)]

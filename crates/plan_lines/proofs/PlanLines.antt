@@ -1,36 +1,24 @@
--- Lines that are printed one after the other.
-use Rattle.std.proofs.Common.{◌≡◌, ◌⊎◌, inl, inr, ℕ, suc, ◌+◌, ◌<◌, ℤ, pos, List, [], ◌∷◌, ◌++◌, length, take, drop, get_or, Option, Some, None, option_map, Result, Ok, Err, refl, sym, ap, subst, ◌∙◌, arith, append_assoc, append-nil, zero-le, length-append, drop-cons, true, false}
-use Rattle.std.specs.Prelude.{IfSome, IsSomeAnd}
-use Rattle.std.specs.Result.{is_err, OnErr, OnOk}
+-- The lines of a machine that has one for each state, and those of a controller's averaged plans.
+use Rattle.std.proofs.Common.{◌≡◌, inl, inr, ℕ, zero, suc, ◌+◌, ◌<◌, ◌≤◌, ℤ, pos, List, [], ◌∷◌, ◌++◌, length, take, drop, get_or, sym, ap, subst, ◌∙◌, arith, append-nil, zero-le, length-append}
 use Rattle.std.specs.List.{flat_map}
 use Rattle.std.proofs.lemmas.Grind.{flat_map-append}
+use Rattle.std.proofs.lemmas.Bool.{cases_lt}
 use Rattle.std.proofs.lemmas.List.{take-append-drop, take_more}
 use Rattle.std.proofs.Math.Seq.{take-length}
 use Rattle.io_edge.specs.Faults.{GrowsByPart}
 use Rattle.mat_int.specs.Matrix.{Matrix, row_of}
 use Rattle.qp_model.specs.machine.Controller.{Numbers}
-use Rattle.number_text.specs.Lines.{spaced}
-use Rattle.qp_model.specs.machine.Machine.{average_denominator, averaged_plan}
+use Rattle.qp_model.specs.machine.Machine.{IsAdmissible, average_denominator, averaged_plan}
 use Rattle.qp_model.specs.text.ControllerText.{plan_line}
-use Rattle.plan_lines.specs.Lines.{plan_lines}
-use Rattle.plan_lines.specs.Printing.{ArePrinted}
-use Rattle.command_line.specs.declared.status.Status.TheVariants.{Memory, WriteFault}
-
--- the lines of one more state
-lines_more : (c : Numbers) (states : Matrix) (i : ℕ) → i < length states.rows → plan_lines c states (i + 1) ≡ plan_lines c states i ++ plan_line c (row_of states i)
-lines_more c states i lt =
-    ap (flat_map (plan_line c)) (take_more states.rows i [] lt) ∙ flat_map-append (plan_line c) (take i states.rows) (get_or states.rows i [] ∷ [])
-    ∙ ap (λ (line : List ℕ). plan_lines c states i ++ line) (append-nil (plan_line c (row_of states i)))
-
--- all pieces are those before one, that one and those after it
-pieces : {X : Type 0} (f : X → List ℕ) (xs : List X) (i : ℕ) (d : X) → i < length xs →
-    flat_map f (take (length xs) xs) ≡ flat_map f (take i xs) ++ (f (get_or xs i d) ++ flat_map f (drop (suc i) xs))
-pieces {X} f xs i d l =
-    ap (flat_map f) (take-length xs) ∙ ap (flat_map f) (sym (take-append-drop i xs)) ∙ flat_map-append f (take i xs) (drop i xs)
-    ∙ ap (λ (ys : List X). flat_map f (take i xs) ++ flat_map f ys) (drop-cons xs i d l)
-
-pub regroup : (a b d e : List ℕ) → a ++ ((b ++ d) ++ e) ≡ (a ++ b) ++ (d ++ e)
-regroup a b d e = simp append_assoc
+use Rattle.number_text.specs.Lines.{spaced}
+use Rattle.fixed_kernel.specs.Outside.{IsFirstOutside}
+use Rattle.fixed_kernel.proofs.OneOutside.{one_outside_law}
+use Rattle.plan_lines.specs.Inside.{AreHeld}
+use Rattle.plan_lines.specs.Lines.{plan_lines, AreLinesOf}
+use Rattle.plan_lines.specs.Making.{making_of_plans}
+use Rattle.plan_lines.specs.Printing.{AreFirstLines, lines_of_plans}
+use Rattle.plan_lines.proofs.LineByLine.{longer}
+use Rattle.plan_lines.proofs.Acting.{IsJudged, AreToldAs}
 
 -- a line has its line feed at least
 pub ended : (xs : List ℕ) → 0 < length (xs ++ 10 ∷ [])
@@ -39,70 +27,55 @@ ended xs = omega (arith, length-append xs (10 ∷ []))
 pub line_some : (c : Numbers) (xi : List ℤ) → 0 < length (plan_line c xi)
 line_some c xi = ended (spaced (pos (average_denominator c) ∷ averaged_plan c xi))
 
--- a part of one line, after those before it, is a part of all
-cut : (c : Numbers) (states : Matrix) (i : ℕ) (line old new : List ℕ) → i < length states.rows → line ≡ plan_line c (row_of states i) → GrowsByPart (old ++ plan_lines c states i) new line →
-    GrowsByPart old new (plan_lines c states (length states.rows))
-cut c states i line old new l is p = record {
-  part = plan_lines c states i ++ p.part;
-  rest = p.rest ++ tail;
-  is =
-      pieces (plan_line c) states.rows i [] l ∙ ap (λ (x : List ℕ). plan_lines c states i ++ (x ++ tail)) (sym is ∙ p.is) ∙ regroup (plan_lines c states i) p.part p.rest tail;
-  grown = p.grown ∙ append_assoc old (plan_lines c states i) p.part;
-  proper = inr (omega (arith, left p.proper, length-append p.rest tail));
+-- ---- lines that are values of a function
+pub lines_more : (f : List ℤ → List ℕ) (m : Matrix) (k : ℕ) → k < length m.rows → flat_map f (take (suc k) m.rows) ≡ flat_map f (take k m.rows) ++ f (row_of m k)
+lines_more f m k lt =
+    let next : suc k ≡ k + 1 = omega arith in
+    ap (λ (n : ℕ). flat_map f (take n m.rows)) next ∙ ap (flat_map f) (take_more m.rows k [] lt) ∙ flat_map-append f (take k m.rows) (get_or m.rows k [] ∷ [])
+    ∙ ap (λ (line : List ℕ). flat_map f (take k m.rows) ++ line) (append-nil (f (row_of m k)))
+
+module _ (f : List ℤ → List ℕ) (m : Matrix) where
+  -- the text is theirs
+  pub text_is : (IsLine : List ℤ → List ℕ → Type 0) → ((xi : List ℤ) (line : List ℕ) → IsLine xi line → line ≡ f xi) → (k : ℕ) (text : List ℕ) → k ≤ length m.rows → AreLinesOf IsLine m k text →
+      text ≡ flat_map f (take k m.rows)
+  text_is IsLine by zero text le lines = lines
+  text_is IsLine by (suc k) text le lines =
+      lines.is ∙ ap (λ (x : List ℕ). x ++ lines.line) (text_is IsLine by k lines.before (omega (arith, le)) lines.those)
+      ∙ ap (λ (x : List ℕ). flat_map f (take k m.rows) ++ x) (by (row_of m k) lines.line lines.last) ∙ sym (lines_more f m k (omega (arith, le)))
+
+  -- a part of some first lines is a part of all
+  pub part_of_all : (k : ℕ) (old new : List ℕ) → GrowsByPart old new (flat_map f (take k m.rows)) → GrowsByPart old new (flat_map f (take (length m.rows) m.rows))
+  part_of_all k old new p =
+      let all = ap (flat_map f) (take-length m.rows ∙ sym (take-append-drop k m.rows)) ∙ flat_map-append f (take k m.rows) (drop k m.rows) in
+      subst (λ (bytes : List ℕ). GrowsByPart old new bytes) (sym all) (longer (flat_map f (take k m.rows)) (flat_map f (drop k m.rows)) old new p)
+
+-- what is true of each state that has a line
+pub each_line : (P : List ℤ → Type 0) (m : Matrix) (IsLine : List ℤ → List ℕ → Type 0) → ((xi : List ℤ) (line : List ℕ) → IsLine xi line → P xi) → (k : ℕ) (text : List ℕ) → AreLinesOf IsLine m k text →
+    AreHeld (λ e. P (row_of m e)) k
+each_line P m IsLine by zero text lines e lt = absurd (omega (arith, lt))
+each_line P m IsLine by (suc k) text lines e lt = elim (cases_lt e k) [
+  | inl before ↦ each_line P m IsLine by k lines.before lines.those e before
+  | inr after ↦ subst (λ (i : ℕ). P (row_of m i)) (let is : k ≡ e = omega (arith, lt, after) in is) (by (row_of m k) lines.line lines.last)
+]
+
+-- ---- the lines of averaged plans
+pub plans_judged : (c : Numbers) (m : Matrix) → IsJudged (λ e. IsAdmissible c (row_of m e)) (λ e. IsFirstOutside c (row_of m e))
+plans_judged c m = record {
+  none = λ e k out held. (one_outside_law c (row_of m e)).none held k out;
+  one = λ e j k a b. (one_outside_law c (row_of m e)).alone j k a b;
+}
+
+pub plans_as : (c : Numbers) (m : Matrix) → AreToldAs (making_of_plans c) m (lines_of_plans c m)
+plans_as c m = record {
+  judged = plans_judged c m;
+  never = λ entry xi s never. never;
+  whole = λ text are old. ap (λ (x : List ℕ). old ++ x) (is (length m.rows) text (omega arith) are);
+  part = λ run k text le are old new part. part_of_all (plan_line c) m k old new (subst (λ (x : List ℕ). GrowsByPart old new x) (is k text le are) part);
+  some = λ k text le are old. record { count = k; some = le; printed = ap (λ (x : List ℕ). old ++ x) (is k text le are) };
 }
   where
-    tail : List ℕ
-    tail = flat_map (plan_line c) (drop (suc i) states.rows)
+    is : (k : ℕ) (text : List ℕ) → k ≤ length m.rows → AreLinesOf (making_of_plans c).line m k text → text ≡ plan_lines c m k
+    is = text_is (plan_line c) m (making_of_plans c).line (λ xi line same. same)
 
-    left : (length line ≡ 0) ⊎ (0 < length p.rest) → 0 < length p.rest
-    left (inl none) = absurd (omega (arith, none, ap length is, line_some c (row_of states i)))
-    left (inr some) = some
-
-print_part : (c : Numbers) (states : Matrix) (old new : List ℕ) → GrowsByPart old new (plan_lines c states (length states.rows)) → ArePrinted c states (WriteFault 0) old new
-print_part c states old new p = record {
-  done = λ is. absurd (let never : ⊥ = cc in never);
-  fault = λ is. p;
-  memory = λ is. absurd (let never : ⊥ = cc in never);
-}
-
--- before the first line
-pub none_printed : (c : Numbers) (states : Matrix) (got : Option (List ℕ)) → IfSome got (λ old. IsSomeAnd got (ArePrinted c states Memory old))
-none_printed c states (Some old) = record {
-  done = λ is. absurd (let never : ⊥ = cc in never);
-  fault = λ is. absurd (let never : ⊥ = cc in never);
-  memory = λ is. record { count = 0; some = zero-le; printed = sym (append-nil old) };
-}
-none_printed c states None = tt
-
-pub told_err : {T E P : Type 0} (r : Result T E) → is_err r ≡ true → OnErr r P → P
-told_err (Ok x) is h = absurd (let never : ⊥ = cc in never)
-told_err (Err e) is h = h
-
-pub line_is : (c d : Numbers) (xi row : List ℤ) (line sent : List ℕ) → sent ≡ line → line ≡ plan_line d xi → d ≡ c → xi ≡ row → sent ≡ plan_line c row
-line_is c d xi row line sent e f g h = e ∙ f ∙ ap (λ (k : Numbers). plan_line k xi) g ∙ ap (plan_line c) h
-
--- a print that failed
-pub print_cut : {T E : Type 0} (r : Result T E) (c : Numbers) (states : Matrix) (i : ℕ) (line : List ℕ) (first mid last : Option (List ℕ)) → is_err r ≡ true →
-    OnErr r (IfSome mid (λ old. IsSomeAnd last (λ new. GrowsByPart old new line))) → mid ≡ option_map (λ old. old ++ plan_lines c states i) first → i < length states.rows →
-    line ≡ plan_line c (row_of states i) → IfSome first (λ old. IsSomeAnd last (ArePrinted c states (WriteFault 0) old))
-print_cut r c states i line first mid last failed err before l is =
-    go first last (subst (λ (o : Option (List ℕ)). IfSome o (λ old. IsSomeAnd last (λ new. GrowsByPart old new line))) before (told_err r failed err))
-  where
-    go : (first last : Option (List ℕ)) → IfSome (option_map (λ old. old ++ plan_lines c states i) first) (λ old. IsSomeAnd last (λ new. GrowsByPart old new line)) →
-        IfSome first (λ old. IsSomeAnd last (ArePrinted c states (WriteFault 0) old))
-    go (Some old) (Some new) p = print_part c states old new (cut c states i line old new l is p)
-    go (Some old) None p = p
-    go None last p = tt
-
--- a print that didn't
-pub told_ok : {T E P : Type 0} (r : Result T E) → is_err r ≡ false → OnOk r P → P
-told_ok (Ok x) is h = h
-told_ok (Err e) is h = absurd (let never : ⊥ = cc in never)
-
-pub grown : (c : Numbers) (states : Matrix) (i : ℕ) (line : List ℕ) (first mid last : Option (List ℕ)) → i < length states.rows → line ≡ plan_line c (row_of states i) →
-    mid ≡ option_map (λ old. old ++ plan_lines c states i) first → last ≡ option_map (λ old. old ++ line) mid → last ≡ option_map (λ old. old ++ plan_lines c states (i + 1)) first
-grown c states i line first mid last lt is before put = put ∙ ap (option_map (λ (old : List ℕ). old ++ line)) before ∙ both first
-  where
-    both : (o : Option (List ℕ)) → option_map (λ (old : List ℕ). old ++ line) (option_map (λ (old : List ℕ). old ++ plan_lines c states i) o) ≡ option_map (λ (old : List ℕ). old ++ plan_lines c states (i + 1)) o
-    both (Some old) = ap Some (append_assoc old (plan_lines c states i) line ∙ ap (λ (x : List ℕ). old ++ x) (ap (λ (x : List ℕ). plan_lines c states i ++ x) is ∙ sym (lines_more c states i lt)))
-    both None = refl
+pub no_plan_yet : (c : Numbers) (m : Matrix) (old new : List ℕ) → new ≡ old → AreFirstLines c m old new
+no_plan_yet c m old new same = record { count = 0; some = zero-le; printed = same ∙ sym (append-nil old) }

@@ -1,10 +1,22 @@
--- The lines of averaged plans.
-use Rattle.std.specs.Prelude.{ℕ, List, take}
+-- The lines of states, and those of averaged plans.
+use Rattle.std.specs.Prelude.{◌≡◌, ℕ, zero, suc, ℤ, List, [], ◌++◌, take}
 use Rattle.std.specs.List.{flat_map}
-use Rattle.mat_int.specs.Matrix.{Matrix}
+use Rattle.mat_int.specs.Matrix.{Matrix, row_of}
 use Rattle.qp_model.specs.machine.Controller.{Numbers}
 use Rattle.qp_model.specs.text.ControllerText.{plan_line}
 
 -- the lines of the averaged plans from the first k states, in order
 abbrev pub plan_lines : Numbers → Matrix → ℕ → List ℕ
 plan_lines c states k = flat_map (plan_line c) (take k states.rows)
+
+-- the text is the lines of the first states, in order: those of one fewer, and the line of the last
+pub record IsOneMore (AreBefore : List ℕ → Type 0) (IsLine : List ℕ → Type 0) (text : List ℕ) : Type 0 where
+  pub before : List ℕ
+  pub line : List ℕ
+  pub those : AreBefore before
+  pub last : IsLine line
+  pub is : text ≡ before ++ line
+
+abbrev pub AreLinesOf : (IsLine : List ℤ → List ℕ → Type 0) → Matrix → (n : ℕ) → List ℕ → Type 0
+AreLinesOf IsLine states zero text = text ≡ []
+AreLinesOf IsLine states (suc n) text = IsOneMore (AreLinesOf IsLine states n) (IsLine (row_of states n)) text

@@ -1,15 +1,11 @@
 // The lines of averaged plans.
-ghost use Rattle.std.specs.Prelude.{◌≡◌, ◌⊎◌, ◌≤◌, ◌<◌, length, IfOk, IfSome, IsSomeAnd};
-ghost use Rattle.io_edge.specs.Faults.{Rose};
+ghost use Rattle.std.specs.Prelude.{◌≡◌, ℕ, IfOk};
 ghost use Rattle.qp_model.specs.machine.Machine.{IsAdmissible};
 ghost use Rattle.qp_model.specs.text.ControllerText.{plan_line};
-ghost use Rattle.plan_lines.specs.Inside.{AreInside};
-ghost use Rattle.plan_lines.specs.Printing.{ArePrinted};
 
+use crate::machine::PreparedMachine;
 use command_line::Status;
 use fixed_kernel::Kernel;
-use io_edge::Sink;
-use packed_rows::PackedRows;
 use primal_average::plan_line;
 use std::alloc::{AllocError, Global};
 
@@ -23,31 +19,24 @@ pub fn line_from(alloc: Global, kernel: &mut Kernel, state: &[i128]) -> Result<V
     plan_line(alloc, kernel)
 }
 
-/// Prints the lines of states of the box, each as soon as it is made: `Done`, `Memory` after the lines of some first states, or `WriteFault` for file 0.
-pub fn print_lines<O: Sink>(
-    alloc: Global,
-    kernel: &mut Kernel,
-    states: &PackedRows,
-    out: &mut O,
-) -> Status
-    requires { AreInside kernel.old.controller states.now (length states.now.rows) }
-    ensures only { (result ≡ Status.Memory) ⊎ ((result ≡ Status.Done) ⊎ (result ≡ Status.WriteFault 0)) }
-    ensures printed { IfSome (O.got out.old) (λ old. IsSomeAnd (O.got out.new) (ArePrinted kernel.old.controller states.now result old)) }
-    ensures some { result ≡ Status.WriteFault 0 → 0 < length states.now.rows }
-    ensures failed { result ≡ Status.WriteFault 0 → Rose (O.faults out.old) (O.faults out.new) }
-    ensures no_fewer { O.faults out.old ≤ O.faults out.new }
-{
-    let Ok(mut walk) = states.walk(alloc) else {
-        return Status::Memory;
-    };
-    for _ in 0..states.rows() {
-        walk.step();
-        let Ok(line) = line_from(alloc, kernel, walk.row()) else {
-            return Status::Memory;
-        };
-        if out.put(&line).is_err() {
-            return Status::WriteFault { file: 0 };
-        }
+/// A kernel puts out the lines of its controller's averaged plans.
+impl<'a> PreparedMachine for Kernel<'a> {
+    ghost use Rattle.qp_model.specs.machine.Controller.{Numbers};
+    ghost use Rattle.plan_lines.specs.Making.{making_of_plans};
+
+    ghost Subject = { Numbers };
+
+    ghost subject = { λ k. k.controller };
+
+    ghost makes = { making_of_plans };
+
+    ghost is_for = { λ k n. n ≡ k.controller.states };
+
+    fn refused(&self, state: &[i128]) -> Option<u32> {
+        self.first_outside(state)
     }
-    Status::Done
+
+    fn line(&mut self, alloc: Global, _: u32, state: &[i128]) -> Result<Vec<u8>, Status> {
+        Ok(line_from(alloc, self, state)?)
+    }
 }

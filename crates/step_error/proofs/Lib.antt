@@ -55,3 +55,5 @@ pub mod RealCosts
 pub mod MadeFacts
 -- ---- what the means of the accelerated machine add
 pub mod LoweredLaws
+pub mod RunLaws
+pub mod SameRuns

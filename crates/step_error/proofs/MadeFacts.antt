@@ -29,7 +29,7 @@ use Rattle.step_error.specs.declared.sums.ErrorSums.{ErrorSums}
 use Rattle.step_error.specs.ErrorSums.{AreSums, sums_of}
 use Rattle.step_error.proofs.Ceilings.{ceil_rises}
 use Rattle.step_error.proofs.FallingLaws.{squares_rise}
-use Rattle.step_error.proofs.SumFacts.{few, few_spread, IsBounded, bounded, through}
+use Rattle.step_error.proofs.SumFacts.{few, few_spread, IsBounded, bounded, step_sums, through}
 use Rattle.step_error.proofs.DesignSums.{hessian_pair, hessian_row_small, within}
 use Rattle.step_error.specs.Gains.{gain_at, missed_gradient, missed_squares, missed_cost, combined_of, has_room, HasSystems, AreSolved}
 use Rattle.step_error.specs.Made.{IsMadeFor, HasGains}
@@ -58,7 +58,7 @@ systems p c is = let fine = is_fine (design_of p) in record {
 
 -- ---- sums
 -- what states and multipliers come to is far below its limit
-combined_small : (s : errors.ErrorSums) → IsBounded s → s.box_states + 1 + s.top_rows ≤ 2 ^ 87
+pub combined_small : (s : errors.ErrorSums) → IsBounded s → s.box_states + 1 + s.top_rows ≤ 2 ^ 87
 combined_small s b = closed s.top_rows (s.plan_entries * plan_bound s 0) s.box_states _ _ b.rows b.room
   where
     closed : (t n b x y : ℕ) → 1 ≤ t → x + 2 ^ 40 * t * (n + b + 3) + y ≤ 2 ^ 126 → b + 1 + t ≤ 2 ^ 87
@@ -95,7 +95,7 @@ module _ (c : Condensed) (e : ErrorSums) (p_mat : Matrix) (t : List ℤ) (w_mat 
   design = o.sums.form.design
 
   pub are_sums : AreSums e
-  are_sums = record { parts = p; held = h; r = r; design = design; form = form; bound = o.sums.bound; sums = o.sums.sums; room = o.sums.room }
+  are_sums = step_sums e p h r design form o.sums.bound o.sums.sums o.sums.room
 
   sums_are : s ≡ error_sums_of d h r
   sums_are = o.sums.sums

@@ -46,7 +46,7 @@ module _ (d : Design) (h k : Form) (same : HaveSameNumbers h k) (count : k.entri
   trace = λ t. ceil_div (amount_over h.entries k.entries (λ j. farthest (h.numbers.hessian j j) (h.hessian_radius j j)) (λ j. farthest (k.numbers.hessian j j) (k.hessian_radius j j)) same.entries
       (λ j l s. farthest (same.hessian j j l l s) (same.hessian_radius j j l l s)) t) (same.hessian_scale t)
 
-  error : (r j : ℕ) → j < k.entries → gradient_error d h r j ≡ gradient_error d k r j
+  pub error : (r j : ℕ) → j < k.entries → gradient_error d h r j ≡ gradient_error d k r j
   error r j l = λ t. ceil_div (farthest (same.hessian j j l l t) (same.hessian_radius j j l l t)) (2 * same.hessian_scale t) * combined_bound d r +
       ceil_div (amount_over h.entries k.entries (λ i. farthest (h.numbers.hessian j i) (h.hessian_radius j i)) (λ i. farthest (k.numbers.hessian j i) (k.hessian_radius j i)) same.entries
       (λ i m s. farthest (same.hessian j i l m s) (same.hessian_radius j i l m s)) t) (same.hessian_scale t)
@@ -54,7 +54,7 @@ module _ (d : Design) (h k : Form) (same : HaveSameNumbers h k) (count : k.entri
   squares : (r : ℕ) → gradient_squares d (gradient_error d h r) ≡ gradient_squares d (gradient_error d k r)
   squares r = amount_same (entries d) _ _ (λ j l. ap (λ (n : ℕ). n ^ 2) (error r j (rw count l)))
 
-  pulled : (r : ℕ) → plan_pull d h r ≡ plan_pull d k r
+  pub pulled : (r : ℕ) → plan_pull d h r ≡ plan_pull d k r
   pulled r = λ t. d.cost_denominator * (state_bound d * linear t + constant t + 2 * r * plan_rows t)
 
   pub sums_same : (r : ℕ) → error_sums_of d h r ≡ error_sums_of d k r

@@ -17,6 +17,7 @@ use Rattle.condensed_form.specs.Form.{IsFormIn, IsFormOf, held}
 use Rattle.condensed_form.specs.declared.condensed.Condensed.{Condensed}
 use Rattle.step_error.specs.declared.sums.ErrorSums.{ErrorSums}
 use Rattle.step_error.specs.ErrorSums.{AreSums, sums_of}
+use Rattle.step_error.proofs.SumFacts.{step_sums}
 use Rattle.step_error.proofs.SameSums.{sums_same, size_same}
 
 -- a size and sums
@@ -34,16 +35,7 @@ valued (Some x) w P Q h = h
 pub given : (o : Option ErrorSums) (w : Wide) (p : DesignParts) (h : Form) (r : ℕ) → IsDesign p → IsFormFor (design_of p) h → 1 ≤ r →
     SomeSums o (design_of p) h r → IfOk (ok_or o w) (λ e. AreSums e)
 given None w p h r design form some k = tt
-given (Some x) w p h r design form some k = record {
-  parts = p;
-  held = h;
-  r = r;
-  design = design;
-  form = form;
-  bound = some;
-  sums = k.1;
-  room = k.0;
-}
+given (Some x) w p h r design form some k = step_sums x p h r design form some k.1 k.0
 
 pub named : (o : Option ErrorSums) (w : Wide) → w.0 ≡ Error → IfErr (ok_or o w) (λ e. e.0 ≡ Error)
 named None w e = e

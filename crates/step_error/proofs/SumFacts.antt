@@ -21,7 +21,7 @@ use Rattle.qp_model.proofs.SizeFacts.{some_row, some_entry, positive}
 use Rattle.qp_model.proofs.SoundLaws.{least-met, weight_at}
 use Rattle.qp_model.proofs.VersionLaws.{design_states_le, design_stages_le}
 use Rattle.step_error.specs.declared.sums.ErrorSums.{ErrorSums}
-use Rattle.step_error.specs.ErrorSums.{AreSums, sums_of, rounding_cost, radius_cost, radius_size}
+use Rattle.step_error.specs.ErrorSums.{AreSums, sums_of, rounding_cost, radius_cost, radius_size, size_by, cost_size}
 use Rattle.step_error.proofs.Ceilings.{ceil_small}
 use Rattle.step_error.proofs.FallingLaws.{power_rises, squares_rise, plan_bound_falls, residual_error_rises, moved_rises, radius_error_rises, row_radii_rises, halves}
 
@@ -94,39 +94,69 @@ less_spread k a f y h l = elim (cases_lt 1 k) [
   | inr o ↦ (let e : k ≡ 1 = omega (arith, o, h) in rw e (omega arith))
 ]
 
-design_bounded : (p : DesignParts) (h : Form) (r : ℕ) → IsDesign p → IsFormFor (design_of p) h → 1 ≤ r → error_size (design_of p) h r ≤ 2 ^ 126 →
-    IsBounded (error_sums_of (design_of p) h r)
-design_bounded p h r design form some room =
+-- sums fit where the quantity `error` by them is within its limit
+pub size_room : (squares pull : ℕ) (s : errors.ErrorSums) → 1 ≤ s.spread → s.spread ≤ 2 → size_by squares pull s ≤ 2 ^ 126 → cost_size s ≤ 2 ^ 126
+size_room squares pull s some few room =
+    let plan = plan_bound s 0 in
+    close _ _ s.top_rows (residual_error s plan) (radius_size s plan)
+    (less_spread s.spread (pull + s.tail + squares) s.first (s.top_rows * residual_error s plan) some few) room
+  where
+    close : (x t m n y : ℕ) → x + 2 ^ 40 * (m * n) ≤ t → t + y ≤ 2 ^ 126 → x + 2 ^ 40 * m * n + y ≤ 2 ^ 126
+    close x t m n y h k = omega (arith, h, k)
+
+step_room : (d : Design) (h : Form) (r : ℕ) → IsFormFor d h → error_size d h r ≤ 2 ^ 126 → cost_size (error_sums_of d h r) ≤ 2 ^ 126
+step_room d h r form room =
+    let spread = few_spread d h form in
+    size_room (d.cost_denominator * gradient_squares d (gradient_error d h r)) (plan_pull d h r) (error_sums_of d h r) spread.0 spread.1 (turned _ _ _ _ _ _ _ room)
+  where
+    turned : (x a b c e f g : ℕ) → x + a + b + c + e + f + g ≤ 2 ^ 126 → x + (a + b + c + e + f + g) ≤ 2 ^ 126
+    turned x a b c e f g h = omega (arith, h)
+
+design_bounded : (p : DesignParts) (h : Form) (r first weight : ℕ) → IsDesign p → IsFormFor (design_of p) h → 1 ≤ r → 1 ≤ weight → weight ≤ 2 ^ 53 →
+    cost_size (record (error_sums_of (design_of p) h r) { first = first; weight_scale = weight }) ≤ 2 ^ 126 →
+    IsBounded (record (error_sums_of (design_of p) h r) { first = first; weight_scale = weight })
+design_bounded p h r first weight design form some weight_some weight_few room =
     let d = design_of p in
-    let s = error_sums_of d h r in
     let floor = floor_range p design in
     let small = few p design in
     let spread = few_spread d h form in
-    let plan = plan_bound s 0 in
-    let weight : 1 ≤ d.cost_denominator = positive p.cost_den design.cost_den.low in
     let row : 1 ≤ d.row_denominator = positive p.row_den design.row_den.low in
     record {
       some = floor.0;
       weight = floor.1;
       entries = some_entry p design;
-      scale = weight;
-      weights = through (mul-le-mul small.entries small.weight) (omega arith);
+      scale = weight_some;
+      weights = through (mul-le-mul small.entries weight_few) (omega arith);
       rows = one-le-mul (doubled r some) (some_row p design);
       top = doubled r some;
-      cost_scale = one-le-mul weight (pow_positive d.row_denominator 2 row);
+      cost_scale = one-le-mul (positive p.cost_den design.cost_den.low) (pow_positive d.row_denominator 2 row);
       row_scale = positive p.limit_den design.limit_den.low;
       spread_some = spread.0;
       spread_few = spread.1;
-      room = close _ _ s.top_rows (residual_error s plan) _ _ _ _ _ _
-          (less_spread s.spread (plan_pull d h r + s.tail + d.cost_denominator * gradient_squares d (gradient_error d h r)) s.first (s.top_rows * residual_error s plan) spread.0 spread.1) room;
+      room = room;
     }
-  where
-    close : (x t m n a b c e f g : ℕ) → x + 2 ^ 40 * (m * n) ≤ t → t + a + b + c + e + f + g ≤ 2 ^ 126 →
-        x + 2 ^ 40 * m * n + (a + b + c + e + f + g) ≤ 2 ^ 126
-    close x t m n a b c e f g h k = omega (arith, h, k)
 
 pub bounded : (e : ErrorSums) → AreSums e → IsBounded (sums_of e)
-bounded e a = rw a.sums (design_bounded a.parts a.held a.r a.design a.form a.bound a.room)
+bounded e a = subst IsBounded (sym a.sums) (design_bounded a.parts a.held a.r a.first a.weight a.design a.form a.bound a.weight_some a.weight_few
+    (subst (λ (s : errors.ErrorSums). cost_size s ≤ 2 ^ 126) a.sums a.room))
+
+-- the sums of a step
+pub step_sums : (e : ErrorSums) (p : DesignParts) (h : Form) (r : ℕ) → IsDesign p → IsFormFor (design_of p) h → 1 ≤ r → sums_of e ≡ error_sums_of (design_of p) h r →
+    error_size (design_of p) h r ≤ 2 ^ 126 → AreSums e
+step_sums e p h r design form some is room = record {
+  parts = p;
+  held = h;
+  r = r;
+  first = (error_sums_of (design_of p) h r).first;
+  weight = (design_of p).cost_denominator;
+  design = design;
+  form = form;
+  bound = some;
+  weight_some = positive p.cost_den design.cost_den.low;
+  weight_few = through (few p design).weight (omega arith);
+  sums = is;
+  room = subst (λ (s : errors.ErrorSums). cost_size s ≤ 2 ^ 126) (sym is) (step_room (design_of p) h r form room);
+}
 
 -- ---- the part by radii
 pub record AreRadiusParts (s : errors.ErrorSums) (plan : ℕ) : Type 0 where

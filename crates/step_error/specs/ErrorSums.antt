@@ -8,7 +8,7 @@ use Rattle.qp_model.specs.problem.Parts.{IsDesign, design_of}
 use Rattle.qp_model.specs.form.Form.{Form, IsFormFor, farthest, hessian_radii, linear_radii, plan_radii, state_radii, column_radii}
 use Rattle.qp_model.specs.form.Quantities.{greatest}
 use Rattle.qp_model.specs.bounds.Errors as errors
-use Rattle.qp_model.specs.bounds.Errors.{error_sums_of, error_size, plan_bound, residual_error, radius_error, row_radii}
+use Rattle.qp_model.specs.bounds.Errors.{error_sums_of, plan_bound, residual_error, radius_error, row_radii}
 use Rattle.qp_model.specs.declared.design_parts.DesignParts.{DesignParts}
 use Rattle.step_error.specs.declared.sums.ErrorSums.{ErrorSums}
 use Rattle.step_error.specs.declared.radii.Radii.{Radii}
@@ -36,17 +36,6 @@ sums_of e = record {
   weight_scale = e.weight_den;
   spread = e.radii.spread;
 }
-
--- they are those of a form for some design with multipliers up to 2 r, and the quantity `error` is within its limit
-pub record AreSums (e : ErrorSums) : Type 0 where
-  pub parts : DesignParts
-  pub held : Form
-  pub r : ℕ
-  pub design : IsDesign parts
-  pub form : IsFormFor (design_of parts) held
-  pub bound : 1 ≤ r
-  pub sums : sums_of e ≡ error_sums_of (design_of parts) held r
-  pub room : error_size (design_of parts) held r ≤ 2 ^ 126
 
 -- ---- the two halves of what the errors of a step cost
 -- that of the rounding, where the gradient's errors cost `first` over 4^f
@@ -126,3 +115,24 @@ radius_size s plan = s.weight_scale * s.plan_entries * radius_error s plan ^ 2
 
 abbrev pub size_by : (squares plan_pull : ℕ) → errors.ErrorSums → ℕ
 size_by squares plan_pull s = rounding_size squares plan_pull s (plan_bound s 0) + radius_size s (plan_bound s 0)
+
+-- ---- sums that fit
+-- what they come to by rounding and by the radii, and all that the computations with them meet
+abbrev pub cost_size : errors.ErrorSums → ℕ
+cost_size s = s.spread * 2 ^ 40 * s.first + 2 ^ 40 * s.top_rows * residual_error s (plan_bound s 0) + radius_size s (plan_bound s 0)
+
+-- they are those of a form for some design with multipliers up to 2 r, but that what the gradient's errors cost, and what the weights are over, may be those of a
+-- run, in which they accumulate; and they fit
+pub record AreSums (e : ErrorSums) : Type 0 where
+  pub parts : DesignParts
+  pub held : Form
+  pub r : ℕ
+  pub first : ℕ
+  pub weight : ℕ
+  pub design : IsDesign parts
+  pub form : IsFormFor (design_of parts) held
+  pub bound : 1 ≤ r
+  pub weight_some : 1 ≤ weight
+  pub weight_few : weight ≤ 2 ^ 53
+  pub sums : sums_of e ≡ record (error_sums_of (design_of parts) held r) { first = first; weight_scale = weight }
+  pub room : cost_size (sums_of e) ≤ 2 ^ 126

@@ -11,3 +11,4 @@ pub mod Gains
 pub mod Made
 -- ---- the runs of the accelerated machine
 pub mod CarriedErrors
+pub mod RunSums

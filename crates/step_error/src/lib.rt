@@ -13,6 +13,7 @@ mod means;
 mod radii;
 mod real_cost;
 mod real_gains;
+mod runs;
 mod sums;
 
 pub use choice::{Choice, TooFine, choose_bits};
@@ -20,6 +21,7 @@ pub use errors::{epsilon, errors_cost, plan_bound, residual_error};
 pub use means::{carry_of, mean_error};
 pub use radii::farthest_row;
 pub use real_cost::real_epsilon;
+pub use runs::run_sums;
 pub use sums::{ErrorSums, error_sums};
 
 /// One inexact step bounds the Lagrangian of the design at its plan.

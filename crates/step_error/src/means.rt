@@ -16,6 +16,7 @@ use qp_model::DesignParts;
 /// J: an error of the gradient counts at most so often in a run of `k` steps of the accelerated machine.
 pub fn carry_of(k: u32) -> u128
     ensures value { result ≡ carry_of k }
+    ensures some { 1 ≤ result }
     ensures few { result ≤ 2 ^ 33 }
 {
     let steps = u128::from(k);

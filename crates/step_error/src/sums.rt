@@ -102,7 +102,7 @@ fn sums_of(c: &Condensed, parts: &DesignParts, r: u128) -> Option<ErrorSums>
 
 // The sizes of a form's numbers, each at its farthest and the sum rounded up to a whole number.
 #[derive(Clone, Copy)]
-struct Sizes {
+pub(crate) struct Sizes {
     state: u128,
     linear: u128,
     constant: u128,
@@ -111,7 +111,7 @@ struct Sizes {
 }
 
 // Those of a design's form.
-fn sizes_of(c: &Condensed, parts: &DesignParts) -> Sizes
+pub(crate) fn sizes_of(c: &Condensed, parts: &DesignParts) -> Sizes
     requires { IsFormOf parts.now c.now }
     ensures state { result.state ≡ state_bound (design_of parts.now) }
     ensures near { result.state ≤ 2 ^ 31 }
@@ -147,7 +147,7 @@ fn products(a: u128, b: u128, c: u128, d: u128) -> Option<u128>
 }
 
 // What the states, the constant and the multipliers pull a plan by, over the least input weight. None where it is above `2^126`.
-fn pull_of(sizes: &Sizes, r: u128) -> Option<u128>
+pub(crate) fn pull_of(sizes: &Sizes, r: u128) -> Option<u128>
     requires { r ≤ 2 ^ 44 }
     ensures { let plan_pull = sizes.now.state * sizes.now.linear + sizes.now.constant + 2 * r * sizes.now.rows in
         SomeIff result (plan_pull ≤ 2 ^ 126) plan_pull }
@@ -160,7 +160,13 @@ fn pull_of(sizes: &Sizes, r: u128) -> Option<u128>
 
 // The error of entry `j` of the gradient, by the hessian over `scale` with its radii, and what all states and multipliers come to. None where it is
 // above `2^126`.
-fn gradient_error(hess: &Mat, radii: &Mat, scale: u128, combined: u128, j: usize) -> Option<u128>
+pub(crate) fn gradient_error(
+    hess: &Mat,
+    radii: &Mat,
+    scale: u128,
+    combined: u128,
+    j: usize,
+) -> Option<u128>
     requires pair { AreEnclosures hess.now radii.now }
     requires square { hess.now.cols ≡ length hess.now.rows }
     requires inside { j < length hess.now.rows }
@@ -199,7 +205,7 @@ impl ErrorSums {
     ghost use Rattle.step_error.specs.ErrorSums.{HasErrorRoom, sums_of, size_by, rounding_size, radius_size};
 
     // The quantity `error`, by the squares of the gradient's errors and by what pulls a plan. None where it is above `2^126`.
-    fn size(&self, squares: u128, plan_pull: u128) -> Option<u128>
+    pub(crate) fn size(&self, squares: u128, plan_pull: u128) -> Option<u128>
         requires room { HasErrorRoom self.now }
         requires squares { squares ≤ 2 ^ 126 }
         requires plan_pull { plan_pull ≤ 2 ^ 126 }

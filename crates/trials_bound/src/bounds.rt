@@ -1,7 +1,7 @@
 // What follows from a margin.
 use dual_bounds::{
-    TooManySteps, fast_multiplier, fast_steps, lean_row_violation, multiplier, row_violation, steps,
-    undercut, violation,
+    TooManySteps, fast_multiplier, fast_steps, lean_row_violation, multiplier, row_violation,
+    steps, undercut, violation,
 };
 use qp_model::{Margin, Quantity, Wide};
 
@@ -63,15 +63,18 @@ static FAST_STEPS: [(u32, i128, i128, Result<u32, TooManySteps>); 8] = [
     (0, 5, 8796093022208, Ok(2)),
     (0, 4294901758, 8796093022208, Ok(65534)),
     (0, 4294901759, 8796093022208, Err(TooManySteps { k: 65535 })),
-    (40, 1 << 42, 1, Err(TooManySteps { k: 6521908912666391105 })),
+    (
+        40,
+        1 << 42,
+        1,
+        Err(TooManySteps {
+            k: 6521908912666391105,
+        }),
+    ),
 ];
 
 fn is_fast_count(s: u32, r: i128, step_target: i128, count: Result<u32, TooManySteps>) -> bool {
-    s <= 40
-        && r >= 1
-        && r <= 1 << 42
-        && step_target >= 1
-        && fast_steps(s, r, step_target) == count
+    s <= 40 && r >= 1 && r <= 1 << 42 && step_target >= 1 && fast_steps(s, r, step_target) == count
 }
 
 #[test]

@@ -106,8 +106,29 @@ fn cut_in_the_cells(rt: HostRuntime) -> Result<(), Fail> {
     Ok(())
 }
 
+// Whether the second cell alone has a controller.
+fn is_second_made(alloc: Global) -> Result<bool, Fail> {
+    let high = CONTROLLER.replacen(alloc, "lo 0\n", "lo 1\n", 1)?;
+    let cells = format!(in alloc; "mpc-cells 1\n{high}end\n")?;
+    let mut store = store_of(alloc, DESIGN, "none\n8,-7\n8,-7\n", "", "1,0\n")?;
+    leaves(
+        alloc,
+        &mut store,
+        &NONE,
+        "",
+        cells.as_bytes(),
+        REPORT.as_bytes(),
+    )
+}
+
+#[test]
+fn first_cell_without(rt: HostRuntime) -> Result<(), Fail> {
+    assert!(rt; is_second_made(rt.alloc())?);
+    Ok(())
+}
+
 // Runs that are refused; nothing is written.
-static REFUSALS: [Refused; 7] = [
+static REFUSALS: [Refused; 9] = [
     Refused {
         cuts: "1,0\n",
         policies: "1,0\n1,0\n1,0\n1,0\n",
@@ -142,6 +163,16 @@ static REFUSALS: [Refused; 7] = [
         cuts: "1,0\n",
         policies: "1,0\n1,0\n8,x\n8,-7\n",
         line: "error 5 text 3 number 3 2\n",
+    },
+    Refused {
+        cuts: "1,0\n",
+        policies: "none\nnone\n",
+        line: "error 5 text 3 range 0\n",
+    },
+    Refused {
+        cuts: "1,0\n",
+        policies: "none\n1,0\n1,0\n",
+        line: "error 18 cell 2 no-margin 1 3 -3 4\n",
     },
 ];
 

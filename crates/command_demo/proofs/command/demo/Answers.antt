@@ -1,10 +1,8 @@
-use Rattle.qp_model.specs.problem.Policy.{plans_of}
-use Rattle.command_demo.specs.Making.{AreOnlyMade}
 use Rattle.command_demo.proofs.command.demo.Goals as goal
 
 pub returns : goal.returns
 returns g c =
-    let made : AreOnlyMade c.args.number c.in-Ok.inputs.design (plans_of c.in-Ok.inputs.policy) = record { made = c.in-Ok.ensures.made; one = c.in-Ok.ensures.one } in
+    let made = c.in-Ok.ensures.made in
     record {
       called = λ caused. c.demo_of.ensures.called c.args.number made caused;
       prints = c.demo_of.ensures.prints c.args.number made;

@@ -1,4 +1,4 @@
-use Rattle.std.proofs.Common.{le_refl, refl, sym, subst}
+use Rattle.std.proofs.Common.{◌∙◌, arith, le_refl, refl, sym, subst}
 use Rattle.qp_model.specs.problem.Parts.{design_of}
 use Rattle.qp_model.specs.problem.Policy.{plans_of}
 use Rattle.qp_model.specs.bounds.Printed.{printed}
@@ -16,6 +16,15 @@ pub print_text-requires-clause-inside : goal.print_text-requires-clause-inside
 print_text-requires-clause-inside g c =
     let inputs = c.args.inputs.now in
     inside (design_of inputs.design) c.in-Ok.made.controller states_text inputs.states c.in-Ok.ensures.made.built.made.made.sizes c.requires.states c.requires.inside
+
+pub print_text-requires-clause-width : goal.print_text-requires-clause-width
+print_text-requires-clause-width g c = c.requires.states.cols ∙ sym c.in-Ok.ensures.made.built.made.made.sizes.states
+
+pub print_text-requires-clause-count : goal.print_text-requires-clause-count
+print_text-requires-clause-count g c = omega (arith, c.requires.four)
+
+pub print_text-requires-clause-some : goal.print_text-requires-clause-some
+print_text-requires-clause-some g c = omega (arith, c.requires.four)
 
 pub returns-in-Ok : goal.returns-in-Ok
 returns-in-Ok g c =

@@ -12,7 +12,7 @@ returns-in-Err g c =
     let words = c.args.words.now in
     let is = rw c.at.ensures at c.in-Err.ensures in
     let does : DoesInStore g.S.Store words generate_deeds c.args.store.now c.read_design_file.new.store c.in-Err.ended =
-    follows generate_work generate_sound (stopped (record { held = is.held; reads = is.reads; writes = is.writes }) is.ends) in
+    follows generate_work generate_sound (stopped is.passes is.ends) in
     record { generated = λ done. generated words _ _ _ done does.leaves; does = does }
 
 -- the policy's does
@@ -20,10 +20,10 @@ pub returns : goal.returns
 returns g c =
     let words = c.args.words.now in
     let first = rw c.at.ensures at c.in-Ok.ensures in
-    let is = rw c.at-2.ensures at c.in-Err-read_policy_file.ensures in
+    let is = rw c.at-2.ensures at c.in-Err-read_policy_file.ensures.read in
     let does : DoesInStore g.S.Store words generate_deeds c.args.store.now c.read_policy_file.new.store c.in-Err-read_policy_file.status =
     follows generate_work generate_sound
-    (went_on (record { held = first.held; reads = first.reads; writes = first.writes }) first.right (stopped (record { held = is.held; reads = is.reads; writes = is.writes }) is.ends)) in
+    (went_on first.passes first.right (stopped is.passes is.ends)) in
     record { generated = λ done. generated words _ _ _ done does.leaves; does = does }
 
 -- both are right
@@ -31,12 +31,12 @@ pub returns-in-Ok-read_policy_file : goal.returns-in-Ok-read_policy_file
 returns-in-Ok-read_policy_file g c =
     let words = c.args.words.now in
     let first = rw c.at.ensures at c.in-Ok.ensures in
-    let is = rw c.at-2.ensures at c.in-Ok-read_policy_file.ensures in
+    let is = rw c.at-2.ensures at c.in-Ok-read_policy_file.ensures.read in
     let made = rw c.at-in-Ok-read_policy_file.ensures at c.texts_of-made.ensures in
     let does : DoesInStore g.S.Store words generate_deeds c.args.store.now c.write_texts.new.store c.write_texts.result =
     follows generate_work generate_sound
-    (went_on (record { held = first.held; reads = first.reads; writes = first.writes }) first.right
-    (went_on (record { held = is.held; reads = is.reads; writes = is.writes }) is.right
+    (went_on first.passes first.right
+    (went_on is.passes is.right
     (acted (two_done (λ file one. one) c.texts_of-made.result (λ t. t.first.items) (λ t. t.second.items) made.texts made.called made.unmade c.write_texts.ensures.written c.write_texts.ensures.unmade)))) in
     record { generated = λ done. generated words _ _ _ done does.leaves; does = does }
 

@@ -7,10 +7,10 @@ use Rattle.command_list.proofs.command.list.Goals as goal
 pub returns-in-Err : goal.returns-in-Err
 returns-in-Err g c =
     let did = c.read_controller_file.ensures in
-    follows list_work list_sound (stopped (record { held = did.held; reads = did.reads; writes = did.writes }) (rw c.at.ensures at c.in-Err.ensures.ends))
+    follows list_work list_sound (stopped did.passes (rw c.at.ensures at c.in-Err.ensures.ends))
 
 -- it holds a controller
 pub returns-in-Ok : goal.returns-in-Ok
 returns-in-Ok g c =
     let kept = c.in-Ok.ensures in
-    follows list_work list_sound (went_on (record { held = kept.held; reads = kept.reads; writes = kept.writes }) (rw c.at.ensures at kept.right) (acted c.list_with.ensures))
+    follows list_work list_sound (went_on kept.passes (rw c.at.ensures at kept.right) (acted c.list_with.ensures))

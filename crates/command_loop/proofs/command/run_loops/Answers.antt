@@ -7,10 +7,10 @@ pub returns-in-Err : goal.returns-in-Err
 returns-in-Err g c =
     let did = c.read_design_file.ensures in
     follows (loop_work c.args.turns c.args.disturbed) (loop_sound c.args.turns c.args.disturbed)
-    (stopped (record { held = did.held; reads = did.reads; writes = did.writes }) (rw c.at.ensures at c.in-Err.ensures.ends))
+    (stopped did.passes (rw c.at.ensures at c.in-Err.ensures.ends))
 
 pub returns-in-Ok : goal.returns-in-Ok
 returns-in-Ok g c =
     let kept = c.in-Ok.ensures in
     follows (loop_work c.args.turns c.args.disturbed) (loop_sound c.args.turns c.args.disturbed)
-    (went_on (record { held = kept.held; reads = kept.reads; writes = kept.writes }) (rw c.at.ensures at kept.right) c.run_design.ensures)
+    (went_on kept.passes (rw c.at.ensures at kept.right) c.run_design.ensures)

@@ -5,13 +5,13 @@ use Rattle.command_loop.proofs.files.run_controller.Goals as goal
 
 pub returns-in-Err : goal.returns-in-Err
 returns-in-Err g c =
-    let did = c.read_states_file.ensures in
-    stopped (record { held = did.held; reads = did.reads; writes = did.writes }) (rw (ap (λ (n : Numbers). n.states) c.parts.ensures.value, c.at.ensures) at c.in-Err.ensures.ends)
+    let did = c.read_states_file.ensures.read in
+    stopped did.passes (rw (ap (λ (n : Numbers). n.states) c.parts.ensures.value, c.at.ensures) at c.in-Err.ensures.read.ends)
 
 pub returns-in-Ok : goal.returns-in-Ok
 returns-in-Ok g c =
-    let kept = c.in-Ok.ensures in
-    went_on (record { held = kept.held; reads = kept.reads; writes = kept.writes }) (rw (ap (λ (n : Numbers). n.states) c.parts.ensures.value, c.at.ensures) at kept.right) c.run_states.ensures
+    let kept = c.in-Ok.ensures.read in
+    went_on kept.passes (rw (ap (λ (n : Numbers). n.states) c.parts.ensures.value, c.at.ensures) at kept.right) c.run_states.ensures
 
 pub run_states-requires-clause-width : goal.run_states-requires-clause-width
 run_states-requires-clause-width g c = c.in-Ok.ensures.width ∙ ap (λ (n : Numbers). n.states) c.parts.ensures.value

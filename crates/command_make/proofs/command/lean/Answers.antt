@@ -2,7 +2,7 @@ use Rattle.command_make.proofs.Asking.{lean_is}
 use Rattle.command_make.proofs.command.lean.Goals as goal
 
 pub make_asked-requires : goal.make_asked-requires
-make_asked-requires g c = lean_is c.args.words.now c.requires
+make_asked-requires g c = rw c.asked_of.ensures (lean_is c.args.words.now c.requires)
 
 pub returns : goal.returns
-returns g c = c.make_asked.ensures
+returns g c = rw c.asked_of.ensures at c.make_asked.ensures

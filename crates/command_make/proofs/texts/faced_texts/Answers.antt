@@ -15,16 +15,16 @@ use Rattle.command_make.proofs.texts.faced_texts.Goals as goal
 
 pub returns-in_err-made : goal.returns-in_err-made
 returns-in_err-made c =
-    let p = c.args.design.now in
+    let p = c.args.inputs.now.design in
     let u : Under = record { faces = faces_of c.args.faces.now; range = c.args.range.now } in
-    let none = unmade_under (design_of p) (targets_of p) (plans_of c.args.policy.now) (reference_of c.args.reference.now) u _ c.in_err-made.ensures.unmade in
+    let none = unmade_under (design_of p) (targets_of p) (plans_of c.args.inputs.now.policy) (reference_of c.args.inputs.now.reference) u _ c.in_err-made.ensures.unmade in
     rw (err_same _ _ c.from_residual.ensures.1) (record { texts = tt; called = tt; unmade = none })
 
 pub row_excess-requires : goal.row_excess-requires
 row_excess-requires c =
     let m = c.in_ok-made.made in
     let is = c.in_ok-made.ensures in
-    (facts c.args.design.now (plans_of c.args.policy.now) (reference_of c.args.reference.now) m.controller (printed m.bounds) m.eps is.made is.errors is.called).small
+    (facts c.args.inputs.now.design (plans_of c.args.inputs.now.policy) (reference_of c.args.inputs.now.reference) m.controller (printed m.bounds) m.eps is.made is.errors is.called).small
 
 pub returns-in_err-excess : goal.returns-in_err-excess
 returns-in_err-excess c = rw (err_same c.from_residual-in_err-excess.result _ c.from_residual-in_err-excess.ensures.1) (record { texts = tt; called = tt; unmade = unmade_memory _ _ refl })
@@ -33,14 +33,14 @@ pub texts_checked-requires : goal.texts_checked-requires
 texts_checked-requires c =
     let m = c.in_ok-made.made in
     let is = c.in_ok-made.ensures in
-    let f = facts c.args.design.now (plans_of c.args.policy.now) (reference_of c.args.reference.now) m.controller (printed m.bounds) m.eps is.made is.errors is.called in
+    let f = facts c.args.inputs.now.design (plans_of c.args.inputs.now.policy) (reference_of c.args.inputs.now.reference) m.controller (printed m.bounds) m.eps is.made is.errors is.called in
     record { faces = c.requires.faces; range = c.requires.range; excess = rw c.deref.ensures.value (c.in_ok-excess.ensures.long ∙ f.rows) }
 
 pub returns : goal.returns
 returns c =
-    let p = c.args.design.now in
-    let plans = plans_of c.args.policy.now in
-    let reference = reference_of c.args.reference.now in
+    let p = c.args.inputs.now.design in
+    let plans = plans_of c.args.inputs.now.policy in
+    let reference = reference_of c.args.inputs.now.reference in
     let u : Under = record { faces = faces_of c.args.faces.now; range = c.args.range.now } in
     let m = c.in_ok-made.made in
     let is = c.in_ok-made.ensures in

@@ -1,16 +1,18 @@
-use Rattle.std.proofs.Common.{ap, refl, ◌∙◌, arith}
+use Rattle.std.proofs.Common.{◌≡◌, ap, refl, ◌∙◌, arith}
 use Rattle.command_line.proofs.Following.{follows, stopped, went_on, acted, printed}
-use Rattle.command_serve.specs.Served.{cell_states}
+use Rattle.plan_lines.proofs.LineByLine.{ok_both}
+use Rattle.command_serve.specs.Served.{cell_states, controllers_of}
+use Rattle.command_serve.specs.Making.{ArePreparedFor}
 use Rattle.command_serve.specs.Deeds.{serve_work}
-use Rattle.command_serve.proofs.Serving.{have_width}
-use Rattle.command_serve.proofs.Answering.{serve_sound}
+use Rattle.command_serve.proofs.Serving.{some_cell, have_width}
+use Rattle.command_serve.proofs.Answering.{serve_sound, serve_ended}
 use Rattle.command_serve.proofs.command.serve.Goals as goal
 
 -- the file of cells ends it
 pub returns-in-Err : goal.returns-in-Err
 returns-in-Err g c =
     let did = c.read_cells_file.ensures in
-    follows serve_work serve_sound (stopped (record { held = did.held; reads = did.reads; writes = did.writes }) (rw c.at.ensures at c.in-Err.ensures.ends))
+    follows serve_work serve_sound (stopped did.passes (rw c.at.ensures at c.in-Err.ensures.ends))
 
 -- the cells are right, and there is one
 pub state_size-requires : goal.state_size-requires
@@ -20,25 +22,33 @@ state_size-requires g c = omega (arith, c.in-Ok.ensures.right.right.right.form.a
 pub returns : goal.returns
 returns g c =
     let kept = c.in-Ok.ensures in
-    let did = c.read_states_file.ensures in
+    let did = c.read_states_file.ensures.read in
     follows serve_work serve_sound
-    (went_on (record { held = kept.held; reads = kept.reads; writes = kept.writes }) (rw c.at.ensures at kept.right)
-    (stopped (record { held = did.held; reads = did.reads; writes = did.writes })
-    (rw (c.state_size.ensures ∙ ap cell_states c.deref.ensures.value, c.at-2.ensures) at c.in-Err-read_states_file.ensures.ends)))
+    (went_on kept.passes (rw c.at.ensures at kept.right)
+    (stopped did.passes
+    (rw (c.state_size.ensures ∙ ap cell_states c.deref.ensures.value, c.at-2.ensures) at c.in-Err-read_states_file.ensures.read.ends)))
 
 -- the states are right, too
 pub returns-in-Ok-read_states_file : goal.returns-in-Ok-read_states_file
 returns-in-Ok-read_states_file g c =
+    let cells = c.in-Ok.cells.items in
+    let m = c.in-Ok-read_states_file.states in
     let kept = c.in-Ok.ensures in
-    let did = c.read_states_file.ensures in
+    let did = c.read_states_file.ensures.read in
     follows serve_work serve_sound
-    (went_on (record { held = kept.held; reads = kept.reads; writes = kept.writes }) (rw c.at.ensures at kept.right)
-    (went_on (record { held = did.held; reads = did.reads; writes = did.writes })
-    (rw (c.state_size.ensures ∙ ap cell_states c.deref.ensures.value, c.at-2.ensures) at c.in-Ok-read_states_file.ensures.right)
-    (acted (printed tt (rw c.deref-in-Ok-read_states_file.ensures.value at c.serve_states.ensures) refl))))
+    (went_on kept.passes (rw c.at.ensures at kept.right)
+    (went_on did.passes
+    (rw (c.state_size.ensures ∙ ap cell_states c.deref.ensures.value, c.at-2.ensures) at c.in-Ok-read_states_file.ensures.read.right)
+    (acted (printed tt (serve_ended (some_cell cells 0 (omega (arith, kept.right.right.right.form.are.some))) cells m g.O.Sink c.args.out.now c.print_prepared.new.out c.print_prepared.result
+    (c.print_prepared.ensures cells (rw c.deref-in-Ok-read_states_file.ensures.value at c.cells_of.ensures.cells))) refl))))
 
--- they are as wide as those of each cell
-pub serve_states-requires-clause-width : goal.serve_states-requires-clause-width
-serve_states-requires-clause-width g c =
-    let width = c.in-Ok-read_states_file.ensures.width ∙ c.state_size.ensures ∙ ap cell_states c.deref.ensures.value in
-    rw c.deref-in-Ok-read_states_file.ensures.value (have_width c.in-Ok.cells.items c.in-Ok-read_states_file.states.cols c.in-Ok.ensures.right.right.right.form.are width)
+-- and as wide as those of each cell
+pub print_prepared-requires-clause-size : goal.print_prepared-requires-clause-size
+print_prepared-requires-clause-size g c =
+    let cells = c.in-Ok.cells.items in
+    let m = c.in-Ok-read_states_file.states in
+    let are = c.in-Ok.ensures.right.right.right.form.are in
+    let width = have_width cells m.cols are (c.in-Ok-read_states_file.ensures.width ∙ c.state_size.ensures ∙ ap cell_states c.deref.ensures.value) in
+    ok_both c.cells_of.result (λ v. v.cells.now ≡ cells) (λ v. controllers_of v.kernels.items ≡ cells) (λ v. ArePreparedFor v.cells.now v.kernels.items m.cols)
+    (λ v is kernels. rw is (record { some = omega (arith, are.some); kernels_are = kernels; width = width }))
+    (rw c.deref-in-Ok-read_states_file.ensures.value at c.cells_of.ensures.cells) (rw c.deref-in-Ok-read_states_file.ensures.value at c.cells_of.ensures.kernels)

@@ -3,13 +3,13 @@ use Rattle.command_settle.proofs.files.run_controller.Goals as goal
 
 pub returns-in-Err : goal.returns-in-Err
 returns-in-Err g c =
-    let did = c.read_certificate_file.ensures in
-    stopped (record { held = did.held; reads = did.reads; writes = did.writes }) (rw c.at.ensures at c.in-Err.ensures.ends)
+    let did = c.read_certificate_file.ensures.read in
+    stopped did.passes (rw c.at.ensures at c.in-Err.ensures.read.ends)
 
 pub returns-in-Ok : goal.returns-in-Ok
 returns-in-Ok g c =
-    let kept = c.in-Ok.ensures in
-    went_on (record { held = kept.held; reads = kept.reads; writes = kept.writes }) (rw c.at.ensures at kept.right) c.run_certificate.ensures
+    let kept = c.in-Ok.ensures.read in
+    went_on kept.passes (rw c.at.ensures at kept.right) c.run_certificate.ensures
 
 pub run_certificate-requires-clause-inside : goal.run_certificate-requires-clause-inside
-run_certificate-requires-clause-inside g c = c.in-Ok.ensures.right.right.right.inside
+run_certificate-requires-clause-inside g c = c.in-Ok.ensures.read.right.right.right.inside

@@ -4,14 +4,14 @@ use Rattle.command_settle.proofs.files.run_design.Goals as goal
 pub returns-in-Err : goal.returns-in-Err
 returns-in-Err g c =
     let did = c.read_controller_file.ensures in
-    stopped (record { held = did.held; reads = did.reads; writes = did.writes }) (rw c.at.ensures at c.in-Err.ensures.ends)
+    stopped did.passes (rw c.at.ensures at c.in-Err.ensures.ends)
 
 pub returns-in-Some : goal.returns-in-Some
 returns-in-Some g c =
     let kept = c.in-Ok.ensures in
-    went_on (record { held = kept.held; reads = kept.reads; writes = kept.writes }) (rw c.at.ensures at kept.right) (failed c.in-Some.ensures)
+    went_on kept.passes (rw c.at.ensures at kept.right) (failed c.in-Some.ensures)
 
 pub returns : goal.returns
 returns g c =
     let kept = c.in-Ok.ensures in
-    went_on (record { held = kept.held; reads = kept.reads; writes = kept.writes }) (rw c.at.ensures at kept.right) (passed c.in-None.ensures c.run_controller.ensures)
+    went_on kept.passes (rw c.at.ensures at kept.right) (passed c.in-None.ensures c.run_controller.ensures)

@@ -1,4 +1,5 @@
 use Rattle.std.proofs.Common.{map}
+use Rattle.std.specs.Option.{option_map}
 use Rattle.qp_model.specs.problem.Policy.{plans_of}
 use Rattle.qp_model.specs.bounds.Printed.{printed}
 use Rattle.command_split.proofs.Calling.{done_called, refused_called}
@@ -6,8 +7,8 @@ use Rattle.command_split.proofs.cells.cells_made.Goals as goal
 
 pub returns-in-Ok-clause-called : goal.returns-in-Ok-clause-called
 returns-in-Ok-clause-called c =
-    done_called c.args.design.now c.args.cuts.now (map plans_of c.args.policies.now) c.in-Ok.made.controllers.items (map printed c.in-Ok.made.bounds.items) c.in-Ok.ensures.made
+    done_called c.args.design.now c.args.cuts.now (map (option_map plans_of) c.args.policies.now) c.in-Ok.made.controllers.items (map printed c.in-Ok.made.bounds.items) c.in-Ok.ensures.made
 
 pub returns-in-Err-clause-unmade : goal.returns-in-Err-clause-unmade
 returns-in-Err-clause-unmade c =
-    refused_called c.args.design.now c.args.cuts.now (map plans_of c.args.policies.now) c.in-Err.refused c.cell_status.result c.cell_status.ensures c.in-Err.ensures.refused
+    refused_called c.args.design.now c.args.cuts.now (map (option_map plans_of) c.args.policies.now) c.in-Err.refused c.cell_status.result c.cell_status.ensures c.in-Err.ensures.refused

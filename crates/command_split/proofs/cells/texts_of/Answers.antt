@@ -1,10 +1,13 @@
-use Rattle.std.proofs.Common.{map, sym, ◌∙◌, rules}
+use Rattle.std.proofs.Common.{◌≤◌, map, sym, ◌∙◌, rules, arith}
 use Rattle.std.proofs.lemmas.Result.{IfErr-weaker, IfOk-weaker}
 use Rattle.std.proofs.lemmas.List.Folds.{flat_map-map}
 use Rattle.qp_model.specs.problem.Parts.{IsDesign}
+use Rattle.std.specs.Option.{option_map}
 use Rattle.qp_model.specs.problem.Policy.{plans_of}
 use Rattle.qp_model.specs.bounds.Printed.{printed}
 use Rattle.bound_report.specs.Report.{report_text}
+use Rattle.cell_split.specs.Cells.{cell_count}
+use Rattle.cell_split.proofs.PolicyFacts.{covered_most}
 use Rattle.command_line.proofs.Results.{err_same}
 use Rattle.command_line.proofs.TwoTexts.{both_ok, unmade_memory}
 use Rattle.command_split.proofs.Serving.{are_alike}
@@ -12,7 +15,15 @@ use Rattle.command_split.proofs.cells.texts_of.Goals as goal
 
 pub texts_made-requires-clause-alike : goal.texts_made-requires-clause-alike
 texts_made-requires-clause-alike c =
-    are_alike c.args.design.now c.args.cuts.now (map plans_of c.args.policies.now) c.in_ok-made.made.controllers.items (map printed c.in_ok-made.made.bounds.items) c.in_ok-made.ensures.made
+    are_alike c.args.design.now c.args.cuts.now (map (option_map plans_of) c.args.policies.now) c.in_ok-made.made.controllers.items (map printed c.in_ok-made.made.bounds.items) c.in_ok-made.ensures.made
+
+pub texts_made-requires-clause-some : goal.texts_made-requires-clause-some
+texts_made-requires-clause-some c = omega (arith, c.in_ok-made.ensures.made.count, c.requires.some)
+
+pub texts_made-requires-clause-few : goal.texts_made-requires-clause-few
+texts_made-requires-clause-few c =
+    let few : cell_count c.args.cuts.now ≤ 64 = search rules in
+    omega (arith, c.in_ok-made.ensures.made.count, covered_most (map (option_map plans_of) c.args.policies.now) (cell_count c.args.cuts.now), few)
 
 pub returns-clause-texts : goal.returns-clause-texts
 returns-clause-texts c =

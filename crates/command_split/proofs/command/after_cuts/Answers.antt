@@ -14,12 +14,12 @@ write_texts-requires g c =
 
 pub returns-in-Err : goal.returns-in-Err
 returns-in-Err g c =
-    let is = rw (c.at.ensures, c.cells-cells.ensures.value) at c.in-Err.ensures in
-    stopped (record { held = is.held; reads = is.reads; writes = is.writes }) is.ends
+    let is = rw (c.at.ensures, c.cells-cells.ensures.value) at c.in-Err.ensures.read in
+    stopped is.passes is.ends
 
 pub returns-in-Ok : goal.returns-in-Ok
 returns-in-Ok g c =
-    let is = rw (c.at.ensures, c.cells-cells.ensures.value) at c.in-Ok.ensures in
+    let is = rw (c.at.ensures, c.cells-cells.ensures.value) at c.in-Ok.ensures.read in
     let made = rw c.deref.ensures.value at c.texts_of-made.ensures in
-    went_on (record { held = is.held; reads = is.reads; writes = is.writes }) is.right
+    went_on is.passes is.right
     (acted (two_done (λ file one. one) c.texts_of-made.result (λ t. t.first.items) (λ t. t.second.items) made.texts made.called made.unmade c.write_texts.ensures.written c.write_texts.ensures.unmade))

@@ -19,6 +19,18 @@ first_cost-requires-clause-sums c =
     let m = c.requires.made in
     are_sums a.c.now a.e.now a.p_mat.now a.t.now a.w_mat.now a.f m.parts m.r m.made
 
+pub plan_bound-requires-clause-sums : goal.plan_bound-requires-clause-sums
+plan_bound-requires-clause-sums c =
+    let a = c.args in
+    let m = c.requires.made in
+    are_sums a.c.now a.e.now a.p_mat.now a.t.now a.w_mat.now a.f m.parts m.r m.made
+
+pub errors_cost-requires-clause-sums : goal.errors_cost-requires-clause-sums
+errors_cost-requires-clause-sums c =
+    let a = c.args in
+    let m = c.requires.made in
+    are_sums a.c.now a.e.now a.p_mat.now a.t.now a.w_mat.now a.f m.parts m.r m.made
+
 pub first_cost-requires-clause-small : goal.first_cost-requires-clause-small
 first_cost-requires-clause-small c =
     let a = c.args in

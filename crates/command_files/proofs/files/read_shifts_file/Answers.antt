@@ -1,0 +1,17 @@
+use Rattle.state_files.specs.TurnText.{IsShiftsFault}
+use Rattle.command_line.proofs.Results.{err_same}
+use Rattle.command_files.specs.Texts.{ShiftsRight}
+use Rattle.command_design_files.proofs.Readers.{unread, read_text}
+use Rattle.command_files.proofs.files.read_shifts_file.Goals as goal
+
+pub returns-in_err-bytes : goal.returns-in_err-bytes
+returns-in_err-bytes g c = rw (err_same c.from_residual.result _ c.from_residual.ensures.1) (unread _ c.in_err-bytes.ensures.ends c.in_err-bytes.ensures.passes)
+
+pub returns : goal.returns
+returns g c =
+    let got = c.in_ok-bytes.ensures in
+    let is = rw c.deref.ensures.value at c.read_shifts.ensures in
+    let p = c.read_shifts.result in
+    let r = c.told_text.result in
+    read_text g.S.Store c.args.file _ (ShiftsRight c.args.n c.args.turns) (λ x. x) (λ bytes fault. IsShiftsFault bytes c.args.n c.args.turns fault) _ _ _ c.in_ok-bytes.bytes.items got.told got.short got.passes p r c.told_text.ensures
+    (record { found = is.found; fault = is.fault; right = is.right; first = is.first })

@@ -1,0 +1,37 @@
+-- What a controller is made of, as it was read.
+use Rattle.std.specs.Prelude.{Option, option_map, IfSome}
+use Rattle.qp_model.specs.problem.Policy.{Plans, plans_of, IsPolicyFor}
+use Rattle.qp_model.specs.problem.Parts.{design_of}
+use Rattle.qp_model.specs.declared.policy.Policy.{Policy}
+use Rattle.qp_model.specs.machine.Controller.{Numbers}
+use Rattle.qp_model.specs.bounds.Printed.{Printed}
+use Rattle.stay_check.specs.FaceForms.{faces_of, AreFacesFor}
+use Rattle.state_files.specs.RangeText.{IsShiftRange}
+use Rattle.command_line.specs.Script.{Act}
+use Rattle.command_line.specs.declared.status.Status.{Status}
+use Rattle.command_generate.specs.Engine.Targets.{targets_of}
+use Rattle.command_make.specs.Made.{reference_of}
+use Rattle.command_make.specs.Make.{Under, under_of, CallsUnder, IsMadeUnder, make_act}
+use Rattle.command_make.specs.declared.command.Asked.{Asked}
+use Rattle.command_make.specs.declared.inputs.Inputs.{Inputs}
+
+-- all are for the design
+pub record AreInputs (i : Inputs) : Type 0 where
+  pub plans : IsPolicyFor (design_of i.design) (plans_of i.policy)
+  pub references : IfSome i.reference (λ r. IsPolicyFor (design_of i.design) (plans_of r))
+  pub faces : IfSome i.faces (λ f. AreFacesFor (design_of i.design) (faces_of f))
+  pub range : IfSome i.range (IsShiftRange i.design.states)
+
+abbrev pub under_in : Inputs → Option Under
+under_in i = under_of i.design.states (option_map faces_of i.faces) i.range
+
+-- what they call for, and what is made of them
+abbrev pub calls_of_inputs : Inputs → Option Under → (Status → Type 0)
+calls_of_inputs i = CallsUnder (design_of i.design) (targets_of i.design) (plans_of i.policy) (reference_of i.reference)
+
+abbrev pub made_of_inputs : Inputs → Option Under → Numbers → Printed → Type 0
+made_of_inputs i = IsMadeUnder i.design (plans_of i.policy) (reference_of i.reference)
+
+-- what is done with them
+abbrev pub act_of : Asked → Inputs → Act
+act_of asked i = make_act asked (design_of i.design) (targets_of i.design) (IsMadeUnder i.design) (plans_of i.policy) (reference_of i.reference) (under_in i)
