@@ -12,5 +12,6 @@ pub mod FastPromise
 pub mod FastCauses
 -- ---- what is made
 pub mod FastPrinted
+pub mod FastNumbers
 pub mod FastMade
 mod FastBoundsWorked

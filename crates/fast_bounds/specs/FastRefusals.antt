@@ -1,15 +1,13 @@
 -- Why a design with a policy and reference plans has no controller of the accelerated machine: the first of these tests, in their order, that it fails. They
 -- are those of a lean controller, with the numbers of this machine; the exponents of the rows, which the errors of a run are made of, refuse nothing.
-use Rattle.std.specs.Prelude.{◌≡◌, ℕ, ◌+◌, ◌*◌, ◌^◌, ◌<◌, ◌≤◌, pos, List, unsigned_abs}
+use Rattle.std.specs.Prelude.{◌≡◌, ℕ, ◌^◌, ◌<◌, ◌≤◌, pos, List, unsigned_abs}
 use Rattle.qp_model.specs.form.Class.{form_of}
 use Rattle.qp_model.specs.form.Columns.{descent_size}
 use Rattle.qp_model.specs.problem.Design.{Design}
 use Rattle.qp_model.specs.problem.Policy.{Plans, IsPolicyFor}
 use Rattle.qp_model.specs.problem.Parts.{IsDesign, design_of}
 use Rattle.qp_model.specs.declared.design_parts.DesignParts.{DesignParts}
-use Rattle.qp_model.specs.bounds.Errors.{epsilon, gradient_error, gradient_squares, plan_pull}
-use Rattle.qp_model.specs.form.Form.{Form}
-use Rattle.step_error.specs.ErrorSums.{size_by}
+use Rattle.qp_model.specs.bounds.Errors.{epsilon}
 use Rattle.qp_model.specs.declared.bounds.Margin.{Margin}
 use Rattle.qp_model.specs.declared.quantity.Quantity.TheVariants.{Multiplier, Excess, Error, Descent, Width}
 use Rattle.controller_maker.specs.Widest.{fast_width_size}
@@ -17,7 +15,8 @@ use Rattle.hessian_check.specs.Steps.{IsExponentOf}
 use Rattle.hessian_check.specs.RowExponents.{AreExponentsOf}
 use Rattle.dual_bounds.specs.FastSteps.{IsFastStepCount, fast_multiplier_size}
 use Rattle.step_error.specs.Choice.{IsChoice}
-use Rattle.step_error.specs.CarriedErrors.{mean_error, run_sums_of}
+use Rattle.step_error.specs.CarriedErrors.{run_sums_of}
+use Rattle.step_error.specs.RunSums.{run_error_size}
 use Rattle.design_engine.specs.Targets.{Targets, floor_target}
 use Rattle.design_engine.specs.Stages.{Nothing, Sized, Finds, OfForm, OfCorners}
 use Rattle.design_engine.specs.Tests.{PassesForm}
@@ -40,11 +39,6 @@ AreFastBitsOf d a s k exponents = IsChoice (run_sums_of d (form_of d) (unsigned_
 -- what the errors of such a run cost at f bits, over 2^40
 abbrev pub fast_stated_cost : Design → (r s k : ℕ) → List ℕ → ℕ → ℕ
 fast_stated_cost d r s k exponents = epsilon (run_sums_of d (form_of d) r k s exponents)
-
--- `error` of a run: that of a step, where what the squares cost, and the weights, count as often as an error of the gradient does
-abbrev pub run_error_size : Design → Form → (r k s : ℕ) → (exponents : List ℕ) → ℕ
-run_error_size d h r k s exponents =
-    size_by (d.cost_denominator * gradient_squares d (λ j. gradient_error d h r j + mean_error h s exponents j)) (plan_pull d h r) (run_sums_of d h r k s exponents)
 
 -- the tests of the systems and the sums
 abbrev pub AfterFastBits : Design → Aim → (s k f : ℕ) → Refusal → Type 0

@@ -4,6 +4,7 @@
 mod bounds;
 mod controller;
 mod laws;
+mod numbers;
 
 pub use bounds::fast_bounds_of;
 pub use controller::fast_controller_with;
@@ -11,3 +12,4 @@ pub use laws::{
     fast_carried_law, fast_causes_law, fast_certified_law, fast_design_run_law, fast_lean_law,
     fast_stated_run_law, plan_errors_law,
 };
+pub use numbers::{RunNumbers, run_numbers};
