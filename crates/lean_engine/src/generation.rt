@@ -81,6 +81,7 @@ fn made_leanly(
         (PassesSomeLean (design_of design.now) (targets_of design.now) (plans_of policy.now) (plans_of reference.now))
         (HasLeanCause (design_of design.now) (targets_of design.now) (plans_of policy.now) (plans_of reference.now)) result }
 {
+    // (a `corner_margin::MarginFault` becomes a refusal here)
     let margin = margins(alloc, design, policy)?;
     let stepped = stepped_form(alloc, design)?;
     let made = priced(alloc, design, policy, reference, margin, &stepped);
