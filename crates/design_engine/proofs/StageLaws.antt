@@ -62,6 +62,7 @@ aim_apart d a s e memory (inr h) = sized_apart Error _ (Finds ℕ (IsFine d a) (
   where
     fine : (eps : ℤ) → Memory ≡ TooFine eps → ⊥
     fine eps g = search rules
+
     chosen : IsApart (Finds ℕ (IsFine d a) (AreBitsOf d a) (AfterBits d a s))
     chosen e memory (inl h) = fine _ (sym memory ∙ h.0)
     chosen e memory (inr h) = sized_apart Descent _ (Sized Width (width_of d a s h.0) Nothing) (sized_apart Width _ Nothing (λ e memory never. never)) e memory h.2
@@ -104,6 +105,7 @@ module _ (d : Design) (after : ℕ → Refusal → Type 0) where
     where
       flat : Memory ≡ Curvature → ⊥
       flat g = search rules
+
       found : IsApart (Finds ℕ (IsFlat d) (IsExponentOf d) after)
       found e memory (inl h) = flat (sym memory ∙ h.0)
       found e memory (inr h) = apart h.0 e memory h.2
@@ -141,6 +143,7 @@ module _ (d : Design) (plans : Plans) (after : Margin → Refusal → Type 0) wh
     where
       short : (corner row : ℕ) (slack : Frac) → Memory ≡ NoMargin corner row slack → ⊥
       short corner row slack g = search rules
+
       found : IsApart (Finds Margin (IsShort d plans) (IsWideMargin d plans) after)
       found e memory (inl h) = short h.0 h.1 h.2 (sym memory ∙ h.3)
       found e memory (inr h) = apart h.0 e memory h.2
