@@ -5,6 +5,7 @@ use Rattle.std.specs.Option.{option_len, option_map}
 use Rattle.std.specs.Result.{is_ok}
 use Rattle.std.proofs.lemmas.Bool.{cases_order}
 use Rattle.std.proofs.lemmas.List.{get_or_append_left, get_or_push, length_push, map-append}
+use Rattle.qp_model.specs.problem.Parts.{design_of}
 use Rattle.qp_model.specs.problem.Policy.{Plans, plans_of}
 use Rattle.qp_model.specs.bounds.Printed.{Printed, printed}
 use Rattle.qp_model.specs.machine.Controller.{Numbers}
@@ -13,6 +14,8 @@ use Rattle.qp_model.specs.declared.design_parts.DesignParts.{DesignParts}
 use Rattle.qp_model.specs.declared.policy.Policy.{Policy}
 use Rattle.qp_model.specs.declared.refusal.Refusal.{Refusal}
 use Rattle.qp_model.specs.declared.refusal.Refusal.TheVariants.{Memory}
+use Rattle.design_engine.specs.Targets.{targets_of}
+use Rattle.design_engine.proofs.CauseLaws.{memory_apart}
 use Rattle.cell_split.specs.Cells.{IsCell}
 use Rattle.cell_split.specs.PoliciesText.{covered}
 use Rattle.cell_split.proofs.PolicyFacts.{next, none_covered, covered_next, covered_below, own_policy}
@@ -128,7 +131,7 @@ module _ {M : Type 0} (p : DesignParts) (cuts : List (List ℤ)) (policies : Lis
   here = record { cell = k + 1; refusal = refusal }
 
   no_memory : refusal ≡ Memory → ⊥
-  no_memory memory = let none = subst (λ (e : Refusal). IsCellRefused p cuts (k + 1) plans e) memory why in none.cause
+  no_memory memory = let none = subst (λ (e : Refusal). IsCellRefused p cuts (k + 1) plans e) memory why in memory_apart (design_of none.design) (targets_of none.design) plans none.cause
 
   err_same : (e : Refusal) → Tells a e → e ≡ refusal
   err_same e (inl is) = cc
