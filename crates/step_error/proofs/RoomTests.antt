@@ -46,20 +46,20 @@ room_each h z j e l = elim (cases_lt (2 ^ 126) (greatest h.entries (λ j. unsign
 ]
 
 -- ---- what the squares cost, by the test
-pub cost_without : (h : Form) (f : ℕ) (x : ℕ → ℕ → ℤ) (e : ErrorSums) (state top n : ℕ) → has_room h (combined_of h state top) ≡ false → state ≡ e.state → top ≡ e.top →
-    n ≡ e.first → n ≡ missed_cost h f x e
-cost_without h f x e state top n none hs ht is =
-    let k : has_room h (combined_of h e.state e.top) ≡ false = (λ i. has_room h (combined_of h (sym hs i) (sym ht i))) ∙ none in
-    is ∙ sym (chosen (has_room h (combined_of h e.state e.top)) _ _ k)
-  where
-    chosen : (b : Bool) (m n : ℕ) → b ≡ false → (if b then m else n) ≡ n
-    chosen b m n h = rw h refl
+module _ (h : Form) (f : ℕ) (x : ℕ → ℕ → ℤ) (mean : ℕ → ℕ) (weight times : ℕ) (e : ErrorSums) (state top n : ℕ) where
+  pub cost_without : has_room h (combined_of h state top) ≡ false → state ≡ e.state → top ≡ e.top → n ≡ e.first → n ≡ missed_cost h f x mean weight times e
+  cost_without none hs ht is =
+      let k : has_room h (combined_of h e.state e.top) ≡ false = (λ i. has_room h (combined_of h (sym hs i) (sym ht i))) ∙ none in
+      is ∙ sym (chosen (has_room h (combined_of h e.state e.top)) _ _ k)
+    where
+      chosen : (b : Bool) (m n : ℕ) → b ≡ false → (if b then m else n) ≡ n
+      chosen b m n h = rw h refl
 
-pub cost_with : (h : Form) (f : ℕ) (x : ℕ → ℕ → ℤ) (e : ErrorSums) (state top n : ℕ) → has_room h (combined_of h state top) ≡ true → state ≡ e.state → top ≡ e.top →
-    n ≡ ceil_div (e.weight_scale * missed_squares h f x state top) (2 * e.rho) → n ≡ missed_cost h f x e
-cost_with h f x e state top n some hs ht is =
-    let k : has_room h (combined_of h e.state e.top) ≡ true = (λ i. has_room h (combined_of h (sym hs i) (sym ht i))) ∙ some in
-    is ∙ (λ i. ceil_div (e.weight_scale * missed_squares h f x (hs i) (ht i)) (2 * e.rho)) ∙ sym (chosen (has_room h (combined_of h e.state e.top)) _ _ k)
-  where
-    chosen : (b : Bool) (m n : ℕ) → b ≡ true → (if b then m else n) ≡ m
-    chosen b m n h = rw h refl
+  pub cost_with : has_room h (combined_of h state top) ≡ true → state ≡ e.state → top ≡ e.top →
+      n ≡ times * ceil_div (weight * missed_squares h f x state top mean) (2 * e.rho) → n ≡ missed_cost h f x mean weight times e
+  cost_with some hs ht is =
+      let k : has_room h (combined_of h e.state e.top) ≡ true = (λ i. has_room h (combined_of h (sym hs i) (sym ht i))) ∙ some in
+      is ∙ (λ i. times * ceil_div (weight * missed_squares h f x (hs i) (ht i) mean) (2 * e.rho)) ∙ sym (chosen (has_room h (combined_of h e.state e.top)) _ _ k)
+    where
+      chosen : (b : Bool) (m n : ℕ) → b ≡ true → (if b then m else n) ≡ m
+      chosen b m n h = rw h refl

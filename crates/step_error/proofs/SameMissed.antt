@@ -29,8 +29,8 @@ module _ (h k : Form) (same : HaveSameNumbers h k) (f : ℕ) (x : ℕ → ℕ �
       + ceil_div (amount_over h.entries k.entries (λ l. farthest (h.numbers.hessian j l) (h.hessian_radius j l)) (λ l. farthest (k.numbers.hessian j l) (k.hessian_radius j l)) same.entries
       (λ l o s. farthest (same.hessian j l m o s) (same.hessian_radius j l m o s)) t) (same.hessian_scale t)
 
-  pub squares_same : (state top : ℕ) → missed_squares h f x state top ≡ missed_squares k f x state top
-  squares_same state top = amount_over h.entries k.entries _ _ same.entries (λ j l. ap (λ n. n ^ 2) (gradient_same state top j l))
+  pub squares_same : (state top : ℕ) (a b : ℕ → ℕ) → ((j : ℕ) → j < k.entries → a j ≡ b j) → missed_squares h f x state top a ≡ missed_squares k f x state top b
+  squares_same state top a b e = amount_over h.entries k.entries _ _ same.entries (λ j l q. (gradient_same state top j l q + e j l q) ^ 2)
 
   pub room_same : (z : ℕ) → has_room h z ≡ has_room k z
   room_same z = λ t. nat_lt (greatest_over h.entries k.entries (λ j. unsigned_abs (solve_matrix h j j) * z) (λ j. unsigned_abs (solve_matrix k j j) * z) same.entries

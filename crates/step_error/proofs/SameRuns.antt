@@ -24,7 +24,7 @@ use Rattle.step_error.proofs.SumFacts.{within_of}
 use Rattle.step_error.proofs.RunLaws.{run_sums_given}
 
 module _ (d : Design) (h k : Form) (same : HaveSameNumbers h k) (count : k.entries ≡ entries d) (r n s : ℕ) (exponents : List ℕ) where
-  mean : (j : ℕ) → j < k.entries → mean_error h s exponents j ≡ mean_error k s exponents j
+  pub mean : (j : ℕ) → j < k.entries → mean_error h s exponents j ≡ mean_error k s exponents j
   mean j l = λ t. ceil_div (amount_over h.rows k.rows
       (λ i. 2 ^ (s - slice_index_or exponents i 0) * farthest (h.numbers.by_plan i j) (h.plan_radius i j))
       (λ i. 2 ^ (s - slice_index_or exponents i 0) * farthest (k.numbers.by_plan i j) (k.plan_radius i j)) same.rows

@@ -272,6 +272,12 @@ room_at s first plan b h k =
         close : (a b c d x y w n q i j k l t : ℕ) → a ≤ x → b ≤ y → c ≤ n * w * q → d ≤ t → x + y + (w * n * q + i + j + k + l + t) ≤ 2 ^ 126 → a + b + (c + d) ≤ 2 ^ 126
         close a b c d x y w n q i j k l t h o p g z = omega (arith, h, o, p, g, z)
 
+pub first_room : (s : errors.ErrorSums) → IsBounded s → s.first ≤ 2 ^ 126
+first_room s b = factor s.spread s.first b.spread_some (room_at s s.first 0 b (omega arith) (omega arith)).gradient
+  where
+    factor : (k f : ℕ) → 1 ≤ k → k * 2 ^ 40 * f ≤ 2 ^ 126 → f ≤ 2 ^ 126
+    factor k f h l = omega (arith, l, mul-le-mul_right f h)
+
 pub plan_small : (s : errors.ErrorSums) (f : ℕ) → IsBounded s → (plan_bound s f ≤ plan_bound s 0) × (plan_bound s f ≤ 2 ^ 86)
 plan_small s f b =
     let falls = plan_bound_falls s 0 f b.some (omega arith) in

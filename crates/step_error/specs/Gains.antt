@@ -1,5 +1,5 @@
 -- Gains as columns, by how much they miss the systems that they solve, and what that comes to.
-use Rattle.std.specs.Prelude.{◌≡◌, ℕ, ◌+◌, ◌-◌, ◌*◌, ◌^◌, ◌<◌, ◌≤◌, Bool, ℤ, pos, ◌-ℤ◌, ◌*ℤ◌, ◌≤ℤ◌, List, length, unsigned_abs, nat_lt, ◌==◌, if◌then◌else◌}
+use Rattle.std.specs.Prelude.{◌≡◌, ℕ, ◌+◌, ◌-◌, ◌*◌, ◌^◌, ◌<◌, ◌≤◌, Bool, Option, Some, None, IfSome, ℤ, pos, ◌-ℤ◌, ◌*ℤ◌, ◌≤ℤ◌, List, length, slice_index_or, unsigned_abs, nat_lt, ◌==◌, if◌then◌else◌}
 use Rattle.integer_algebra.specs.Sums.{image, at}
 use Rattle.integer_algebra.specs.Sizes.{amount}
 use Rattle.integer_algebra.specs.Division.{ceil_div}
@@ -11,8 +11,10 @@ use Rattle.qp_model.specs.machine.Controller.{HasShape}
 use Rattle.qp_model.specs.form.GoodSolution.{IsGood}
 use Rattle.qp_model.specs.bounds.Errors.{ErrorSums}
 use Rattle.qp_model.specs.form.Quantities.{greatest}
-use Rattle.condensed_form.specs.Form.{HasShapes, held}
+use Rattle.condensed_form.specs.Form.{HasShapes, IsFormOf, held}
 use Rattle.condensed_form.specs.declared.condensed.Condensed.{Condensed}
+use Rattle.step_error.specs.CarriedErrors.{mean_error}
+use Rattle.step_error.specs.declared.real_gains.Means.{Means}
 
 -- entry j of the gains for column i: those for the states, those for the constant, and those for the rows
 abbrev pub gain_at : (p_mat : Matrix) (t : List ℤ) (w_mat : Matrix) → ℕ → ℕ → ℤ
@@ -48,9 +50,14 @@ missed_gradient h f gains state top j =
     ceil_div (missed_sum h f gains state top j) (unsigned_abs h.matrix_factor * h.hessian_scale)
     + ceil_div (amount h.entries (λ l. farthest (h.numbers.hessian j l) (h.hessian_radius j l))) h.hessian_scale
 
--- the squares of these errors
-abbrev pub missed_squares : Form → ℕ → (gains : ℕ → ℕ → ℤ) → (state top : ℕ) → ℕ
-missed_squares h f gains state top = amount h.entries (λ j. missed_gradient h f gains state top j ^ 2)
+-- what rounding the means adds to it, where a machine takes means
+abbrev pub mean_of : Form → Option Means → ℕ → ℕ
+mean_of h None j = 0
+mean_of h (Some m) j = mean_error h m.s m.exps.now j
+
+-- the squares of these errors, each with a number added
+abbrev pub missed_squares : Form → ℕ → (gains : ℕ → ℕ → ℤ) → (state top : ℕ) → (mean : ℕ → ℕ) → ℕ
+missed_squares h f gains state top mean = amount h.entries (λ j. (missed_gradient h f gains state top j + mean j) ^ 2)
 
 -- numbers of a condensed form whose sums fit
 pub record HasSystems (c : Condensed) : Type 0 where
@@ -77,7 +84,18 @@ pub record AreSolved (c : Condensed) (p_mat : Matrix) (t : List ℤ) (w_mat : Ma
   pub some : 1 ≤ top
   pub combined : combined_of (held c) state top ≤ 2 ^ 87
 
--- what the squares of the gradient's errors cost, over 4^f: where there is no room, as the stated ones
-abbrev pub missed_cost : Form → ℕ → (gains : ℕ → ℕ → ℤ) → ErrorSums → ℕ
-missed_cost h f gains e =
-    if has_room h (combined_of h e.state e.top) then ceil_div (e.weight_scale * missed_squares h f gains e.state e.top) (2 * e.rho) else e.first
+-- means of a machine with this form of a design: each of its rows has a step exponent, up to s
+pub record AreMeans (c : Condensed) (m : Means) : Type 0 where
+  pub form : IsFormOf m.parts.now c
+  pub count : length m.exps.now ≡ (held c).rows
+  pub exponents : (i : ℕ) → i < length m.exps.now → slice_index_or m.exps.now i 0 ≤ m.s
+  pub exponent : m.s ≤ 40
+
+abbrev pub HasMeans : Condensed → Option Means → Type 0
+HasMeans c means = IfSome means (AreMeans c)
+
+-- what the squares of the gradient's errors, each with a number added, cost, over 4^f, where they count so many times: where there is no room, as
+-- the stated ones
+abbrev pub missed_cost : Form → ℕ → (gains : ℕ → ℕ → ℤ) → (mean : ℕ → ℕ) → (weight times : ℕ) → ErrorSums → ℕ
+missed_cost h f gains mean weight times e =
+    if has_room h (combined_of h e.state e.top) then times * ceil_div (weight * missed_squares h f gains e.state e.top mean) (2 * e.rho) else e.first

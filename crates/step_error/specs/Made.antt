@@ -11,7 +11,9 @@ use Rattle.qp_model.specs.bounds.Errors.{error_sums_of, error_size}
 use Rattle.qp_model.specs.declared.design_parts.DesignParts.{DesignParts}
 use Rattle.condensed_form.specs.Form.{IsFormOf}
 use Rattle.condensed_form.specs.declared.condensed.Condensed.{Condensed}
-use Rattle.step_error.specs.ErrorSums.{sums_of}
+use Rattle.step_error.specs.ErrorSums.{AreSums, sums_of}
+use Rattle.step_error.specs.CarriedErrors.{run_sums_of}
+use Rattle.step_error.specs.RunSums.{run_error_size}
 use Rattle.step_error.specs.declared.sums.ErrorSums.{ErrorSums}
 use Rattle.step_error.specs.Gains.{gain_at}
 
@@ -43,6 +45,21 @@ pub record IsMade (c : Condensed) (e : ErrorSums) (p_mat : Matrix) (t : List ℤ
   pub parts : DesignParts
   pub r : ℕ
   pub made : IsMadeFor parts r c e p_mat t w_mat f
+
+-- the form, the sums of a run of n steps of the accelerated machine, whose rows have these step exponents, up to s, and the gains of one design
+pub record IsRunMadeFor (p : DesignParts) (r : ℕ) (c : Condensed) (e : ErrorSums) (p_mat : Matrix) (t : List ℤ) (w_mat : Matrix)
+    (f n s : ℕ) (exponents : List ℕ) : Type 0 where
+  pub form : IsFormOf p c
+  pub sums : sums_of e ≡ run_sums_of (design_of p) (form_of (design_of p)) r n s exponents
+  pub given : AreSums e
+  pub room : run_error_size (design_of p) (form_of (design_of p)) r n s exponents ≤ 2 ^ 126
+  pub gains : AreSolutionsOf p f p_mat t w_mat
+
+-- of some design
+pub record IsRunMade (c : Condensed) (e : ErrorSums) (p_mat : Matrix) (t : List ℤ) (w_mat : Matrix) (f n s : ℕ) (exponents : List ℕ) : Type 0 where
+  pub parts : DesignParts
+  pub r : ℕ
+  pub made : IsRunMadeFor parts r c e p_mat t w_mat f n s exponents
 
 -- the numbers of a controller have these gains at f bits
 pub record HasGains (k : Numbers) (f : ℕ) (p_mat : Matrix) (t : List ℤ) (w_mat : Matrix) : Type 0 where

@@ -20,7 +20,8 @@ pub use choice::{Choice, TooFine, choose_bits};
 pub use errors::{epsilon, errors_cost, plan_bound, residual_error};
 pub use means::{carry_of, mean_error};
 pub use radii::farthest_row;
-pub use real_cost::real_epsilon;
+pub use real_cost::{real_epsilon, real_run_epsilon};
+pub use real_gains::Means;
 pub use runs::run_sums;
 pub use sums::{ErrorSums, error_sums};
 

@@ -3,10 +3,12 @@ ghost use Rattle.std.specs.Prelude.{◌≡◌, ◌≤◌, ◌+◌, ◌*◌, ◌^
 ghost use Rattle.condensed_form.specs.Form.{held};
 ghost use Rattle.step_error.specs.Gains.{AreSolved};
 
+use crate::means::mean_error;
 use crate::radii::farthest_row;
 use condensed_form::Condensed;
 use frac_scaled::limited_product;
 use mat_int::Mat;
+use qp_model::DesignParts;
 
 // A number of a limit row on the denominator of the systems.
 fn row_number(c: &Condensed, x: i128) -> i128
@@ -36,9 +38,18 @@ fn weighed(state: u128, states: u128, own: u128, top: u128, rows: u128) -> u128
     state * states + own + top * rows
 }
 
-// Gains over `2^f`, with the form whose systems they solve, and how far a state and a multiplier are from 0 at most.
+/// What the means of the accelerated machine are rounded by: the step exponents of the rows of a design, up to `s`.
 #[derive(Clone, Copy)]
-pub(crate) struct Gains<'a> {
+pub struct Means<'a> {
+    pub parts: &'a DesignParts,
+    pub exps: &'a [u32],
+    pub s: u32,
+}
+
+// Gains over `2^f`, with the form whose systems they solve, and how far a state and a multiplier are from 0 at most; where the machine takes means,
+// what they are rounded by.
+#[derive(Clone, Copy)]
+pub(crate) struct Gains<'a, 'm> {
     pub(crate) c: &'a Condensed,
     pub(crate) p_mat: &'a Mat,
     pub(crate) t: &'a [i128],
@@ -46,17 +57,18 @@ pub(crate) struct Gains<'a> {
     pub(crate) f: u32,
     pub(crate) state: u128,
     pub(crate) top: u128,
+    pub(crate) means: Option<Means<'m>>,
     ghost made: { AreSolved c.now p_mat.now t.now w_mat.now f state top },
 }
 
-impl<'a> Gains<'a> {
+impl<'a, 'm> Gains<'a, 'm> {
     ghost use Rattle.std.specs.Prelude.{◌≡◌, ◌+◌, ◌*◌, ◌^◌, ◌<◌, ◌≤◌, true, ◌*ℤ◌, unsigned_abs};
     ghost use Rattle.integer_algebra.specs.Sums.{total};
     ghost use Rattle.mat_int.specs.Matrix.{entry_of};
     ghost use Rattle.qp_model.specs.form.Columns.{columns, solve_matrix, solve_column};
     ghost use Rattle.qp_model.specs.form.Quantities.{greatest};
     ghost use Rattle.condensed_form.specs.Form.{held};
-    ghost use Rattle.step_error.specs.Gains.{gain_at, missed, missed_by, missed_sum, missed_gradient, missed_squares, combined_of, has_room};
+    ghost use Rattle.step_error.specs.Gains.{gain_at, missed, missed_by, missed_sum, missed_gradient, missed_squares, combined_of, has_room, mean_of, HasMeans};
 
     // Entry `l` for column `i`.
     fn gain(&self, i: usize, l: usize) -> i128
@@ -182,17 +194,30 @@ impl<'a> Gains<'a> {
         limited_product(self.greatest_diagonal(), combined).is_some()
     }
 
-    // The squares of the gradient's errors.
+    // What rounding the means adds to it.
+    fn mean(&self, j: usize) -> u128
+        requires means { HasMeans self.now.c.now self.now.means }
+        requires entry { j < (held self.now.c.now).entries }
+        ensures { result ≡ mean_of (held self.now.c.now) self.now.means j }
+    {
+        match self.means {
+            Some(m) => mean_error(self.c, m.parts, m.exps, m.s, j),
+            None => 0,
+        }
+    }
+
+    // The squares of the gradient's errors, each with what rounding the means adds.
     pub(crate) fn squares(&self) -> u128
+        requires means { HasMeans self.now.c.now self.now.means }
         requires room { has_room (held self.now.c.now) (combined_of (held self.now.c.now) self.now.state self.now.top) ≡ true }
         requires small { let gains = gain_at self.now.p_mat.now self.now.t.now self.now.w_mat.now in
-            missed_squares (held self.now.c.now) self.now.f gains self.now.state self.now.top ≤ 2 ^ 126 }
+            missed_squares (held self.now.c.now) self.now.f gains self.now.state self.now.top (mean_of (held self.now.c.now) self.now.means) ≤ 2 ^ 126 }
         ensures { let gains = gain_at self.now.p_mat.now self.now.t.now self.now.w_mat.now in
-            result ≡ missed_squares (held self.now.c.now) self.now.f gains self.now.state self.now.top }
+            result ≡ missed_squares (held self.now.c.now) self.now.f gains self.now.state self.now.top (mean_of (held self.now.c.now) self.now.means) }
     {
         let mut squares = 0;
         for j in 0..self.c.hess.rows() {
-            let error = self.gradient(j);
+            let error = self.gradient(j) + self.mean(j);
             squares += error * error;
         }
         squares
