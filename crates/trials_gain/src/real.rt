@@ -8,7 +8,7 @@ use design_engine::condense;
 use qp_model::Design;
 use std::alloc::Global;
 use std::test::Fail;
-use step_error::{error_sums, real_epsilon};
+use step_error::{Means, error_sums, real_epsilon, real_run_epsilon, run_sums};
 use trials_worked_designs::{DESIGN, design};
 
 // What the errors of a step of a design cost with the solutions of its form at so many bits, where no plan entry is above `plan`.
@@ -63,5 +63,65 @@ fn wide_plan(rt: HostRuntime) -> Result<(), Fail> {
 #[test]
 fn rounded_gains(rt: HostRuntime) -> Result<(), Fail> {
     assert!(rt; first_cost(rt.alloc(), 1, 1000)? == 2100067209052160);
+    Ok(())
+}
+
+// The step exponents of the three rows of the first design.
+static EXPONENTS: [u32; 3] = [0, 1, 1];
+
+// What the errors of a run of the accelerated machine cost with these solutions, for multipliers up to 2, where no plan entry is above 2.
+fn run_cost_with(
+    alloc: Global,
+    design: &Design,
+    condensed: &Condensed,
+    steps: u32,
+    f: u32,
+) -> Result<i128, Fail>
+    requires form { IsFormOf design.now condensed.now }
+    requires bits { f ≤ 48 }
+{
+    if condensed.g.rows() != EXPONENTS.len() {
+        return Err("other rows".into());
+    }
+    let step = error_sums(condensed, design, 1)?;
+    let run = run_sums(condensed, design, &step, 1, steps, 1, &EXPONENTS)?;
+    let gains = solve_all(alloc, condensed, f)?;
+    let means = Means {
+        parts: design.parts(),
+        exps: &EXPONENTS,
+        s: 1,
+    };
+    Ok(real_run_epsilon(
+        condensed,
+        &run,
+        means,
+        &gains.p_mat,
+        &gains.t,
+        &gains.w_mat,
+        steps,
+        2,
+        f,
+    ))
+}
+
+fn run_cost(alloc: Global, steps: u32, f: u32) -> Result<i128, Fail>
+    requires bits { f ≤ 48 }
+{
+    let design = design(alloc, DESIGN)?;
+    let condensed = condense(alloc, &design)?;
+    run_cost_with(alloc, &design, &condensed, steps, f)
+}
+
+// An entry of the gradient misses 4 by the rounding of the plan, and 2 by that of the means: (4 + 2)^2 / 2 = 18 over 4^6, and the residuals 6 * (2 + 4) over 2^7.
+#[test]
+fn one_step(rt: HostRuntime) -> Result<(), Fail> {
+    assert!(rt; run_cost(rt.alloc(), 1, 6)? == 314069483520);
+    Ok(())
+}
+
+// In three steps the gradient's errors count twice, those of the residuals once.
+#[test]
+fn three_steps(rt: HostRuntime) -> Result<(), Fail> {
+    assert!(rt; run_cost(rt.alloc(), 3, 9)? == 38805700608);
     Ok(())
 }
