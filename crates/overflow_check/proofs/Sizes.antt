@@ -9,9 +9,12 @@ use Rattle.integer_algebra.specs.Division.{ceil_div}
 use Rattle.integer_algebra.proofs.DivisionLaws.{ceil_div-le}
 use Rattle.qp_model.specs.problem.Range.{IsNumerator}
 use Rattle.qp_model.specs.machine.Controller.{Numbers, IsSized}
-use Rattle.qp_model.specs.machine.AbsoluteSums.{magnitudes_of, state_magnitudes, clamp_magnitudes, entry_absolute_sum, plan_magnitudes, greatest_of, greatest_sum}
+use Rattle.qp_model.specs.machine.AbsoluteSums.{magnitudes_of, state_magnitudes, clamp_magnitudes, entry_absolute_sum, plan_magnitudes, greatest_of}
 use Rattle.qp_model.proofs.VersionLaws.{stages_le, limits_le}
-use Rattle.overflow_check.proofs.Greatest.{greatest-parts}
+use Rattle.overflow_check.specs.Machines.{greatest_for, greatest_entry_sum}
+use Rattle.overflow_check.specs.declared.machine.Machine.{Machine}
+use Rattle.overflow_check.specs.declared.machine.Machine.TheVariants.{Plain, Accelerated}
+use Rattle.overflow_check.proofs.Greatest.{greatest-parts, fast-parts}
 
 -- ---- lengths of the reaches
 pub length-reach_of : (k : ℕ) (lows highs : List ℤ) → length lows ≡ length highs → length (magnitudes_of k lows highs) ≡ length lows
@@ -60,9 +63,9 @@ greatest_quotient f d a (suc n) h = omega (arith, greatest_quotient f d (a + 1) 
     le_times a d h = omega (arith, mul-le 1 a d a h (le_refl a))
 
 -- the greatest of a plan's magnitudes is at most that of the sums that they are made of
-pub greatest_plan_le : (c : Numbers) → greatest_of (plan_magnitudes c) ≤ greatest_sum c
-greatest_plan_le c = omega (
-  arith,
-  greatest-parts c,
-  greatest_quotient (entry_absolute_sum c) (2 ^ (c.fraction_bits + c.step_exponent)) 0 (length c.offsets) (pow_pos (c.fraction_bits + c.step_exponent)),
-)
+pub greatest_plan_le : (m : Machine) (c : Numbers) → greatest_of (plan_magnitudes c) ≤ greatest_for m c
+greatest_plan_le m c = within m (greatest_quotient (entry_absolute_sum c) (2 ^ (c.fraction_bits + c.step_exponent)) 0 (length c.offsets) (pow_pos (c.fraction_bits + c.step_exponent)))
+  where
+    within : (m : Machine) → greatest_of (plan_magnitudes c) ≤ greatest_entry_sum c → greatest_of (plan_magnitudes c) ≤ greatest_for m c
+    within Plain h = omega (arith, greatest-parts c, h)
+    within Accelerated h = omega (arith, fast-parts c, h)

@@ -288,13 +288,21 @@ pub fn greatest_sum(parts: &ControllerParts) -> Option<i128>
     greatest_for(parts, Machine::Plain)
 }
 
-/// How far the plan's entries lie from 0 at most in a run from a state of the box, over `2^f`. None where the greatest absolute
-/// sum is above `2^126`.
+/// How far the plan's entries lie from 0 at most in a run of this machine from a state of the box, over `2^f`. None where its
+/// greatest absolute sum is above `2^126`.
+pub fn plan_sum_for(parts: &ControllerParts, machine: Machine) -> Option<i128>
+    requires { IsSizedFor machine (numbers parts.now) }
+    ensures { SomeIff result (machines.greatest_for machine (numbers parts.now) ≤ 2 ^ 126) (pos (greatest_of (plan_magnitudes (numbers parts.now)))) }
+{
+    Some(greatest_numbers(parts, machine)?.plan as i128)
+}
+
+/// That of the plain machine.
 pub fn plan_sum(parts: &ControllerParts) -> Option<i128>
     requires { IsSized (numbers parts.now) }
     ensures { SomeIff result (greatest_sum (numbers parts.now) ≤ 2 ^ 126) (pos (greatest_of (plan_magnitudes (numbers parts.now)))) }
 {
-    Some(greatest_numbers(parts, Machine::Plain)?.plan as i128)
+    plan_sum_for(parts, Machine::Plain)
 }
 
 /// How far plan entry `j` lies from 0 at most in a run from a state of the box, over `2^f`.

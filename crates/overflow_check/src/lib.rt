@@ -9,7 +9,8 @@ mod machine;
 mod word_width;
 
 pub use absolute_sums::{
-    greatest_for, greatest_sum, next_magnitude, plan_entry_magnitude, plan_sum, state_magnitude,
+    greatest_for, greatest_sum, next_magnitude, plan_entry_magnitude, plan_sum, plan_sum_for,
+    state_magnitude,
 };
 pub use controller::{BadParts, Controller, FastController};
 pub use form::{FAST_VERSION, MOST_FAST_STEPS};

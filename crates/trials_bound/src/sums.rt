@@ -1,6 +1,8 @@
 // Absolute sums of controllers, and what lets no controller be.
 use mat_int::Mat;
-use overflow_check::{BadParts, Controller, greatest_sum, plan_sum, width};
+use overflow_check::{
+    BadParts, Controller, FastController, Machine, greatest_sum, plan_sum, plan_sum_for, width,
+};
 use qp_model::ControllerParts;
 use std::alloc::{AllocError, Global};
 use std::test::Fail;
@@ -157,6 +159,29 @@ static WIDTHS: [(i128, (Option<u32>, Option<i128>)); 3] = [
 fn widths_and_plans(rt: HostRuntime) -> Result<(), Fail> {
     for &(gain, numbers) in &WIDTHS {
         assert!(rt; numbers_at(rt.alloc(), gain)? == numbers);
+    }
+    Ok(())
+}
+
+// How far the plan's entry of a controller of the accelerated machine lies from 0.
+fn fast_plan(parts: ControllerParts) -> Result<Option<i128>, BadParts> {
+    let controller = FastController::from_parts(parts)?;
+    Ok(plan_sum_for(controller.parts(), Machine::Accelerated))
+}
+
+// That of the controller with this gain, which keeps three lists of multipliers.
+fn fast_plan_at(alloc: Global, gain: i128) -> Result<Option<i128>, Fail> {
+    let mut parts = one_stage(alloc, 128, gain)?;
+    parts.version = 3;
+    parts.words = 12;
+    Ok(fast_plan(parts)?)
+}
+
+// The sums that the plan's entry is made of are those of the plain machine.
+#[test]
+fn fast_plans(rt: HostRuntime) -> Result<(), Fail> {
+    for &(gain, (_, plan)) in &WIDTHS {
+        assert!(rt; fast_plan_at(rt.alloc(), gain)? == plan);
     }
     Ok(())
 }
