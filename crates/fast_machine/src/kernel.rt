@@ -1,7 +1,7 @@
 // The accelerated machine at work: a controller's steps from a state, in memory that is taken once.
 ghost use Rattle.std.specs.Prelude.{◌≡◌, ◌<◌, ◌≤◌, ◌+◌, ◌^◌, length, IfOk};
 ghost use Rattle.integer_algebra.specs.Sums.{at};
-ghost use Rattle.qp_model.specs.machine.Controller.{numbers, plan_length};
+ghost use Rattle.qp_model.specs.machine.Controller.{numbers};
 ghost use Rattle.qp_model.specs.machine.Machine.{IsAdmissible, loaded};
 ghost use Rattle.overflow_check.specs.FastMachine.{fast_step, fast_run};
 ghost use Rattle.overflow_check.specs.FastController.{IsFastController};
@@ -109,6 +109,14 @@ impl<'a> FastKernel<'a> {
         self.finish();
     }
 
+    /// Its controller's numbers.
+    pub fn parts(&self) -> &ControllerParts
+        ensures value { numbers result.now ≡ self.now.controller }
+        ensures sound { IsFastController (numbers result.now) }
+    {
+        self.parts
+    }
+
     /// The number of steps made.
     pub fn made(&self) -> u32
         ensures value { result ≡ self.now.made }
@@ -117,12 +125,11 @@ impl<'a> FastKernel<'a> {
         self.made
     }
 
-    /// The sum of plan entry `j` over the steps made, by their weights, over `2^f`.
-    pub fn sum(&self, j: usize) -> i128
-        requires { j < plan_length self.now.controller }
-        ensures { result ≡ at (fast_made_of self.now).sums j }
+    /// The sum of each plan entry over the steps made, by their weights, over `2^f`.
+    pub fn sums(&self) -> &[i128]
+        ensures { result.now ≡ (fast_made_of self.now).sums }
     {
-        self.sums[j]
+        &self.sums
     }
 
     /// Multiplier `i`, over `2^(f + exps[i] + 1)`.

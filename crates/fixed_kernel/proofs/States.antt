@@ -1,8 +1,9 @@
 -- A state of the box, loaded and unloaded.
-use Rattle.std.proofs.Common.{◌≡◌, ℕ, zero, suc, ◌-◌, ◌*◌, ◌^◌, ◌<◌, ℤ, pos, negsuc, ◌*ℤ◌, ◌≤ℤ◌, neg_ℤ, List, [], ◌∷◌, map, unsigned_abs, FitsSigned, Option, Some, None, arith, refl, ap, subst}
+use Rattle.std.proofs.Common.{◌≡◌, ℕ, zero, suc, ◌-◌, ◌*◌, ◌^◌, ◌<◌, ◌≤◌, ◌==◌, ℤ, pos, negsuc, ◌*ℤ◌, ◌≤ℤ◌, neg_ℤ, List, [], ◌∷◌, map, unsigned_abs, FitsSigned, Option, Some, None, arith, refl, ap, subst}
 use Rattle.std.specs.Prelude.{IsNone, IfSome, MatchOption, ◌↔◌}
 use Rattle.std.specs.Int.{w128}
 use Rattle.std.proofs.lemmas.Int.{ints, fits_signed_from_abs}
+use Rattle.std.proofs.lemmas.Bool.{cond_both}
 use Rattle.std.proofs.lemmas.Nat.{pow_pos, pow_below, mul-lt}
 use Rattle.std.proofs.Math.Nat.{mul-div_cancel, div-eq_of_lt-le}
 use Rattle.integer_algebra.specs.Division.{floor_of}
@@ -10,7 +11,7 @@ use Rattle.integer_algebra.specs.Sums.{at}
 use Rattle.qp_model.specs.machine.Controller.{Numbers, IsSized}
 use Rattle.qp_model.specs.machine.Machine.{IsAdmissible, loaded}
 use Rattle.qp_model.proofs.AbsoluteLaws.{abs-shifted}
-use Rattle.fixed_kernel.specs.Outside.{IsFirstOutside}
+use Rattle.fixed_kernel.specs.Outside.{HasBox, IsFirstOutside}
 use Rattle.fixed_kernel.specs.Progress.{unloaded}
 
 -- ---- loaded and unloaded
@@ -30,6 +31,9 @@ pub unloaded-loaded : (c : Numbers) (xi : List ℤ) → unloaded c (loaded c xi)
 unloaded-loaded c xi = floors-scaled (2 ^ (c.fraction_bits - c.grid_bits)) (pow_pos (c.fraction_bits - c.grid_bits)) xi
 
 -- ---- coordinates
+pub sized_box : (c : Numbers) → IsSized c → HasBox c
+sized_box c s = record { low = s.shaped.low; high = s.shaped.high; few = omega (arith, s.states, cond_both (c.version == 1) 4 6 (λ (k : ℕ). k ≤ 6) (λ t. omega arith) (λ f. omega arith)) }
+
 pub not_inside : (c : Numbers) (xi : List ℤ) (k : ℕ) → IsFirstOutside c xi k → IsAdmissible c xi → ⊥
 not_inside c xi k out inside = out.outside (k - 1) (omega (arith, out.low)) (inside.each (k - 1) (omega (arith, out.low, out.high)))
 

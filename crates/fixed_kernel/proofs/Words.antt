@@ -1,8 +1,8 @@
 -- A region's words, put together and cut.
-use Rattle.std.proofs.Common.{◌≡◌, ℕ, ◌+◌, ◌-◌, ◌*◌, ◌<◌, ℤ, pos, List, ◌++◌, length, take, drop, ap, ◌∙◌, arith, refl}
+use Rattle.std.proofs.Common.{◌≡◌, ℕ, ◌+◌, ◌-◌, ◌*◌, ◌<◌, ℤ, pos, List, ◌++◌, length, take, drop, ap, sym, ◌∙◌, arith, refl}
 use Rattle.std.specs.Prelude.{slice_range}
 use Rattle.std.proofs.Math.Seq.{take-append_seam, drop-append_seam}
-use Rattle.std.proofs.lemmas.List.{ext_get_or, get_or-append_right, get_or_append_left, length-append, take_all}
+use Rattle.std.proofs.lemmas.List.{ext_get_or, get_or-append_right, get_or_append_left, length-append, take_all, drop-drop}
 use Rattle.integer_algebra.specs.Sums.{at}
 use Rattle.qp_model.specs.machine.Controller.{Numbers}
 use Rattle.qp_model.specs.machine.Machine.{Iterate}
@@ -55,10 +55,13 @@ at_behind n m i state made a b =
 pub at_plan : (n m p j : ℕ) (state : List ℤ) (made : Iterate) → length state ≡ n → length made.multipliers ≡ m → length made.plan ≡ p → j < p → at (words_of state made) (n + m + j) ≡ at made.plan j
 at_plan n m p j state made a b d l = at_behind n m j state made a b ∙ get_or_append_left made.plan made.sums (pos 0) j (omega (arith, d, l))
 
-pub at_sums : (n m p j : ℕ) (state : List ℤ) (made : Iterate) → length state ≡ n → length made.multipliers ≡ m → length made.plan ≡ p → at (words_of state made) (n + m + p + j) ≡ at made.sums j
-at_sums n m p j state made a b d =
-    ap (at (words_of state made)) (let e : n + m + p + j ≡ n + m + (p + j) = omega arith in e) ∙ at_behind n m (p + j) state made a b ∙
-    get_or-append_right made.plan made.sums p (p + j) (pos 0) d (omega arith) ∙ ap (at made.sums) (let e : p + j - p ≡ j = omega arith in e)
+pub sums_cells : (n m p : ℕ) (state : List ℤ) (made : Iterate) → length state ≡ n → length made.multipliers ≡ m → length made.plan ≡ p → length made.sums ≡ p →
+    slice_range (words_of state made) (n + m + p) (n + m + p + p) ≡ made.sums
+sums_cells n m p state made a b d f =
+    let words = words_of state made in
+    let behind : drop (n + m + p) words ≡ made.sums =
+    sym (drop-drop p (n + m) words) ∙ ap (drop p) (sym (drop-drop m n words) ∙ ap (drop m) (behind_seam n state _ a) ∙ behind_seam m made.multipliers _ b) ∙ behind_seam p made.plan made.sums d in
+    ap (take (n + m + p + p - (n + m + p))) behind ∙ take_all (n + m + p + p - (n + m + p)) made.sums (omega (arith, f))
 
 -- ---- all of them
 pub words_long : (n m p w : ℕ) (state : List ℤ) (made : Iterate) → w ≡ n + m + 2 * p → length state ≡ n → length made.multipliers ≡ m → length made.plan ≡ p → length made.sums ≡ p → length (words_of state made) ≡ w

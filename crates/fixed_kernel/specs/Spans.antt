@@ -1,5 +1,5 @@
 -- The words of a kernel's region: the state, the multipliers, the plan and the sums, one behind the other.
-use Rattle.std.specs.Prelude.{◌+◌, ℤ, List, ◌++◌, length, take, drop}
+use Rattle.std.specs.Prelude.{◌+◌, ℤ, List, ◌++◌, length, take, drop, slice_range}
 use Rattle.qp_model.specs.machine.Controller.{Numbers, plan_length}
 use Rattle.qp_model.specs.machine.Machine.{Iterate}
 use Rattle.word_region.specs.declared.Span.{Span}
@@ -29,6 +29,10 @@ made_of plan multipliers sums = record { plan = plan; multipliers = multipliers;
 -- the words of a state over 2^fraction_bits and of what the machine has made from it
 abbrev pub words_of : List ℤ → Iterate → List ℤ
 words_of state made = state ++ (made.multipliers ++ (made.plan ++ made.sums))
+
+-- the words of a span
+abbrev pub words_in : Span → List ℤ → List ℤ
+words_in span words = slice_range words span.start (span.start + span.len)
 
 -- the state among a region's words
 abbrev pub state_in : Numbers → List ℤ → List ℤ

@@ -4,7 +4,7 @@ ghost use Rattle.integer_algebra.specs.Sums.{at};
 ghost use Rattle.qp_model.specs.machine.Controller.{plan_length};
 ghost use Rattle.qp_model.specs.machine.Machine.{IsAdmissible, lowering_of, loaded, step_of, run_of};
 ghost use Rattle.fixed_kernel.specs.Outside.{IsFirstOutside};
-ghost use Rattle.fixed_kernel.specs.Spans.{multipliers_span, plan_span, sums_span};
+ghost use Rattle.fixed_kernel.specs.Spans.{multipliers_span, plan_span, sums_span, words_in};
 
 use crate::narrow::has_narrow_factors;
 use crate::spans::{Spans, take_spans};
@@ -183,13 +183,12 @@ impl<'a> Kernel<'a> {
         self.made
     }
 
-    /// The sum of plan entry `j` over the steps made, over `2^f`.
-    pub fn sum(&self, j: usize) -> i128
-        requires { j < plan_length self.now.controller }
-        ensures value { result ≡ at (iterate_of self.now).sums j }
-        ensures word { result ≡ at (region_of self.now).words ((sums_span self.now.controller).start + j) }
+    /// The sum of each plan entry over the steps made, over `2^f`.
+    pub fn sums(&self) -> &[i128]
+        ensures value { result.now ≡ (iterate_of self.now).sums }
+        ensures words { result.now ≡ words_in (sums_span self.now.controller) (region_of self.now).words }
     {
-        self.region.word(&self.spans.sums, j)
+        self.region.cells(&self.spans.sums)
     }
 
     /// Multiplier `i`, over `2^(f + exps[i])`. The region's word there is over `2^(f+s)`, the same for all rows.

@@ -18,4 +18,4 @@ mod wordwise;
 
 pub use kernel::Kernel;
 pub use laws::one_outside_law;
-pub use state::OutsideBox;
+pub use state::{OutsideBox, first_outside};

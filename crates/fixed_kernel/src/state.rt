@@ -3,7 +3,7 @@ ghost use Rattle.std.specs.Prelude.{◌≡◌, ◌↔◌, length, pos, replicate
 ghost use Rattle.qp_model.specs.machine.Controller.{numbers};
 ghost use Rattle.qp_model.specs.machine.Machine.{IsAdmissible, loaded, start_of};
 ghost use Rattle.qp_model.specs.machine.AbsoluteSums.{IsController};
-ghost use Rattle.fixed_kernel.specs.Outside.{IsFirstOutside};
+ghost use Rattle.fixed_kernel.specs.Outside.{HasBox, IsFirstOutside};
 ghost use Rattle.fixed_kernel.specs.Spans.{words_of};
 
 use frac_scaled::scaled;
@@ -26,9 +26,10 @@ impl fmt::Debug for OutsideBox {
     }
 }
 
-// The first coordinate that lies outside the box, from 1.
+/// The first coordinate of a state, over `2^g`, that lies outside the box of a controller's numbers, of either machine, from 1. None exactly where the state
+/// lies inside.
 pub fn first_outside(c: &ControllerParts, state: &[i128]) -> Option<u32>
-    requires sound { IsController (numbers c.now) }
+    requires boxed { HasBox (numbers c.now) }
     requires long { length state.now ≡ c.now.n }
     ensures inside { IsNone result ↔ IsAdmissible (numbers c.now) state.now }
     ensures first { IfSome result (λ k. IsFirstOutside (numbers c.now) state.now k) }

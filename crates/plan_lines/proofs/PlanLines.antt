@@ -14,9 +14,9 @@ use Rattle.number_text.specs.Lines.{spaced}
 use Rattle.fixed_kernel.specs.Outside.{IsFirstOutside}
 use Rattle.fixed_kernel.proofs.OneOutside.{one_outside_law}
 use Rattle.plan_lines.specs.Inside.{AreHeld}
-use Rattle.plan_lines.specs.Lines.{plan_lines, AreLinesOf}
-use Rattle.plan_lines.specs.Making.{making_of_plans}
-use Rattle.plan_lines.specs.Printing.{AreFirstLines, lines_of_plans}
+use Rattle.plan_lines.specs.Lines.{first_lines, AreLinesOf}
+use Rattle.plan_lines.specs.Making.{making_by}
+use Rattle.plan_lines.specs.Printing.{AreFirstLines, lines_by}
 use Rattle.plan_lines.proofs.LineByLine.{longer}
 use Rattle.plan_lines.proofs.Acting.{IsJudged, AreToldAs}
 
@@ -65,17 +65,17 @@ plans_judged c m = record {
   one = λ e j k a b. (one_outside_law c (row_of m e)).alone j k a b;
 }
 
-pub plans_as : (c : Numbers) (m : Matrix) → AreToldAs (making_of_plans c) m (lines_of_plans c m)
-plans_as c m = record {
+pub lines_as : (c : Numbers) (line : List ℤ → List ℕ) (m : Matrix) → AreToldAs (making_by c line) m (lines_by line m)
+lines_as c line m = record {
   judged = plans_judged c m;
   never = λ entry xi s never. never;
   whole = λ text are old. ap (λ (x : List ℕ). old ++ x) (is (length m.rows) text (omega arith) are);
-  part = λ run k text le are old new part. part_of_all (plan_line c) m k old new (subst (λ (x : List ℕ). GrowsByPart old new x) (is k text le are) part);
+  part = λ run k text le are old new part. part_of_all line m k old new (subst (λ (x : List ℕ). GrowsByPart old new x) (is k text le are) part);
   some = λ k text le are old. record { count = k; some = le; printed = ap (λ (x : List ℕ). old ++ x) (is k text le are) };
 }
   where
-    is : (k : ℕ) (text : List ℕ) → k ≤ length m.rows → AreLinesOf (making_of_plans c).line m k text → text ≡ plan_lines c m k
-    is = text_is (plan_line c) m (making_of_plans c).line (λ xi line same. same)
+    is : (k : ℕ) (text : List ℕ) → k ≤ length m.rows → AreLinesOf (making_by c line).line m k text → text ≡ first_lines line m k
+    is = text_is line m (making_by c line).line (λ xi line same. same)
 
 pub no_plan_yet : (c : Numbers) (m : Matrix) (old new : List ℕ) → new ≡ old → AreFirstLines c m old new
 no_plan_yet c m old new same = record { count = 0; some = zero-le; printed = same ∙ sym (append-nil old) }

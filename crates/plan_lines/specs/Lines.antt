@@ -5,9 +5,13 @@ use Rattle.mat_int.specs.Matrix.{Matrix, row_of}
 use Rattle.qp_model.specs.machine.Controller.{Numbers}
 use Rattle.qp_model.specs.text.ControllerText.{plan_line}
 
--- the lines of the averaged plans from the first k states, in order
+-- the lines of the first k states, in order, by what the line of each is
+abbrev pub first_lines : (line : List ℤ → List ℕ) → Matrix → ℕ → List ℕ
+first_lines line states k = flat_map line (take k states.rows)
+
+-- those of the averaged plans
 abbrev pub plan_lines : Numbers → Matrix → ℕ → List ℕ
-plan_lines c states k = flat_map (plan_line c) (take k states.rows)
+plan_lines c = first_lines (plan_line c)
 
 -- the text is the lines of the first states, in order: those of one fewer, and the line of the last
 pub record IsOneMore (AreBefore : List ℕ → Type 0) (IsLine : List ℕ → Type 0) (text : List ℕ) : Type 0 where

@@ -7,6 +7,7 @@ use Rattle.qp_model.specs.machine.Controller.{Numbers}
 use Rattle.qp_model.specs.machine.Machine.{IsAdmissible}
 use Rattle.qp_model.specs.text.ControllerText.{plan_line}
 use Rattle.fixed_kernel.specs.Outside.{IsFirstOutside}
+use Rattle.primal_average.specs.FastLine.{fast_plan_line}
 use Rattle.plan_lines.specs.Inside.{AreHeld, IsFirstOut}
 use Rattle.plan_lines.specs.Lines.{AreLinesOf}
 use Rattle.command_line.specs.declared.status.Status.{Status}
@@ -22,9 +23,16 @@ pub record Making : Type 1 where
   -- the run of the record has none, and the status tells why
   pub stops : (entry : ℕ) → List ℤ → Status → Type 0
 
--- a kernel: the line of its controller's averaged plan
+-- a machine that runs from each state of a controller's box, by what the line of each is
+abbrev pub making_by : Numbers → (line_of : List ℤ → List ℕ) → Making
+making_by c line_of = record { holds = IsAdmissible c; outside = IsFirstOutside c; line = λ xi line. line ≡ line_of xi; stops = λ entry xi s. ⊥ }
+
+-- a kernel: the line of its controller's averaged plan, of either machine
 abbrev pub making_of_plans : Numbers → Making
-making_of_plans c = record { holds = IsAdmissible c; outside = IsFirstOutside c; line = λ xi line. line ≡ plan_line c xi; stops = λ entry xi s. ⊥ }
+making_of_plans c = making_by c (plan_line c)
+
+abbrev pub making_of_fast_plans : Numbers → Making
+making_of_fast_plans c = making_by c (fast_plan_line c)
 
 -- it runs from each of the first k states
 abbrev pub AreRunFrom : Making → Matrix → ℕ → Type 0

@@ -1,20 +1,25 @@
 -- What the output gets of the lines of a controller from states.
-use Rattle.std.specs.Prelude.{◌≡◌, ◌≢◌, ◌⊎◌, ℕ, ◌<◌, ◌≤◌, List, ◌++◌, length, Option, IfSome, IsSomeAnd}
+use Rattle.std.specs.Prelude.{◌≡◌, ◌≢◌, ◌⊎◌, ℕ, ◌<◌, ◌≤◌, ℤ, List, ◌++◌, length, Option, IfSome, IsSomeAnd}
 use Rattle.io_edge.specs.Faults.{GrowsByPart}
 use Rattle.mat_int.specs.Matrix.{Matrix}
 use Rattle.qp_model.specs.machine.Controller.{Numbers}
+use Rattle.qp_model.specs.text.ControllerText.{plan_line}
 use Rattle.plan_lines.specs.Inside.{AreHeld, IsFirstOut}
-use Rattle.plan_lines.specs.Lines.{plan_lines}
+use Rattle.plan_lines.specs.Lines.{first_lines}
 use Rattle.command_line.specs.Answers.{IsCaused}
 use Rattle.command_line.specs.Script.{Act, printing_act}
 use Rattle.command_line.specs.declared.status.Status.{Status}
 use Rattle.command_line.specs.declared.status.Status.TheVariants.{Done, Memory, WriteFault}
 
--- the lines of some first states
-pub record AreFirstLines (c : Numbers) (states : Matrix) (old new : List ℕ) : Type 0 where
+-- the lines of some first states, by what the line of each is
+pub record AreSomeLines (line : List ℤ → List ℕ) (states : Matrix) (old new : List ℕ) : Type 0 where
   pub count : ℕ
   pub some : count ≤ length states.rows
-  pub printed : new ≡ old ++ plan_lines c states count
+  pub printed : new ≡ old ++ first_lines line states count
+
+-- those of the averaged plans
+abbrev pub AreFirstLines : Numbers → Matrix → (old new : List ℕ) → Type 0
+AreFirstLines c = AreSomeLines (plan_line c)
 
 -- what the output gets of the lines of states: all of them, a part that isn't all, or those of some first states
 pub record Lines : Type 1 where
@@ -28,13 +33,17 @@ pub record AreLinesPrinted (lines : Lines) (s : Status) (old new : List ℕ) : T
   pub fault : s ≡ WriteFault 0 → lines.part old new
   pub memory : s ≡ Memory → lines.some old new
 
+-- by what the line of each state is
+abbrev pub lines_by : (line : List ℤ → List ℕ) → Matrix → Lines
+lines_by line states = record {
+  all = λ old new. new ≡ old ++ first_lines line states (length states.rows);
+  part = λ old new. GrowsByPart old new (first_lines line states (length states.rows));
+  some = AreSomeLines line states;
+}
+
 -- the lines of a controller's averaged plans
 abbrev pub lines_of_plans : Numbers → Matrix → Lines
-lines_of_plans c states = record {
-  all = λ old new. new ≡ old ++ plan_lines c states (length states.rows);
-  part = λ old new. GrowsByPart old new (plan_lines c states (length states.rows));
-  some = AreFirstLines c states;
-}
+lines_of_plans c = lines_by (plan_line c)
 
 abbrev pub ArePrinted : Numbers → Matrix → Status → (old new : List ℕ) → Type 0
 ArePrinted c states s old new = AreLinesPrinted (lines_of_plans c states) s old new
