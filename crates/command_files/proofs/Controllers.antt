@@ -1,5 +1,5 @@
 -- What a reader of controllers says of the bytes, both ways.
-use Rattle.std.proofs.Common.{◌≡◌, ◌⊎◌, inl, inr, ℕ, List, Result, Ok, Err, refl, sym}
+use Rattle.std.proofs.Common.{◌≡◌, ◌⊎◌, inl, inr, ℕ, List, Result, Ok, Err, refl}
 use Rattle.std.specs.Prelude.{IfOk, IfErr, MatchResult}
 use Rattle.controller_text.specs.declared.bad_controller.BadController.{BadController}
 use Rattle.controller_text.specs.declared.bad_controller.BadController.TheVariants.{Line, Unsafe, Memory}

@@ -1,7 +1,7 @@
 -- The kinds of all files but designs and policies.
 use Rattle.std.specs.Prelude.{ℕ}
 use Rattle.qp_model.specs.problem.Design.{Design}
-use Rattle.controller_file.specs.FirstLine.{IsBadLine, IsUnsafe}
+use Rattle.controller_file.specs.FirstLine.{IsBadLine, IsUnsafe, IsAnyBadLine, IsAnyUnsafe}
 use Rattle.cell_file.specs.Text.{IsBadCellsLine, AreUnsafe}
 use Rattle.policy_file.specs.StatesText.{IsStatesFault}
 use Rattle.stay_check.specs.FacesText.{IsFacesTextFault}
@@ -12,10 +12,14 @@ use Rattle.state_files.specs.TurnText.{IsShiftsFault}
 use Rattle.command_line.specs.Limit.{file_limit, cells_limit}
 use Rattle.command_line.specs.Kind.{Kind, whole_kind}
 use Rattle.command_design_files.specs.Reading.{text_kind}
-use Rattle.command_files.specs.Texts.{StatesRight, ControllerRight, ControllersWrong, FacesRight, RangeRight, CutsRight, CellPoliciesRight, CellsRight, ShiftsRight}
+use Rattle.command_files.specs.Texts.{StatesRight, ControllerRight, AnyControllerRight, ControllersWrong, FacesRight, RangeRight, CutsRight, CellPoliciesRight, CellsRight, ShiftsRight}
 
 abbrev pub controller_kind : Kind
 controller_kind = whole_kind file_limit ControllerRight (ControllersWrong IsBadLine IsUnsafe)
+
+-- of any version
+abbrev pub any_controller_kind : Kind
+any_controller_kind = whole_kind file_limit AnyControllerRight (ControllersWrong IsAnyBadLine IsAnyUnsafe)
 
 abbrev pub cells_kind : Kind
 cells_kind = whole_kind cells_limit CellsRight (ControllersWrong IsBadCellsLine AreUnsafe)

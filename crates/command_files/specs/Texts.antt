@@ -7,6 +7,8 @@ use Rattle.qp_model.specs.machine.Controller.{Numbers}
 use Rattle.qp_model.specs.text.ControllerText.{IsControllerText}
 use Rattle.controller_text.specs.declared.bad_controller.BadController.{BadController}
 use Rattle.controller_text.specs.declared.bad_controller.BadController.TheVariants.{Line, Unsafe, Memory}
+use Rattle.controller_file.specs.AnyText.{IsAnyControllerText}
+use Rattle.controller_file.specs.declared.any_controller.AnyController.{AnyController}
 use Rattle.policy_file.specs.StatesText.{IsStatesText}
 use Rattle.cell_file.specs.Text.{IsCellsText}
 use Rattle.stay_check.specs.FaceForms.{FaceNumbers}
@@ -21,6 +23,10 @@ use Rattle.command_line.specs.declared.status.Status.TheVariants.{Controller}
 -- ---- controllers, one or those of cells
 abbrev pub ControllerRight : Numbers → List ℕ → Type 0
 ControllerRight c bytes = IsControllerText bytes c
+
+-- of any version
+abbrev pub AnyControllerRight : AnyController → List ℕ → Type 0
+AnyControllerRight k bytes = IsAnyControllerText bytes k
 
 abbrev pub CellsRight : List Numbers → List ℕ → Type 0
 CellsRight cells bytes = IsCellsText bytes cells

@@ -5,13 +5,13 @@ ghost use Rattle.stay_check.specs.FaceForms.{faces_of, AreFacesFor};
 ghost use Rattle.state_files.specs.RangeText.{IsShiftRange};
 ghost use Rattle.cell_split.specs.Cells.{AreCutsFor};
 ghost use Rattle.command_line.specs.Kind.{ReadsFile};
-ghost use Rattle.command_files.specs.Reading.{controller_kind, cells_kind, states_kind, faces_kind, range_kind, shifts_kind, cuts_kind};
+ghost use Rattle.command_files.specs.Reading.{controller_kind, any_controller_kind, cells_kind, states_kind, faces_kind, range_kind, shifts_kind, cuts_kind};
 
 use cell_file::read_cells;
 use cell_split::{Cuts, read_cuts};
 use command_design_files::{FILE_LIMIT, read_bytes, told_controller, told_text};
 use command_line::Status;
-use controller_file::read_controller;
+use controller_file::{AnyController, read_any_controller, read_controller};
 use io_edge::Store;
 use mat_int::Mat;
 use overflow_check::Controller;
@@ -35,6 +35,19 @@ pub fn read_controller_file<S: Store>(
 {
     let bytes = read_bytes(alloc, FILE_LIMIT, file, name, store)?;
     told_controller(file, read_controller(alloc, &bytes))
+}
+
+/// The controller, of any version, under the name at a position among the arguments, or the status that ends the run.
+pub fn read_any_controller_file<S: Store>(
+    alloc: Global,
+    file: u32,
+    name: &str,
+    store: &mut S,
+) -> Result<AnyController, Status>
+    ensures { ReadsFile S.Store any_controller_kind file name.now (λ k. k) result store.old store.new }
+{
+    let bytes = read_bytes(alloc, FILE_LIMIT, file, name, store)?;
+    told_controller(file, read_any_controller(alloc, &bytes))
 }
 
 /// The controllers of the cells under the name at a position among the arguments, or the status that ends the run.

@@ -6,6 +6,6 @@ mod files;
 
 pub use cell_policies::read_cell_policies_file;
 pub use files::{
-    CELLS_LIMIT, read_cells_file, read_controller_file, read_cuts_file, read_faces_file,
-    read_range_file, read_shifts_file, read_states_file,
+    CELLS_LIMIT, read_any_controller_file, read_cells_file, read_controller_file, read_cuts_file,
+    read_faces_file, read_range_file, read_shifts_file, read_states_file,
 };
