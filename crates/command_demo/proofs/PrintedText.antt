@@ -16,7 +16,7 @@ use Rattle.plan_lines.specs.Making.{Ending, all, short, cut, stopped, PrintsLine
 use Rattle.plan_lines.specs.Printing.{ArePrinted, AreFirstLines, LinesShow, lines_of_plans}
 use Rattle.plan_lines.proofs.LineByLine.{longer, after}
 use Rattle.plan_lines.proofs.Acting.{lines_told, lines_ended, lines_shown}
-use Rattle.plan_lines.proofs.PlanLines.{line_some, plans_as, no_plan_yet}
+use Rattle.plan_lines.proofs.PlanLines.{line_some, lines_as, no_plan_yet}
 use Rattle.command_line.proofs.Results.{both_some}
 use Rattle.command_demo.specs.Deeds.{demo_deeds}
 use Rattle.command_demo.specs.Demo.{IsShown, IsPrefixShown, IsTextPrinted, PrintsOf, DemoPrints}
@@ -49,7 +49,7 @@ pub record PlansEnd {O : Type 0} (screen : Screen O) (c : Numbers) (m : Matrix) 
 pub plans_end : {O : Type 0} (screen : Screen O) (c : Numbers) (m : Matrix) (out now : O) (s : Status) → AreInside c m (length m.rows) → PrintsLines screen (making_of_plans c) m out now s → PlansEnd screen c m out now s
 plans_end screen c m out now s inside l =
     let lines = lines_of_plans c m in
-    let p = lines_ended (demo_deeds 0) (lines_told (making_of_plans c) m lines (plans_as c m) (λ s. ⊥)) screen out now s inside l in
+    let p = lines_ended (demo_deeds 0) (lines_told (making_of_plans c) m lines (lines_as c (plan_line c) m) (λ s. ⊥)) screen out now s inside l in
     record {
       only = plans_only l.ending;
       printed =
