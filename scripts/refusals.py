@@ -530,17 +530,17 @@ def too_wide(call: Call, name: str) -> str:
     return TEXTS["too-wide"].format(name=name, what=what, size=size, help=helps)
 
 
-def controller_lines(text: str) -> list[str]:
-    """What should stand in each line, as far as the first two lines tell the version and the sizes."""
-    second = text.startswith("mpc-controller 2\n")
+def controller_lines(text: str, latest: int = 2) -> list[str]:
+    """What should stand in each line, as far as the first two lines tell the version, up to the latest that is read, and the sizes."""
+    version = next((it for it in range(2, latest + 1) if text.startswith(f"mpc-controller {it}\n")), 1)
     head = [
-        "`mpc-controller 2`" if second else "`mpc-controller 1`",
+        f"`mpc-controller {version}`",
         "`size` and n, p, N, m",
         "`bits` and f, g, s, w",
         "`steps` and K",
         "`clamp` and the greatest multiplier",
-        "`words` and n + m + 2 p N",
-        *["`exps` and a number from 0 to s for each row"] * second,
+        f"`words` and n + {'3 ' if version == 3 else ''}m + 2 p N",
+        *["`exps` and a number from 0 to s for each row"] * (version > 1),
         "`lo` and a number for each state",
         "`hi` and a number for each state, at least its `lo`",
     ]
@@ -588,7 +588,8 @@ def controller_fault(call: Call, file: int, fault: str, numbers: list[int]) -> s
         text = read_text(call.path(call.kind(file)))
     except (OSError, TypeError):
         text = ""
-    lines, found, wanted = (cells_lines if is_cells else controller_lines)(text), text.split("\n"), "another"
+    lines = cells_lines(text) if is_cells else controller_lines(text, 3 if call.command == "solve" else 2)
+    found, wanted = text.split("\n"), "another"
     if numbers[0] <= len(lines):
         wanted = lines[numbers[0] - 1]
     shown = f" (`{found[numbers[0] - 1][:40]}`)" if numbers[0] <= len(found) and found[numbers[0] - 1] else ""

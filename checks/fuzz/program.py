@@ -154,7 +154,7 @@ class Gains:
 
 class Program:
     """The words are texts, the first of them the command; `read` gives a name's bytes, or None where it can't be read; `write` tells whether a name could be
-    written. `run` gives a controller's sums from a state, `played` a listing's words; designs and controllers are of these versions, but those that `list` and `c` read."""
+    written. `run` gives a controller's sums from a state, `played` a listing's words; designs and controllers are of these versions, but those that `list` and `c` read; `solve` reads any."""
 
     def __init__(self, words, read, write, gains, run=control.run, played=listing.played, put=None, versions=VERSIONS):
         self.words, self.read, self.write, self.gains, self.run, self.played, self.versions = words, read, write, gains, run, played, versions
@@ -178,8 +178,8 @@ class Program:
     def design(self):
         return self.text(1, lambda data: model.read_design(data, self.versions))
 
-    def controller(self, file):
-        return self.text(file, lambda data: control.read_controller(data, self.versions))
+    def controller(self, file, versions=None):
+        return self.text(file, lambda data: control.read_controller(data, versions or self.versions))
 
     def usage(self):
         words = self.words
@@ -258,7 +258,7 @@ class Program:
         return rows
 
     def solve(self):
-        c = self.controller(1)
+        c = self.controller(1, ALL_VERSIONS)
         for row in self.states(2, c, c.n):
             self.put(control.plan_line(c, row, self.run))
 

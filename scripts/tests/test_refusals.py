@@ -235,6 +235,9 @@ class Explained(unittest.TestCase):
     def test_controller_line_of_version_2(self):
         told = self.solve("error 11 controller 1 line 7", SECOND_CONTROLLER.replace("exps 0 1 1", "exps 0 1 2"))
         self.assertIn("line 7 (`exps 0 1 2`) should be `exps` and a number from 0 to s for each row", told)
+        third = SECOND_CONTROLLER.replace("mpc-controller 2", "mpc-controller 3")
+        self.assertIn("line 6 (`words 6`) should be `words` and n + 3 m + 2 p N", self.solve("error 11 controller 1 line 6", third))
+        self.assertIn("line 1 (`mpc-controller 3`) should be `mpc-controller 1`", self.words("error 11 controller 1 line 1", "list", "c", "l", c=third))
         self.assertIn("`lo` and a number for each state", self.solve("error 11 controller 1 line 8", SECOND_CONTROLLER))
 
     def test_controller_cut_short(self):

@@ -3,6 +3,10 @@ use Rattle.std.proofs.Common.{inl, refl, arith}
 use Rattle.io_edge.specs.declared.sink.Sink.{Ghosts as Screen}
 use Rattle.mat_int.specs.Matrix.{Matrix}
 use Rattle.qp_model.specs.machine.Controller.{Numbers}
+use Rattle.qp_model.specs.machine.Machine.{loaded}
+use Rattle.controller_file.specs.AnyText.{any_numbers}
+use Rattle.controller_file.specs.declared.any_controller.AnyController.{AnyController}
+use Rattle.fast_machine.specs.FastProgress.{FastProgress}
 use Rattle.fixed_kernel.specs.Progress.{Progress}
 use Rattle.command_line.specs.Script.{ends}
 use Rattle.command_line.specs.Does.{Prints}
@@ -11,11 +15,11 @@ use Rattle.command_line.proofs.Following.{IsSoundWork}
 use Rattle.command_line.specs.declared.status.Status.{Status}
 use Rattle.command_design_files.proofs.Stopping.{text_refused}
 use Rattle.command_files.proofs.Stopping.{controllers_refused}
-use Rattle.plan_lines.specs.Making.{PrintsRecords, making_of_plans}
-use Rattle.plan_lines.specs.Printing.{lines_of_plans}
+use Rattle.plan_lines.specs.Making.{PrintsRecords}
+use Rattle.plan_lines.specs.Printing.{lines_by}
 use Rattle.plan_lines.proofs.Acting.{lines_told, lines_telling, records_ended}
-use Rattle.plan_lines.proofs.PlanLines.{plans_as}
-use Rattle.command_solve.specs.Solve.{solve_act, solve_states}
+use Rattle.plan_lines.proofs.PlanLines.{lines_as}
+use Rattle.command_solve.specs.Solve.{any_plan_line, making_of_any, solve_act, solve_states}
 use Rattle.command_solve.specs.Deeds.{solve_work, solve_deeds}
 
 pub solve_sound : IsSoundWork solve_work
@@ -24,9 +28,14 @@ solve_sound = record {
   first = inl refl;
 }
 
-pub solve_ended : (c : Numbers) (m : Matrix) {O : Type 0} (screen : Screen O) (out now : O) (s : Status) → PrintsRecords screen (making_of_plans c) m out now s → Prints screen solve_deeds out now s (solve_act c m)
-solve_ended c m screen = records_ended solve_deeds (lines_told (making_of_plans c) m (lines_of_plans c m) (plans_as c m) solve_deeds.tells) screen
+pub solve_ended : (k : AnyController) (m : Matrix) {O : Type 0} (screen : Screen O) (out now : O) (s : Status) → PrintsRecords screen (making_of_any k) m out now s → Prints screen solve_deeds out now s (solve_act k m)
+solve_ended k m screen =
+    let line = any_plan_line k in
+    records_ended solve_deeds (lines_told (making_of_any k) m (lines_by line m) (lines_as (any_numbers k) line m) solve_deeds.tells) screen
 
--- a kernel that is prepared
+-- kernels that are prepared
 abbrev pub prepared : Numbers → Progress
 prepared c = record { controller = c; state = c.low; made = 0 }
+
+abbrev pub fast_prepared : Numbers → FastProgress
+fast_prepared c = record { controller = c; state = loaded c c.low; made = 0 }

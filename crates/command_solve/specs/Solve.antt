@@ -1,29 +1,43 @@
 -- What `solve` does with its two files.
-use Rattle.std.specs.Prelude.{ℕ, List, length, Option}
+use Rattle.std.specs.Prelude.{ℕ, ℤ, List, length, Option}
 use Rattle.mat_int.specs.Matrix.{Matrix, row_of}
-use Rattle.qp_model.specs.machine.Controller.{Numbers}
 use Rattle.qp_model.specs.machine.Machine.{IsAdmissible}
+use Rattle.qp_model.specs.text.ControllerText.{plan_line}
+use Rattle.controller_file.specs.AnyText.{any_numbers}
+use Rattle.controller_file.specs.declared.any_controller.AnyController.{AnyController}
+use Rattle.controller_file.specs.declared.any_controller.AnyController.TheVariants.{Plain, Fast}
 use Rattle.fixed_kernel.specs.Outside.{IsFirstOutside}
+use Rattle.primal_average.specs.FastLine.{fast_plan_line}
 use Rattle.command_line.specs.Limit.{file_limit}
 use Rattle.command_line.specs.Answers.{FileHolds}
 use Rattle.command_line.specs.Script.{Act, Script, ends, reads}
-use Rattle.command_files.specs.Texts.{ControllerRight, StatesRight}
-use Rattle.command_files.specs.Reading.{controller_kind, states_kind}
+use Rattle.command_files.specs.Texts.{AnyControllerRight, StatesRight}
+use Rattle.command_files.specs.Reading.{any_controller_kind, states_kind}
 use Rattle.plan_lines.specs.Inside.{AreInside}
-use Rattle.plan_lines.specs.Printing.{lines_of_plans, lines_act}
+use Rattle.plan_lines.specs.Making.{Making, making_by}
+use Rattle.plan_lines.specs.Printing.{lines_by, lines_act}
+
+-- the line of the averaged plan of a controller of either machine from a state
+abbrev pub any_plan_line : AnyController → List ℤ → List ℕ
+any_plan_line (Plain c) = plan_line c
+any_plan_line (Fast c) = fast_plan_line c
+
+-- what its machine makes of states
+abbrev pub making_of_any : AnyController → Making
+making_of_any k = making_by (any_numbers k) (any_plan_line k)
 
 -- two files hold a controller and states that all lie in its box
-pub record HoldsRuns (controller states : Option (List ℕ)) (c : Numbers) (m : Matrix) : Type 0 where
-  pub controller_right : FileHolds file_limit (ControllerRight c) controller
-  pub states_right : FileHolds file_limit (StatesRight c.states m) states
-  pub inside : AreInside c m (length m.rows)
+pub record HoldsRuns (controller states : Option (List ℕ)) (k : AnyController) (m : Matrix) : Type 0 where
+  pub controller_right : FileHolds file_limit (AnyControllerRight k) controller
+  pub states_right : FileHolds file_limit (StatesRight (any_numbers k).states m) states
+  pub inside : AreInside (any_numbers k) m (length m.rows)
 
 -- the first state outside the box is told, or the lines of the averaged plans are printed
-abbrev pub solve_act : Numbers → Matrix → Act
-solve_act c m = lines_act (λ e. IsAdmissible c (row_of m e)) (λ e. IsFirstOutside c (row_of m e)) m (lines_of_plans c m)
+abbrev pub solve_act : AnyController → Matrix → Act
+solve_act k m = lines_act (λ e. IsAdmissible (any_numbers k) (row_of m e)) (λ e. IsFirstOutside (any_numbers k) (row_of m e)) m (lines_by (any_plan_line k) m)
 
-abbrev pub solve_states : Numbers → Script
-solve_states c = reads 2 (states_kind c.states) (λ m. ends (solve_act c m))
+abbrev pub solve_states : AnyController → Script
+solve_states k = reads 2 (states_kind (any_numbers k).states) (λ m. ends (solve_act k m))
 
 abbrev pub solve_script : Script
-solve_script = reads 1 controller_kind solve_states
+solve_script = reads 1 any_controller_kind solve_states

@@ -1,4 +1,4 @@
-//! `solve`: the lines of a controller's averaged plans, from a file of states.
+//! `solve`: the lines of a controller's averaged plans, of any version, from a file of states.
 #![tactic(auto)]
 
 mod command;

@@ -4,10 +4,36 @@ use std::test::Fail;
 use trials_harness::Whole;
 use trials_memory_edge::MemStore;
 use trials_stores::{generates, given, solves, tells, tells_row};
-use trials_worked_designs::{CONTROLLER, CONTROLLER_OF_TWO, DESIGN, POLICY, STATES};
+use trials_worked_designs::{
+    CONTROLLER, CONTROLLER_OF_TWO, DESIGN, LEAN_CONTROLLER, POLICY, STATES,
+};
+
+// The controller of the accelerated machine of the first worked design at closer targets, at 3 steps: its plan at 1 is followed by hand, by the weights 2, 3 and 4
+// -256, -272 and -288, and over 9 * 512.
+const FAST: &str = "mpc-controller 3
+size 1 1 1 3
+bits 9 0 1 22
+steps 3
+clamp 2048
+words 12
+exps 0 1 1
+lo 0
+hi 1
+P 256
+T 0
+W 128 -128 128
+G 512
+G -512
+G 512
+E 0
+E 0
+E 512
+b 512 512 128
+end
+";
 
 // Further files, most with a fault, or that no controller is made of: a name, and a text with this part in that one's place.
-static FILES: [(&str, &str, &str, &str); 20] = [
+static FILES: [(&str, &str, &str, &str); 25] = [
     ("toml", DESIGN, "version = 1", "x ="),
     ("halves", DESIGN, "grid = 0", "grid = 1"),
     ("triples", DESIGN, "a = [[1]]", "a = [[3]]"),
@@ -46,6 +72,16 @@ static FILES: [(&str, &str, &str, &str); 20] = [
     ("open", STATES, "1\n", "1\n0"),
     ("turned", STATES, "0\n1", "1\n0"),
     ("two", CONTROLLER_OF_TWO, "end", "end"),
+    ("fast", FAST, "end", "end"),
+    (
+        "once",
+        LEAN_CONTROLLER,
+        "1\nsize 1 1 1 3\nbits 6 0 1 16\nsteps 1\nclamp 256\nwords 6\n",
+        "3\nsize 1 1 1 3\nbits 6 0 1 16\nsteps 1\nclamp 256\nwords 12\nexps 0 1 1\n",
+    ),
+    ("endless", FAST, "steps 3", "steps 65535"),
+    ("few", FAST, "words 12", "words 6"),
+    ("narrow", FAST, "1 22", "1 21"),
     ("pairs", STATES, "0\n1", "1,-2\n3,4"),
     ("single", STATES, "0\n1", "1,-2\n3"),
 ];
@@ -53,6 +89,8 @@ static FILES: [(&str, &str, &str, &str); 20] = [
 // Arguments, and what they tell, with a comma for each line feed but the last.
 const ANSWERS: &str = "solve c open: 4096 0,4096 -2224,4096 0
 solve two pairs: 1792 0 329,1792 -7 -462
+solve fast s: 4608 0,4608 -2480
+solve once turned: 128 -64,128 0
 loop d c turned 2: 1 1 1 4096 -2224,1 2 0 4096 0,2 1 0 4096 0,2 2 0 4096 0
 solve c: error 2 usage
 demo 07: error 2 usage
@@ -80,9 +118,14 @@ generate fine near out r: error 9 too-fine 151000321
 generate wide long out r: error 10 too-wide prediction
 solve cut s: error 11 controller 1 line 19
 solve unsafe s: error 11 controller 1 unsafe
+solve endless s: error 11 controller 1 line 4
+solve few s: error 11 controller 1 line 6
+solve narrow s: error 11 controller 1 unsafe
+loop d fast s 1: error 11 controller 2 line 1
 loop d cut s 1: error 11 controller 2 line 19
 loop d unsafe s 1: error 11 controller 2 unsafe
 solve c outside: error 12 outside-box 2 0 1
+solve fast outside: error 12 outside-box 2 0 1
 loop d c outside 1: error 12 outside-box 2 1 1,1 1 1 4096 -2224
 loop triples c s 2: error 12 outside-box 2 2 1,1 1 0 4096 0,1 2 0 4096 0,2 1 1 4096 -2224
 generate large p out r: error 13 long 1

@@ -1,15 +1,13 @@
-use Rattle.std.proofs.Common.{◌≡◌, ◌∙◌, ap, refl}
-use Rattle.qp_model.specs.machine.Controller.{Numbers}
+use Rattle.std.proofs.Common.{refl}
 use Rattle.command_line.proofs.Following.{follows, stopped, went_on, acted, printed}
-use Rattle.plan_lines.proofs.LineByLine.{ok_is}
 use Rattle.command_solve.specs.Deeds.{solve_work}
-use Rattle.command_solve.proofs.Solving.{solve_sound, solve_ended, prepared}
+use Rattle.command_solve.proofs.Solving.{solve_sound, solve_ended}
 use Rattle.command_solve.proofs.command.solve.Goals as goal
 
 -- the controller's file ends it
 pub returns-in-Err : goal.returns-in-Err
 returns-in-Err g c =
-    let did = c.read_controller_file.ensures in
+    let did = c.read_any_controller_file.ensures in
     follows solve_work solve_sound (stopped did.passes (rw c.at.ensures at c.in-Err.ensures.ends))
 
 -- the controller is right, and the states' file ends it
@@ -19,25 +17,16 @@ returns g c =
     let did = c.read_states_file.ensures.read in
     follows solve_work solve_sound
     (went_on kept.passes (rw c.at.ensures at kept.right)
-    (stopped did.passes (rw (ap (λ (k : Numbers). k.states) c.parts.ensures.value, c.at-2.ensures) at c.in-Err-read_states_file.ensures.read.ends)))
+    (stopped did.passes (rw (c.states_of.ensures, c.at-2.ensures) at c.in-Err-read_states_file.ensures.read.ends)))
 
 -- the states are right, too
 pub returns-in-Ok-read_states_file : goal.returns-in-Ok-read_states_file
 returns-in-Ok-read_states_file g c =
-    let n = c.in-Ok.controller in
+    let k = c.in-Ok.controller in
     let m = c.in-Ok-read_states_file.states in
     let kept = c.in-Ok.ensures in
     let did = c.read_states_file.ensures.read in
     follows solve_work solve_sound
     (went_on kept.passes (rw c.at.ensures at kept.right)
-    (went_on did.passes (rw (ap (λ (k : Numbers). k.states) c.parts.ensures.value, c.at-2.ensures) at c.in-Ok-read_states_file.ensures.read.right)
-    (acted (printed tt (solve_ended n m g.O.Sink c.args.out.now c.print_prepared.new.out c.print_prepared.result
-    (c.print_prepared.ensures n (ok_is c.prepare.result (prepared n) (λ k. k.controller ≡ n) refl c.prepare.ensures))) refl))))
-
--- and as wide as those of the kernel
-pub print_prepared-requires-clause-size : goal.print_prepared-requires-clause-size
-print_prepared-requires-clause-size g c =
-    let n = c.in-Ok.controller in
-    let m = c.in-Ok-read_states_file.states in
-    let width = c.in-Ok-read_states_file.ensures.width ∙ ap (λ (k : Numbers). k.states) c.parts.ensures.value in
-    ok_is c.prepare.result (prepared n) (λ k. m.cols ≡ k.controller.states) width c.prepare.ensures
+    (went_on did.passes (rw (c.states_of.ensures, c.at-2.ensures) at c.in-Ok-read_states_file.ensures.read.right)
+    (acted (printed tt (solve_ended k m g.O.Sink c.args.out.now c.print_plans.new.out c.print_plans.result c.print_plans.ensures) refl))))
