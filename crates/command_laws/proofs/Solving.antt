@@ -1,5 +1,5 @@
 -- A certified controller that a file holds, solved from grid states of its design's box.
-use Rattle.std.proofs.Common.{◌≡◌, ◌∙◌, inr, ℕ, ◌<◌, ◌≤◌, List, length, Option, Some, refl, sym, ap, subst}
+use Rattle.std.proofs.Common.{◌≡◌, ◌∙◌, inl, inr, ℕ, ◌<◌, ◌≤◌, List, length, Option, Some, refl, sym, ap, subst}
 use Rattle.io_edge.specs.Faults.{Files}
 use Rattle.mat_int.specs.Matrix.{Matrix, row_of}
 use Rattle.qp_model.specs.problem.Design.{Design}
@@ -9,7 +9,12 @@ use Rattle.qp_model.specs.text.ControllerText.{IsControllerText}
 use Rattle.qp_model.specs.bounds.Built.{HasSizesOf}
 use Rattle.qp_model.specs.bounds.Certified.{IsCertified}
 use Rattle.qp_model.specs.bounds.Printed.{Printed}
-use Rattle.controller_file.proofs.Uniqueness.{one_controller}
+use Rattle.controller_file.specs.Laws.{IsSomeControllerText}
+use Rattle.controller_file.specs.AnyText.{any_numbers, IsAnyControllerText}
+use Rattle.controller_file.specs.declared.any_controller.AnyController.{AnyController}
+use Rattle.controller_file.specs.declared.any_controller.AnyController.TheVariants.{Plain, Fast}
+use Rattle.controller_file.proofs.AnyText.{one_any, text_safe}
+use Rattle.controller_file.proofs.Uniqueness.{one_any_controller}
 use Rattle.plan_lines.specs.Inside.{AreInside}
 use Rattle.plan_lines.specs.Printing.{IsSolved, lines_of_plans}
 use Rattle.plan_lines.proofs.Acting.{lines_shown}
@@ -23,8 +28,8 @@ use Rattle.command_line.specs.Script.{calls_of}
 use Rattle.command_line.proofs.Following.{called_told}
 use Rattle.command_line.specs.declared.status.Status.{Status}
 use Rattle.command_line.specs.declared.status.Status.TheVariants.{Done}
-use Rattle.command_files.specs.Texts.{ControllerRight, StatesRight}
-use Rattle.command_files.specs.Reading.{controller_kind, states_kind}
+use Rattle.command_files.specs.Texts.{ControllerRight, AnyControllerRight, StatesRight}
+use Rattle.command_files.specs.Reading.{any_controller_kind, states_kind}
 use Rattle.command_files.proofs.OneThing.{one_content, one_states}
 use Rattle.command_solve.specs.Solve.{HoldsRuns, solve_act, solve_script}
 use Rattle.command_solve.specs.Deeds.{solve_work, solve_deeds}
@@ -33,20 +38,27 @@ use Rattle.command_laws.specs.Laws.{GenerateSolveLaw, LeanSolveLaw}
 use Rattle.command_laws.proofs.States.{state_long, grid_state_held}
 
 -- ---- what a file holds is one thing
-same_controller : (content : Option (List ℕ)) (a b : Numbers) → FileHolds file_limit (ControllerRight a) content → FileHolds file_limit (ControllerRight b) content → a ≡ b
-same_controller content a b x y = one_controller x.bytes a b x.right (subst (λ (bytes : List ℕ). ControllerRight b bytes) (one_content file_limit file_limit content x y) y.right)
+some_text : (bytes : List ℕ) (k : AnyController) → IsAnyControllerText bytes k → IsSomeControllerText bytes (any_numbers k)
+some_text bytes (Plain c) text = inl text
+some_text bytes (Fast c) text = inr text
+
+same_controller : (content : Option (List ℕ)) (a b : AnyController) → FileHolds file_limit (AnyControllerRight a) content → FileHolds file_limit (AnyControllerRight b) content → a ≡ b
+same_controller content a b x y =
+    let other = subst (λ (bytes : List ℕ). AnyControllerRight b bytes) (one_content file_limit file_limit content x y) y.right in
+    one_any a b (text_safe x.bytes a x.right) (text_safe x.bytes b other)
+    (one_any_controller x.bytes (any_numbers a) (any_numbers b) (some_text x.bytes a x.right) (some_text x.bytes b other))
 
 -- ---- a run over files that hold a controller and states of its box
-module _ (words : List (List ℕ)) (files : Files) (c : Numbers) (states : Matrix) (holds : HoldsRuns (files (word_of words 1)) (files (word_of words 2)) c states) where
+module _ (words : List (List ℕ)) (files : Files) (c : Numbers) (states : Matrix) (holds : HoldsRuns (files (word_of words 1)) (files (word_of words 2)) (Plain c) states) where
   solve_done : calls_of solve_script (λ at. files (word_of words at)) Done
-  solve_done = inr (c, holds.controller_right, inr (states, holds.states_right, inr (refl, holds.inside)))
+  solve_done = inr (Plain c, holds.controller_right, inr (states, holds.states_right, inr (refl, holds.inside)))
 
   solve_called : IsCalledFor solve_deeds words (Some files) Done
   solve_called = called_told words Done files solve_work solve_done
 
   is_solved : (s : Status) (before now : Option (List ℕ)) → HasAnswered solve_deeds words (Some files) s before now → IsSolved c states s before now
   is_solved s before now run =
-      let did = all_shown controller_kind (λ a. states_kind a.states) solve_act words files c states (λ a right. same_controller (files (word_of words 1)) a c right holds.controller_right)
+      let did = all_shown any_controller_kind (λ a. states_kind (any_numbers a).states) solve_act words files (Plain c) states (λ a right. same_controller (files (word_of words 1)) a (Plain c) right holds.controller_right)
       (λ m right. one_states c.states (files (word_of words 2)) m states right holds.states_right) (lines_of_plans c states) (no_plan_yet c states) s
       (λ old new. lines_shown (lines_of_plans c states) s old new (no_plan_yet c states old new) (AreInside c states (length states.rows))) before now solve_done run.called run.prints in
       record { done = did.0; printed = did.1 }
@@ -64,7 +76,7 @@ module _ (d : Design) (c : Numbers) (b : Printed) (sizes : HasSizesOf d c) (cert
       long : (e : ℕ) → e < length states.rows → length (row_of states e) ≡ d.states
       long = state_long d (files (word_of words 2)) states grid
 
-      holds : HoldsRuns (files (word_of words 1)) (files (word_of words 2)) c states
+      holds : HoldsRuns (files (word_of words 1)) (files (word_of words 2)) (Plain c) states
       holds = record {
         controller_right = right;
         states_right = subst (λ (n : ℕ). FileHolds file_limit (StatesRight n states) (files (word_of words 2))) (sym sizes.states) grid.states_right;
