@@ -42,14 +42,16 @@ some_text : (bytes : List ℕ) (k : AnyController) → IsAnyControllerText bytes
 some_text bytes (Plain c) text = inl text
 some_text bytes (Fast c) text = inr text
 
-same_controller : (content : Option (List ℕ)) (a b : AnyController) → FileHolds file_limit (AnyControllerRight a) content → FileHolds file_limit (AnyControllerRight b) content → a ≡ b
+same_controller : (content : Option (List ℕ)) (a b : AnyController) → FileHolds file_limit (AnyControllerRight a) content →
+    FileHolds file_limit (AnyControllerRight b) content → a ≡ b
 same_controller content a b x y =
     let other = subst (λ (bytes : List ℕ). AnyControllerRight b bytes) (one_content file_limit file_limit content x y) y.right in
     one_any a b (text_safe x.bytes a x.right) (text_safe x.bytes b other)
     (one_any_controller x.bytes (any_numbers a) (any_numbers b) (some_text x.bytes a x.right) (some_text x.bytes b other))
 
 -- ---- a run over files that hold a controller and states of its box
-module _ (words : List (List ℕ)) (files : Files) (c : Numbers) (states : Matrix) (holds : HoldsRuns (files (word_of words 1)) (files (word_of words 2)) (Plain c) states) where
+module _ (words : List (List ℕ)) (files : Files) (c : Numbers) (states : Matrix)
+    (holds : HoldsRuns (files (word_of words 1)) (files (word_of words 2)) (Plain c) states) where
   solve_done : calls_of solve_script (λ at. files (word_of words at)) Done
   solve_done = inr (Plain c, holds.controller_right, inr (states, holds.states_right, inr (refl, holds.inside)))
 
@@ -58,7 +60,8 @@ module _ (words : List (List ℕ)) (files : Files) (c : Numbers) (states : Matri
 
   is_solved : (s : Status) (before now : Option (List ℕ)) → HasAnswered solve_deeds words (Some files) s before now → IsSolved c states s before now
   is_solved s before now run =
-      let did = all_shown any_controller_kind (λ a. states_kind (any_numbers a).states) solve_act words files (Plain c) states (λ a right. same_controller (files (word_of words 1)) a (Plain c) right holds.controller_right)
+      let did = all_shown any_controller_kind (λ a. states_kind (any_numbers a).states) solve_act words files (Plain c) states
+      (λ a right. same_controller (files (word_of words 1)) a (Plain c) right holds.controller_right)
       (λ m right. one_states c.states (files (word_of words 2)) m states right holds.states_right) (lines_of_plans c states) (no_plan_yet c states) s
       (λ old new. lines_shown (lines_of_plans c states) s old new (no_plan_yet c states old new) (AreInside c states (length states.rows))) before now solve_done run.called run.prints in
       record { done = did.0; printed = did.1 }

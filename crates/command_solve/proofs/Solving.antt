@@ -28,7 +28,8 @@ solve_sound = record {
   first = inl refl;
 }
 
-pub solve_ended : (k : AnyController) (m : Matrix) {O : Type 0} (screen : Screen O) (out now : O) (s : Status) → PrintsRecords screen (making_of_any k) m out now s → Prints screen solve_deeds out now s (solve_act k m)
+pub solve_ended : (k : AnyController) (m : Matrix) {O : Type 0} (screen : Screen O) (out now : O) (s : Status) → PrintsRecords screen (making_of_any k) m out now s →
+    Prints screen solve_deeds out now s (solve_act k m)
 solve_ended k m screen =
     let line = any_plan_line k in
     records_ended solve_deeds (lines_told (making_of_any k) m (lines_by line m) (lines_as (any_numbers k) line m) solve_deeds.tells) screen

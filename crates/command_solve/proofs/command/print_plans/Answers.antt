@@ -22,7 +22,8 @@ pub returns-in-Fast : goal.returns-in-Fast
 returns-in-Fast g c =
     let n = c.in-Fast.controller in
     rw c.in-Fast.is
-    (c.print_prepared-in-Fast.ensures n (ok_is c.prepare-in-Fast.result (fast_prepared (numbers c.parts.result.now)) (λ k. k.controller ≡ n) c.parts.ensures.value c.prepare-in-Fast.ensures))
+    (c.print_prepared-in-Fast.ensures n
+    (ok_is c.prepare-in-Fast.result (fast_prepared (numbers c.parts.result.now)) (λ k. k.controller ≡ n) c.parts.ensures.value c.prepare-in-Fast.ensures))
 
 pub print_prepared-requires-in-Fast-clause-size : goal.print_prepared-requires-in-Fast-clause-size
 print_prepared-requires-in-Fast-clause-size g c =
