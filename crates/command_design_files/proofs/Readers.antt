@@ -8,7 +8,7 @@ use Rattle.number_text.specs.declared.text_fault.TextFault.{TextFault}
 use Rattle.number_text.specs.declared.text_fault.TextFault.TheVariants.{Memory as no_room}
 use Rattle.controller_text.specs.declared.bad_controller.BadController.{BadController}
 use Rattle.controller_text.specs.declared.bad_controller.BadController.TheVariants.{Memory as no_space}
-use Rattle.command_line.specs.Answers.{IsTold, FileHolds, IsFileRefused, IsRightFor, IsWrongBy, EndsReading}
+use Rattle.command_line.specs.Answers.{IsTold, FileHolds, IsFileRefused, IsRightFor, IsWrongBy}
 use Rattle.command_line.specs.Kind.{Kind, EndsRead, Passes, ReadsFile}
 use Rattle.command_line.specs.Limit.{file_limit}
 use Rattle.command_line.specs.declared.status.Status.{Status}

@@ -1,5 +1,5 @@
 -- Which bytes are the text of what, and with which status others are refused.
-use Rattle.std.specs.Prelude.{◌≡◌, ◌≢◌, ◌⊎◌, ℕ, List, Result, Ok, Err, IsErrAnd}
+use Rattle.std.specs.Prelude.{◌≡◌, ◌≢◌, ◌⊎◌, ℕ, List, Result, Ok, Err, IsErrAnd, true}
 use Rattle.qp_model.specs.problem.Design.{Design}
 use Rattle.qp_model.specs.problem.Policy.{Plans}
 use Rattle.qp_model.specs.declared.design_parts.DesignParts.{DesignParts}
@@ -8,6 +8,8 @@ use Rattle.number_text.specs.declared.text_fault.TextFault.TheVariants.{Memory a
 use Rattle.controller_text.specs.declared.bad_controller.BadController.{BadController}
 use Rattle.controller_text.specs.declared.bad_controller.BadController.TheVariants.{Memory as no_room}
 use Rattle.design_files.specs.DesignText.{IsDesignText}
+use Rattle.design_files.specs.AskedText.{IsAskedText}
+use Rattle.design_files.specs.declared.places.Asked.{Asked}
 use Rattle.policy_file.specs.PolicyText.{IsPolicyText}
 use Rattle.command_line.specs.declared.status.Status.{Status}
 use Rattle.command_line.specs.declared.status.Status.TheVariants.{Memory, Text, Controller}
@@ -40,6 +42,10 @@ IsToldBy Tells (Err fault) r = IsErrAnd r (Tells fault)
 -- ---- designs, and policies for a design
 abbrev pub DesignRight : DesignParts → List ℕ → Type 0
 DesignRight p bytes = IsDesignText bytes p
+
+-- of any version, with the machine that it asks for
+abbrev pub AskedRight : Asked → List ℕ → Type 0
+AskedRight asked bytes = IsAskedText true bytes asked
 
 abbrev pub PolicyRight : Design → Plans → List ℕ → Type 0
 PolicyRight d plans bytes = IsPolicyText bytes d plans

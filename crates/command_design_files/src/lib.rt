@@ -6,5 +6,7 @@ mod files;
 mod statuses;
 
 pub use bytes::{FILE_LIMIT, read_bytes};
-pub use files::{read_design_file, read_policy_file};
+// What a design of any version asks for, as `read_asked_file` gives it.
+pub use design_files::Asked as Wanted;
+pub use files::{read_asked_file, read_design_file, read_policy_file};
 pub use statuses::{told_controller, told_text};

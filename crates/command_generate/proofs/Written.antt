@@ -19,8 +19,8 @@ use Rattle.command_line.proofs.Following.{IsSoundWork, left_told}
 use Rattle.command_line.proofs.TwoTexts.{some_weaker}
 use Rattle.command_design_files.specs.Reading.{policy_kind}
 use Rattle.command_design_files.proofs.Stopping.{text_refused}
-use Rattle.command_generate.specs.Made.{CallsFor, IsMadeOf, AreTextsOf}
-use Rattle.command_generate.specs.Generate.{generate_act, generate_work, IsMadeFrom, AreMadeAndWritten, IsGenerated}
+use Rattle.command_generate.specs.Made.{CallsFor, IsMadeOf, AreTextsBy, AreTextsOf}
+use Rattle.command_generate.specs.Generate.{generate_act, generate_work, IsMadeFrom, AreMadeAndWrittenBy, AreMadeAndWritten, IsGenerated}
 use Rattle.command_generate.proofs.Making.{making_telling}
 use Rattle.command_generate.proofs.SameDesign.{along}
 use Rattle.command_line.specs.declared.status.Status.{Status}
@@ -44,21 +44,27 @@ pub controller_short : (text : List ℕ) (c : Numbers) → IsControllerText text
 controller_short text c is = omega (arith, text_length_law text c is)
 
 -- both texts stand, of what was made so
-abbrev pub made_and_written : (Made Of : Numbers → Printed → Type 0) (first second : ℕ) (words : List (List ℕ)) (files new : Files) →
-    (two : Two (AreTextsOf Made (word_of words second)) (BothStand files new (word_of words first) (word_of words second))) → Of two.are.controller two.are.bounds → AreMadeAndWritten Of first second words files new
-made_and_written Made Of first second words files new two of = record {
+abbrev pub made_and_written_by : (IsText : List ℕ → Numbers → Type 0) (Made Of : Numbers → Printed → Type 0) (first second : ℕ) (words : List (List ℕ)) (files new : Files) →
+    ((text : List ℕ) (c : Numbers) → IsText text c → length text ≤ file_limit) →
+    (two : Two (AreTextsBy IsText Made (word_of words second)) (BothStand files new (word_of words first) (word_of words second))) → Of two.are.controller two.are.bounds →
+    AreMadeAndWrittenBy IsText Of first second words files new
+made_and_written_by IsText Made Of first second words files new is_short two of = record {
   controller = two.are.controller;
   bounds = two.are.bounds;
   made = of;
   text = two.text;
   is_text = two.are.is_text;
-  short = controller_short two.text two.are.controller two.are.is_text;
+  short = is_short two.text two.are.controller two.are.is_text;
   report = two.report;
   is_report = two.are.is_report;
   controller_file = two.true_of.first;
   report_file = two.true_of.second;
   others = two.true_of.others;
 }
+
+abbrev pub made_and_written : (Made Of : Numbers → Printed → Type 0) (first second : ℕ) (words : List (List ℕ)) (files new : Files) →
+    (two : Two (AreTextsOf Made (word_of words second)) (BothStand files new (word_of words first) (word_of words second))) → Of two.are.controller two.are.bounds → AreMadeAndWritten Of first second words files new
+made_and_written Made Of first second words files new two of = made_and_written_by IsControllerText Made Of first second words files new controller_short two of
 
 -- ---- what it left
 pub generated : (words : List (List ℕ)) (s : Status) (held now : Option Files) → s ≡ Done → leaves_of generate_work.script words s held now → IfSome held (λ files. IsSomeAnd now (IsGenerated words files))

@@ -49,20 +49,24 @@ pub record IsMadeFrom (design policy : Option (List ℕ)) (c : Numbers) (b : Pri
   pub certified : IsCertified (design_of p) c b
   pub targets : IsWithinTargets (targets_of p) b
 
--- The name at the first of these positions holds the text of a controller, no longer than a file may be, and that at the second the report of its bounds;
--- every other name holds what it held. They are made so.
-pub record AreMadeAndWritten (Made : Numbers → Printed → Type 0) (first second : ℕ) (words : List (List ℕ)) (files new : Files) : Type 0 where
+-- The name at the first of these positions holds the text of a controller, as this says of its machine, no longer than a file may be, and that at the second the
+-- report of its bounds; every other name holds what it held. They are made so.
+pub record AreMadeAndWrittenBy (IsText : List ℕ → Numbers → Type 0) (Made : Numbers → Printed → Type 0) (first second : ℕ) (words : List (List ℕ)) (files new : Files) : Type 0 where
   pub controller : Numbers
   pub bounds : Printed
   pub made : Made controller bounds
   pub text : List ℕ
-  pub is_text : IsControllerText text controller
+  pub is_text : IsText text controller
   pub short : length text ≤ file_limit
   pub report : List ℕ
   pub is_report : IsReport (word_of words second) bounds report
   pub controller_file : new (word_of words first) ≡ Some text
   pub report_file : new (word_of words second) ≡ Some report
   pub others : (q : List ℕ) → q ≢ word_of words first → q ≢ word_of words second → new q ≡ files q
+
+-- of version 1 or 2
+abbrev pub AreMadeAndWritten : (Made : Numbers → Printed → Type 0) (first second : ℕ) (words : List (List ℕ)) (files new : Files) → Type 0
+AreMadeAndWritten = AreMadeAndWrittenBy IsControllerText
 
 -- The third name holds the text of a controller, and the fourth the report of its bounds, made of the design and the policy that the first two names held.
 abbrev pub IsGenerated : (words : List (List ℕ)) → (files new : Files) → Type 0

@@ -52,10 +52,14 @@ pub record IsReport (name : List ℕ) (b : Printed) (report : List ℕ) : Type 0
   pub json : IsJson name → report ≡ report_json b
   pub text : ¬ IsJson name → report ≡ report_text b
 
--- the text of a controller and the report of its bounds, which are made so
-pub record AreTextsOf (Made : Numbers → Printed → Type 0) (report_name text report : List ℕ) : Type 0 where
+-- the text of a controller, as this says of its machine, and the report of its bounds, which are made so
+pub record AreTextsBy (IsText : List ℕ → Numbers → Type 0) (Made : Numbers → Printed → Type 0) (report_name text report : List ℕ) : Type 0 where
   pub controller : Numbers
   pub bounds : Printed
   pub made : Made controller bounds
-  pub is_text : IsControllerText text controller
+  pub is_text : IsText text controller
   pub is_report : IsReport report_name bounds report
+
+-- of version 1 or 2
+abbrev pub AreTextsOf : (Made : Numbers → Printed → Type 0) (report_name text report : List ℕ) → Type 0
+AreTextsOf = AreTextsBy IsControllerText

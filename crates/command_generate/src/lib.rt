@@ -9,4 +9,4 @@ pub use command::generate;
 // Handed on with `texts_made`, which takes what is made: a crate above that names fewer others is stamped on fewer paths.
 pub use design_engine::{Made, row_violations};
 pub use made::make_controller;
-pub use texts::texts_made;
+pub use texts::{report_for, texts_made};

@@ -16,8 +16,8 @@ use design_engine::Made;
 use qp_model::{Bounds, Design, Policy};
 use std::alloc::{AllocError, Global};
 
-// The report in the form that its name asks for.
-fn report_for(alloc: Global, name: &str, bounds: &Bounds) -> Result<Vec<u8>, AllocError>
+/// The report in the form that its name asks for.
+pub fn report_for(alloc: Global, name: &str, bounds: &Bounds) -> Result<Vec<u8>, AllocError>
     ensures { IfOk result (λ v. IsReport name.now (printed bounds.now) v.items) }
 {
     if is_json(name) {
