@@ -35,11 +35,15 @@ class Budget:
         """How much of the time is gone."""
         return (time.monotonic() - self.began) / self.seconds
 
-    def goes_on(self, part: float = 1.0) -> bool:
-        """Whether one more trial may begin, within this part of the time."""
+    def tell(self, words: str) -> None:
+        """These words, where the last ones are some seconds old."""
         now = time.monotonic()
         if now - self.told >= EVERY:
             self.told = now
-            say(f"{min(100, round(100 * self.part))} % of {self.seconds:g} s, {self.trials} trials: {self.best}")
+            say(words)
+
+    def goes_on(self, part: float = 1.0) -> bool:
+        """Whether one more trial may begin, within this part of the time."""
+        self.tell(f"{min(100, round(100 * self.part))} % of {self.seconds:g} s, {self.trials} trials: {self.best}")
         self.trials += 1
         return not self.ended and self.part < part
