@@ -140,7 +140,7 @@ def covering(steps: Steps, model: str, given: Namespace) -> str:
     """The model with a box that holds its starts, where these are no box."""
     if given.as_it_is or not says(model, lambda found: found.text.get("region")):
         return model
-    steps.must("regions", model, steps.path(COVERED))
+    steps.must("regions", model, steps.path(COVERED), "--seconds", str(given.seconds))
     return steps.path(COVERED)
 
 
