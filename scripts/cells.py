@@ -224,7 +224,7 @@ def each_made(design: Design, cuts: list[list[int]], budget: Budget) -> list[Cel
     """What each cell's controller takes."""
     step, out = step_of(design), []
     for number, cell in enumerate(cells_of(design, cuts), 1):
-        budget.tell(f"{number} of {count_of(cuts)} cells: its policy is searched")
+        budget.best = f"{count_of(cuts)} cells, and the policy of cell {number} is searched"
         out.append(made(cell, step))
     return out
 

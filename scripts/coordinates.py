@@ -189,13 +189,12 @@ def told(model: Model, choice: Choice) -> str:
 
 def search(model: Model, design: Design, count: int, seconds: float = 60.0) -> tuple[Choice, numpy.ndarray]:
     """The choice in which loops stay, or the one in which they go least far; and how far they go in each coordinate, as a part of the box."""
-    best = Choice({}, [1.0] * design.states), reach_of(design, count)
-    say(f"{told(model, best[0])}: the loops reach {plain(best[1].max())} of the box")
-    if best[1].max() <= 1:
-        return best
-    found = Search(design, model.own, count)
     with Budget(seconds) as budget:
-        for choice in choices(model, found, budget):
+        best = Choice({}, [1.0] * design.states), reach_of(design, count)
+        say(f"{told(model, best[0])}: the loops reach {plain(best[1].max())} of the box")
+        if best[1].max() <= 1:
+            return best
+        for choice in choices(model, Search(design, model.own, count), budget):
             far = reach(model, choice, count)
             say(f"{told(model, choice)}: the loops reach {plain(far.max())} of the box")
             if far.max() < best[1].max():

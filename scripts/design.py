@@ -86,8 +86,11 @@ class Steps:
         program = os.path.relpath(LAUNCHER)
         command = [program if program.startswith("..") else os.path.join(".", program), *words]
         print("$ " + shlex.join(command) + (f" > {shlex.quote(to)}" if to else ""), flush=True)
-        with tempfile.TemporaryFile("w+") as out:
-            began = subprocess.Popen(command, stdout=out if to else subprocess.PIPE, stderr=subprocess.PIPE if to else subprocess.STDOUT, text=True, env=os.environ | {PYTHON: sys.executable})
+        kept = os.environ | {PYTHON: sys.executable}
+        with (
+            tempfile.TemporaryFile("w+") as out,
+            subprocess.Popen(command, stdout=out if to else subprocess.PIPE, stderr=subprocess.PIPE if to else subprocess.STDOUT, text=True, env=kept) as began,
+        ):
             said = told(began, began.stderr if to else began.stdout)
             out.seek(0)
             printed = out.read() if to else said

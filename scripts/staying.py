@@ -477,13 +477,10 @@ def limit_words(model: Model, row: int) -> str:
 
 def search(model: Model, most: float = MOST_STEPS, seconds: float = 60.0, generate: bool = False, clock: float = 100.0, same: bool = False) -> tuple[dict, bool]:
     """The keys of a model whose design has faces, and whether they hold; else of the best that was seen."""
-    if any(model.stay) and found_faces(model, generate):
-        say("as it is: the faces hold")
-        return model.text, True
-    if not any(model.stay) and found_faces(model, generate):
-        say("the model's own limits keep it in the box")
-        return model.text, True
     with Budget(seconds) as budget:
+        if found_faces(model, generate):
+            say("as it is: the faces hold" if any(model.stay) else "the model's own limits keep it in the box")
+            return model.text, True
         found = Search(model, budget, generate, clock, same, most)
         keys = found.run()
     if keys is not None:

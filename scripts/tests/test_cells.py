@@ -125,6 +125,8 @@ class Costs(unittest.TestCase):
         self.assertEqual((lacking, greatest), (0.9, mean))
         self.assertEqual(guesses.words((0.9, 4.0, 4.0)), "the greatest K 4, the mean 4, 90 % of the box without a policy")
         self.assertEqual(cells.search(beyond, 9, guesses, Budget(60.0))[0][0], 0)
+        # where the time is over nothing is tried
+        self.assertEqual(cells.search(beyond, 9, guesses, Budget(1e-9)), [[]])
 
     def test_mean_over_the_turns_of_loops(self):
         design = design_of(BOXES)

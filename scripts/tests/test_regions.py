@@ -90,6 +90,10 @@ class Regions(unittest.TestCase):
         self.assertLess(least_slack(made), 0)
         self.assertRegex(words, "^warning: .* but a corner of it has no plan, [0-9.]+ tolerances short, and so has one of each other box that was tried\n./mpc regions .* --cells DESIGN CUTS POLICIES goes on")
 
+    def test_where_the_time_is_over(self):
+        """One box is tried all the same."""
+        self.assertEqual([len(regions.boxes_of(Region(Model(NO_BOX)), Budget(seconds))) for seconds in (1e-9, 60.0)], [1, 3])
+
     def test_held_states_and_last_inputs(self):
         held = CELL.replace("[[limit]]", '[[held]]\nname = "target %"\nhi = 10.0\n[[limit]]', 1)
         planes = '[[region]]\nname = "near"\nstate = [1.0, 0.0]\nheld = [-1.0]\nbound = 5.0\nleast = -5.0\n'
