@@ -60,7 +60,7 @@ def read_design(data, versions=VERSIONS):
         text = data.decode("utf-8").removeprefix("\ufeff")
         top = tomllib.loads(text)
     except (UnicodeDecodeError, ValueError, RecursionError):
-        raise Refused(5, "not-toml")
+        raise Refused(5, "not-toml") from None
 
     def too_large(v):
         if isinstance(v, dict):
