@@ -34,11 +34,10 @@ from .common.budget import Budget
 from .common.cell_boxes import cells_of, count_of, parts_of
 from .common.condensed import condense, curvature
 from .common.corners import corners_of, margin_of, multiplier_of, steps_of
-from .common.design_text import Design, plain, read_design
-from .common.design_text import text_of as design_text
+from .common.design_text import Design, plain, read_design, text_of
 from .common.launcher import LAUNCHER
 from .common.programs import Programs
-from .common.texts import loop_lines_of, read_text, report_of
+from .common.texts import loop_lines_of, read_text, records_text, report_of
 from .policy import find
 
 MOST_CELLS, MOST_CUTS = 64, 63
@@ -71,17 +70,13 @@ def states_in(design: Design) -> int:
     return count
 
 
-def text_of(records: list[list[int]]) -> str:
-    return "".join(",".join(map(str, record)) + "\n" for record in records)
-
-
 def cuts_text(cuts: list[list[int]]) -> str:
-    return text_of([[len(own), *own] for own in cuts])
+    return records_text([[len(own), *own] for own in cuts])
 
 
 def policies_text(cells: list["Cell | None"]) -> str:
     """The cells' policies, one after the other, with `none` for a cell without a controller."""
-    return "".join(text_of(cell.policy) if cell else "none\n" for cell in cells)
+    return "".join(records_text(cell.policy) if cell else "none\n" for cell in cells)
 
 
 def fault_of(design: Design, records: list[list[int]]) -> str | None:
@@ -253,8 +248,8 @@ def generate(cells: list[Cell], folder: str, title: str) -> None:
     os.makedirs(folder, exist_ok=True)
     for number, cell in enumerate(cells, 1):
         design, policy, controller, report = (os.path.join(folder, name) for name in (f"design-{number}.toml", f"policy-{number}.csv", f"controller-{number}.txt", f"report-{number}.txt"))
-        files.write(design, design_text(cell.design, f"cell {number} of {title}"))
-        files.write(policy, text_of(cell.policy))
+        files.write(design, text_of(cell.design, f"cell {number} of {title}"))
+        files.write(policy, records_text(cell.policy))
         made = subprocess.run([LAUNCHER, "generate", design, policy, controller, report])
         if made.returncode:
             raise Refusal(f"cell {number} is refused: {design}", made.returncode)

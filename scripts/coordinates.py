@@ -13,7 +13,6 @@ is printed; where loops stay in the model as it is, it is MODEL's own. Where no 
 said. Nothing rests on it: `./mpc loop` shows the controller's own loops.
 """
 import itertools
-import sys
 from collections.abc import Iterator
 from dataclasses import dataclass, field
 
@@ -300,10 +299,7 @@ def main() -> int:
         say("what helps: weights that move these less, more stages, limits on what overshoots, or --stay, which limits the next state (docs/BOXES.md)")
     changes = bool(choice.times) or min(choice.kept) < 1
     text = changed_text(model, choice) if changes else files.read_bytes(given.model).decode()
-    if given.new:
-        files.write(given.new, text)
-    else:
-        sys.stdout.write(text)
+    files.put(given.new, text)
     return 12 if far.max() > 1 else 0
 
 

@@ -13,7 +13,6 @@ Where no cells do, it says which corner of what is meant lies in none, by how mu
 """
 import itertools
 import math
-import sys
 from dataclasses import dataclass
 
 from .common.libraries import Refusal, need, run, say
@@ -317,10 +316,7 @@ def main() -> int:
     text = files.read_bytes(given.model).decode() if made is asked else model_text(made.text, "a model with a box that holds its starts, by ./mpc regions")
     for path, cells_text in zip(given.cells or [], texts):
         files.write(path, cells_text)
-    if given.new:
-        files.write(given.new, text)
-    else:
-        sys.stdout.write(text)
+    files.put(given.new, text)
     return 0
 
 

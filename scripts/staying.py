@@ -17,7 +17,6 @@ limit, coordinate or disturbance is in the way. Nothing rests on it: ./mpc faces
 import contextlib
 import io
 import math
-import sys
 from dataclasses import dataclass, field, replace
 
 from .common.libraries import Refusal, need, run, say
@@ -512,10 +511,7 @@ def main() -> int:
     if not holds:
         say("no coordinates, no limits and no box were found for which faces hold, and the best that was seen is kept: stronger inputs, a smaller box or a smaller `disturbed` (docs/BOXES.md)")
     text = files.read_bytes(given.model).decode() if found is model.text else model_text(found, "a model whose loops never leave the box, by ./mpc staying" + others_words(model, found))
-    if given.new:
-        files.write(given.new, text)
-    else:
-        sys.stdout.write(text)
+    files.put(given.new, text)
     return 0 if holds else 12
 
 

@@ -33,7 +33,7 @@ def bytes_changed(pick, data):
     return bytes(data)
 
 
-def number_changed(pick, data, most=None):
+def number_changed(pick, data):
     """One of the text's numbers is made another."""
     found = list(re.finditer(rb"-?[0-9]+", data))
     if not found:

@@ -21,6 +21,15 @@ def sub(text, *pairs):
     return text
 
 
+def refusal(of, *words):
+    """What a call refuses with, or nothing."""
+    try:
+        of(*words)
+    except model.Refused as refused:
+        return refused.args
+    return None
+
+
 def told(words, **files):
     """The status, the line, the output and what was written."""
     said = program.answer(words.split(), lambda name: files.get(name), lambda name: True, model.exact_gains)
