@@ -19,15 +19,20 @@ class Budget:
         self.began = time.monotonic()
         self.left = threading.Event()
         self.before: Any = None
+        self.teller: threading.Thread | None = None
 
     def __enter__(self) -> "Budget":
         self.before = signal.signal(signal.SIGINT, self.interrupted)
         # what a trial says may be kept from standard error, and these lines are not
-        threading.Thread(target=self.tell, args=(sys.stderr,), daemon=True).start()
+        if sys.stderr is not None:
+            self.teller = threading.Thread(target=self.tell, args=(sys.stderr,), daemon=True)
+            self.teller.start()
         return self
 
     def __exit__(self, kind: type[BaseException] | None, fault: BaseException | None, trace: TracebackType | None) -> None:
         self.left.set()
+        if self.teller is not None:
+            self.teller.join()
         signal.signal(signal.SIGINT, self.before)
 
     def tell(self, out: Any) -> None:

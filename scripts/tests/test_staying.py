@@ -417,12 +417,15 @@ class Boxes(unittest.TestCase):
         with unittest.mock.patch.object(budgets, "EVERY", 0.05), contextlib.redirect_stderr(io.StringIO()) as said:
             with Budget(1000) as budget, contextlib.redirect_stderr(io.StringIO()):
                 self.assertTrue(budget.goes_on())
-                time.sleep(0.3)
+                time.sleep(0.5)
             with Budget(1000) as other:
                 os.kill(os.getpid(), signal.SIGINT)
                 self.assertFalse(other.goes_on())
-            time.sleep(0.3)
-        self.assertRegex(said.getvalue(), "^([0-9]+ % of 1000 s, 1 trials: nothing yet\n){2,6}interrupted: the best so far is kept\n$")
+            before = said.getvalue()
+            time.sleep(0.2)
+        line = "([0-9]+ % of 1000 s, 1 trials: nothing yet\n)"
+        self.assertRegex(before.replace("0 trials", "1 trials"), f"^{line}{{2,}}interrupted: the best so far is kept\n{line}*$")
+        self.assertEqual(said.getvalue(), before)
 
 
 def lean_excess_of(design):
