@@ -3,8 +3,9 @@ import random
 import unittest
 
 from checks.fuzz import at_corners, cases, control, model, program, split_boxes, split_cases
+from checks.rows.texts import sub
 
-from .worked import CONTROLLER, DESIGN, POLICY, refusal, sub, told
+from .worked import CONTROLLER, DESIGN, POLICY, refusal, told
 
 CUTS, PLANS = b"1,0\n", b"1,0\n1,0\n8,-7\n8,-7\n"
 # the controllers of 0 and of 1, and the reports of the first design with these boxes

@@ -4,8 +4,9 @@ import unittest
 from fractions import Fraction
 
 from checks.fuzz import control, held_boxes, model, program
+from checks.rows.texts import sub
 
-from .worked import CONTROLLER, DESIGN, POLICY, refusal, sub, told
+from .worked import CONTROLLER, DESIGN, POLICY, refusal, told
 
 # x+ = x + u from 0 to 1, whose next state is to lie in it, too
 HELD = sub(DESIGN, (b"final = [[4, 1]]", b"final = [[4, 1], [-4, 1]]"), (b"den = 1\nviolation = 16\ngap = 1", b"den = 10\nviolation = 1\ngap = 10"))
