@@ -9,7 +9,7 @@ states, too, that weren't meant. The model with that box and without half-planes
                  DESIGN is what ./mpc draft makes of NEW_MODEL, and CUTS and POLICIES are for ./mpc split DESIGN CUTS POLICIES CELLS REPORT, with `none` for a cell without
     --seconds S  how long it searches at most (60); an interrupt ends the search before, and the best is taken. Every few seconds it says how far it is
 
-Where no cells do, it says which corner of what is meant lies in none, by how much, and ends with status 6; then none of the three files is written. Nothing rests on it.
+Where no cells do, it says which corner of what is meant lies in none, by how much, and ends with status 6; then nothing is written. No promise rests on it.
 """
 import itertools
 import math
@@ -189,7 +189,7 @@ class Lacking:
     def __init__(self, region: Region, box: Box, design: Design) -> None:
         self.region, self.box, self.programs = region, box, Programs(design)
         self.unit, self.factor = box.made.state_units / 2**design.grid, float(steps_of(design, step_of(design), 1))
-        self.corners: dict[tuple, tuple[float, float]] = {}
+        self.corners: dict[tuple, tuple[float, list[float]]] = {}
         self.met: dict[tuple, bool] = {}
 
     def part(self, cell: Design) -> tuple:
@@ -249,9 +249,11 @@ def cover_of(region: Region, boxes: list[Box], budget: Budget) -> Cover:
     """The first of the boxes that cells cover, or the one that lacks least."""
     found = []
     for number, box in enumerate(boxes):
+        if found and not budget.goes_on():
+            break
         try:
             design = drafted(box.made).design
-        except Refusal:
+        except (Refusal, numpy.linalg.LinAlgError, ArithmeticError):
             continue
         lacking = Lacking(region, box, design)
         cover = Cover(box, design, search(design, MOST_CELLS, lacking, budget), lacking)
@@ -286,8 +288,8 @@ def say_cells(region: Region, cover: Cover, kept: list[Cell | None]) -> None:
     cells = [cell for cell in kept if cell]
     for words in words_of(cover.design, cells, None)[: len(cells)]:
         say(words)
-    without = f": {len(cells)} have a policy, and {len(kept) - len(cells)} have none" if len(cells) < len(kept) else ", each with a policy"
-    say(f"{region.words} lie in {len(kept)} cells of a box {cover.box.words}{without}")
+    others = ", and the others hold none of these states" if len(cells) < len(kept) else ""
+    say(f"{region.words} lie in cells of a box {cover.box.words}: {len(cells)} of {len(kept)} have a policy{others}")
 
 
 def main() -> int:

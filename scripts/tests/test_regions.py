@@ -174,7 +174,7 @@ class Cells(unittest.TestCase):
         new = os.path.join(folder, "new")
         status, said, (text, cuts, policies) = self.ran(folder, paths["model"], new)
         self.assertEqual(status, 0, said)
-        self.assertRegex(said, r"(?s)cell 1: .*: R [0-9]+, K about .*lie in 4 cells of a box with 2 charge \+ polarisation mV in place of polarisation: 3 have a policy, and 1 have none")
+        self.assertRegex(said, r"(?s)cell 1: .*: R [0-9]+, K about .*lie in cells of a box with 2 charge \+ polarisation mV in place of polarisation: 3 of 4 have a policy, and the others hold none of these states\n")
         made = read_model(new)
         self.assertEqual(text, text_of(draft(made)))
         given = independent.read_design(text.encode())
@@ -199,7 +199,7 @@ class Cells(unittest.TestCase):
         folder, paths = folder_with(self, model=CELL + REGION)
         status, said, (_, cuts, policies) = self.ran(folder, paths["model"], os.path.join(folder, "new"))
         self.assertEqual((status, cuts, len(policies.splitlines())), (0, "0\n0\n", 4), said)
-        self.assertIn("lie in 1 cells of a box with charge + 0.1429 polarisation % in place of charge, each with a policy", said)
+        self.assertIn("lie in cells of a box with charge + 0.1429 polarisation % in place of charge: 1 of 1 have a policy\n", said)
 
     def test_no_state_is_left_out(self):
         """A corner of what is meant that has no plan is told in the model's units, and so is one that lies too near to such states; then nothing is written."""
