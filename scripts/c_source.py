@@ -133,7 +133,7 @@ def write_all(texts: Mapping[str, str]) -> None:
         for path, text in texts.items():
             with tempfile.NamedTemporaryFile("wb", dir=os.path.dirname(path), prefix=".mpc-", delete=False) as file:
                 beside[path] = file.name
-                file.write(text.encode("utf-8"))
+                file.write(text.encode())
                 file.flush()
                 os.fsync(file.fileno())
             umask = os.umask(0)

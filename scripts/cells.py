@@ -1,9 +1,10 @@
 """Proposes cells of a design's box, each with a controller of its own: a smaller box has a smaller cost, and so fewer steps K.
 
-    ./mpc cells DESIGN CUTS POLICIES [--cells N] [--cuts FILE] [--leave-out] [--picture FILE] [--generate FOLDER] [--lines FILE]
+    ./mpc cells DESIGN CUTS POLICIES [--cells N] [--seconds S] [--cuts FILE] [--leave-out] [--picture FILE] [--generate FOLDER] [--lines FILE]
 
 It cuts the box in the coordinate that lowers the greatest K of a cell most, and where no cut does, the mean K over all grid states, once or twice in one of its parts, until there are N cells (9, at
-most 64), or nothing is gained. Cells are all combinations of the coordinates' parts, the first coordinate fastest. CUTS gets a record for each coordinate: how many cuts it has, and the last
+most 64), or nothing is gained, or S seconds (60) are over, or by an interrupt; where a corner has no plan, in that which leaves the fewest states in cells without a policy. Every few seconds it says
+how far the search is. Cells are all combinations of the coordinates' parts, the first coordinate fastest. CUTS gets a record for each coordinate: how many cuts it has, and the last
 grid number of each part but the last. POLICIES gets the plans of the first cell's corners, then those of the next.
 
     --cuts FILE      takes the cuts of FILE, and searches none: CUTS is a copy of them
@@ -22,21 +23,21 @@ import math
 import os
 import subprocess
 from dataclasses import dataclass
+from typing import Protocol
 
 from .common.libraries import Refusal, need, run, say
 
 need("numpy", "cvxopt")
 from .common import files, matching
-from .common.arguments import Parser, whole
+from .common.arguments import Parser, positive, whole
+from .common.budget import Budget
 from .common.cell_boxes import cells_of, count_of, parts_of
 from .common.condensed import condense, curvature
 from .common.corners import corners_of, margin_of, multiplier_of, steps_of
-from .common.design_text import Design, plain, read_design
-from .common.design_text import text_of as design_text
+from .common.design_text import Design, plain, read_design, text_of
 from .common.launcher import LAUNCHER
 from .common.programs import Programs
-from .common.progress import Progress
-from .common.texts import loop_lines_of, read_text, report_of
+from .common.texts import loop_lines_of, read_text, records_text, report_of
 from .policy import find
 
 MOST_CELLS, MOST_CUTS = 64, 63
@@ -44,6 +45,8 @@ MOST_CELLS, MOST_CUTS = 64, 63
 PLACES = ((0.5,), (0.25,), (0.75,), (0.25, 0.75), (0.125, 0.875), (0.375, 0.625))
 # slacks at which plans are tried, by the greatest that all corners of the box have
 TIMES = tuple(2 ** (k / 2) for k in range(-6, 5))
+# the greatest K that `generate` takes
+MOST_STEPS = 4194304
 # what is no gain
 NOTHING = 0.99
 
@@ -67,12 +70,13 @@ def states_in(design: Design) -> int:
     return count
 
 
-def text_of(records: list[list[int]]) -> str:
-    return "".join(",".join(map(str, record)) + "\n" for record in records)
-
-
 def cuts_text(cuts: list[list[int]]) -> str:
-    return text_of([[len(own), *own] for own in cuts])
+    return records_text([[len(own), *own] for own in cuts])
+
+
+def policies_text(cells: list["Cell | None"]) -> str:
+    """The cells' policies, one after the other, with `none` for a cell without a controller."""
+    return "".join(records_text(cell.policy) if cell else "none\n" for cell in cells)
 
 
 def fault_of(design: Design, records: list[list[int]]) -> str | None:
@@ -117,11 +121,19 @@ class Cell:
     steps: int
 
 
+class Judge(Protocol):
+    """What says how good cuts are: by numbers, of which less is better and a later one counts where those before are about the same; and in words."""
+
+    def worth(self, design: Design, cuts: list[list[int]]) -> tuple[float, ...]: ...
+
+    def words(self, worth: tuple[float, ...]) -> str: ...
+
+
 class Guesses:
     """About what K a box takes, by the costs of its corners' plans with one slack of a few; each corner is looked at once."""
 
-    def __init__(self, design: Design, progress: Progress) -> None:
-        self.programs, self.progress, self.factor = Programs(design), progress, float(steps_of(design, step_of(design), 1))
+    def __init__(self, design: Design) -> None:
+        self.programs, self.factor = Programs(design), float(steps_of(design, step_of(design), 1))
         most = min(self.programs.most_slack(as_floats(design.corner(number)))[0] for number in range(1, 2**design.states + 1))
         self.slacks = [(most if math.isfinite(most) and most > 0 else 1.0) * times for times in TIMES]
         self.known: dict[tuple, list[float]] = {}
@@ -134,17 +146,22 @@ class Guesses:
                 plan = self.programs.best(state, slack) if not out or math.isfinite(out[-1]) else None
                 out.append(math.inf if plan is None else self.programs.cost(state, plan))
             self.known[corner] = out
-            self.progress.reach(len(self.known))
         return self.known[corner]
 
     def steps(self, design: Design) -> float:
         costs = [self.costs(tuple(design.corner(number))) for number in range(1, 2**design.states + 1)]
         return self.factor * max(1.0, min(max(column) / slack for slack, column in zip(self.slacks, zip(*costs))))
 
-    def worth(self, design: Design, cuts: list[list[int]]) -> tuple[float, float]:
-        """The greatest K of a cell, and the mean over all grid states."""
+    def worth(self, design: Design, cuts: list[list[int]]) -> tuple[float, ...]:
+        """How much of the box has no policy; the greatest K of a cell, and the mean over the grid states that have one."""
         cells = [(self.steps(cell), states_in(cell)) for cell in cells_of(design, cuts)]
-        return max(steps for steps, _ in cells), sum(steps * count for steps, count in cells) / states_in(design)
+        kept = [(steps, count) for steps, count in cells if math.isfinite(steps)]
+        served = sum(count for _, count in kept)
+        return 1 - served / states_in(design), max((steps for steps, _ in kept), default=0.0), sum(steps * count for steps, count in kept) / max(1, served)
+
+    def words(self, worth: tuple[float, ...]) -> str:
+        lacking, greatest, middle = worth
+        return f"the greatest K {plain(greatest)}, the mean {plain(middle)}" + (f", {plain(100 * lacking)} % of the box without a policy" if lacking else "")
 
 
 def as_floats(state: list) -> list[float]:
@@ -152,11 +169,12 @@ def as_floats(state: list) -> list[float]:
 
 
 def made(design: Design, step: int) -> Cell | None:
-    """What a cell's controller takes; None where it has no policy."""
+    """What a cell's controller takes; None where it has no policy, or none of so few steps that `generate` takes them."""
     with contextlib.redirect_stderr(io.StringIO()):
         policy = find(design)
     bound = multiplier_of(*margin_of(corners_of(design, policy))) if policy else None
-    return Cell(design, policy, bound, steps_of(design, step, bound)) if bound else None
+    steps = steps_of(design, step, bound) if bound else math.inf
+    return Cell(design, policy, bound, steps) if steps <= MOST_STEPS else None
 
 
 # ---- the search
@@ -174,21 +192,36 @@ def with_more(design: Design, cuts: list[list[int]], most: int) -> list[list[lis
     return [trial for trial in out if count_of(trial) <= most and all(len(own) <= MOST_CUTS for own in trial)]
 
 
-def search(design: Design, most: int, progress: Progress) -> list[list[int]]:
-    """Cuts that lower the greatest K most, and where none does the mean, one coordinate after the other."""
-    guesses, cuts = Guesses(design, progress), [[] for _ in design.lo]
-    best = guesses.worth(design, cuts)
+def against(worth: tuple[float, ...], best: tuple[float, ...]) -> tuple[float, ...]:
+    """A worth whose numbers count as the best's up to the first that gains something."""
+    place = next((place for place, (new, old) in enumerate(zip(worth, best)) if new < NOTHING * old), len(best))
+    return (*best[:place], *worth[place:])
+
+
+def search(design: Design, most: int, judge: Judge, budget: Budget) -> list[list[int]]:
+    """Cuts that lower their worth most, one coordinate after the other, within a time."""
+    cuts: list[list[int]] = [[] for _ in design.lo]
+    best = judge.worth(design, cuts)
     while True:
         trials = []
         for number, trial in enumerate(with_more(design, cuts, most)):
-            greatest, middle = guesses.worth(design, trial)
-            trials.append((greatest if greatest < NOTHING * best[0] else best[0], middle, number, trial))
-        if not trials:
+            if not budget.goes_on():
+                break
+            trials.append((against(judge.worth(design, trial), best), number, trial))
+        worth, _, trial = min(trials, default=(best, 0, cuts))
+        if worth == best:
             return cuts
-        greatest, middle, _, trial = min(trials, key=lambda one: one[:3])
-        if greatest == best[0] and middle > NOTHING * best[1]:
-            return cuts
-        best, cuts = (greatest, middle), trial
+        best, cuts = worth, trial
+        budget.best = f"best so far {count_of(cuts)} cells, {judge.words(best)}"
+
+
+def each_made(design: Design, cuts: list[list[int]], budget: Budget) -> list[Cell | None]:
+    """What each cell's controller takes."""
+    step, out = step_of(design), []
+    for number, cell in enumerate(cells_of(design, cuts), 1):
+        budget.best = f"{count_of(cuts)} cells, and the policy of cell {number} is searched"
+        out.append(made(cell, step))
+    return out
 
 
 def mean(cells: list[Cell]) -> float:
@@ -215,8 +248,8 @@ def generate(cells: list[Cell], folder: str, title: str) -> None:
     os.makedirs(folder, exist_ok=True)
     for number, cell in enumerate(cells, 1):
         design, policy, controller, report = (os.path.join(folder, name) for name in (f"design-{number}.toml", f"policy-{number}.csv", f"controller-{number}.txt", f"report-{number}.txt"))
-        files.write(design, design_text(cell.design, f"cell {number} of {title}"))
-        files.write(policy, text_of(cell.policy))
+        files.write(design, text_of(cell.design, f"cell {number} of {title}"))
+        files.write(policy, records_text(cell.policy))
         made = subprocess.run([LAUNCHER, "generate", design, policy, controller, report])
         if made.returncode:
             raise Refusal(f"cell {number} is refused: {design}", made.returncode)
@@ -258,6 +291,7 @@ def main() -> int:
     for word in ("design", "cuts_file", "policies"):
         parser.add_argument(word, metavar={"cuts_file": "CUTS"}.get(word, word.upper()))
     parser.add_argument("--cells", type=whole(1, MOST_CELLS), default=9, metavar="N")
+    parser.add_argument("--seconds", type=positive, default=60.0, metavar="S")
     parser.add_argument("--cuts", metavar="FILE")
     parser.add_argument("--leave-out", action="store_true")
     parser.add_argument("--picture", metavar="FILE")
@@ -267,16 +301,16 @@ def main() -> int:
     inputs = {"DESIGN": given.design} | {word: path for word, path in (("--cuts", given.cuts), ("--lines", given.lines)) if path}
     files.keep_apart(inputs, {"CUTS": given.cuts_file, "POLICIES": given.policies} | ({"--picture": given.picture} if given.picture else {}))
     design = read_design(given.design)
-    with Progress("boxes", 0) as progress:
-        cuts, step = cuts_in(given.cuts, design) if given.cuts else search(design, given.cells, progress), step_of(design)
-        tried = [made(cell, step) for cell in cells_of(design, cuts)]
+    with Budget(given.seconds) as budget:
+        cuts = cuts_in(given.cuts, design) if given.cuts else search(design, given.cells, Guesses(design), budget)
+        tried = each_made(design, cuts, budget)
     lacking, cells = [number for number, cell in enumerate(tried, 1) if not cell], [cell for cell in tried if cell]
     if lacking and not (given.leave_out and cells):
-        say(f"cell {lacking[0]} has no policy: ./mpc policy says where, of the design with its box")
+        say(f"cell {lacking[0]} has no policy, or none with a K of at most {MOST_STEPS}: ./mpc policy says where, of the design with its box")
         return 6
     if lacking:
         say(f"without a controller: cell {', '.join(map(str, lacking))} of {len(tried)}; those below are counted without them")
-    for words in words_of(design, cells, made(design, step)):
+    for words in words_of(design, cells, made(design, step_of(design))):
         say(words)
     if given.lines:
         say(mean_of_lines(design, cells, given.lines))
@@ -285,7 +319,7 @@ def main() -> int:
     if given.generate:
         generate(cells, given.generate, given.design)
     files.write(given.cuts_file, cuts_text(cuts))
-    files.write(given.policies, "".join(text_of(cell.policy) if cell else "none\n" for cell in tried))
+    files.write(given.policies, policies_text(tried))
     return 0
 
 

@@ -13,7 +13,6 @@ is printed; where loops stay in the model as it is, it is MODEL's own. Where no 
 said. Nothing rests on it: `./mpc loop` shows the controller's own loops.
 """
 import itertools
-import sys
 from collections.abc import Iterator
 from dataclasses import dataclass, field
 
@@ -189,13 +188,12 @@ def told(model: Model, choice: Choice) -> str:
 
 def search(model: Model, design: Design, count: int, seconds: float = 60.0) -> tuple[Choice, numpy.ndarray]:
     """The choice in which loops stay, or the one in which they go least far; and how far they go in each coordinate, as a part of the box."""
-    best = Choice({}, [1.0] * design.states), reach_of(design, count)
-    say(f"{told(model, best[0])}: the loops reach {plain(best[1].max())} of the box")
-    if best[1].max() <= 1:
-        return best
-    found = Search(design, model.own, count)
     with Budget(seconds) as budget:
-        for choice in choices(model, found, budget):
+        best = Choice({}, [1.0] * design.states), reach_of(design, count)
+        say(f"{told(model, best[0])}: the loops reach {plain(best[1].max())} of the box")
+        if best[1].max() <= 1:
+            return best
+        for choice in choices(model, Search(design, model.own, count), budget):
             far = reach(model, choice, count)
             say(f"{told(model, choice)}: the loops reach {plain(far.max())} of the box")
             if far.max() < best[1].max():
@@ -301,10 +299,7 @@ def main() -> int:
         say("what helps: weights that move these less, more stages, limits on what overshoots, or --stay, which limits the next state (docs/BOXES.md)")
     changes = bool(choice.times) or min(choice.kept) < 1
     text = changed_text(model, choice) if changes else files.read_bytes(given.model).decode()
-    if given.new:
-        files.write(given.new, text)
-    else:
-        sys.stdout.write(text)
+    files.put(given.new, text)
     return 12 if far.max() > 1 else 0
 
 

@@ -56,6 +56,7 @@ from .common.arguments import Parser, count, positive, turns
 from .common.design_text import read_design
 from .common.launcher import LAUNCHER
 from .common.models import Model, grid_disturbances, read_model
+from .common.texts import records_text
 
 MADE = ["fitted.toml", "design.toml", "policy.csv", "reference.csv", "controller.txt", "report.txt", "states.csv", "loop.txt", "exact.txt", "loop.svg", "judged.txt", "explained.txt", "report.html"]
 STAYS = ["faces.csv", "disturbances.csv"]
@@ -86,8 +87,11 @@ class Steps:
         program = os.path.relpath(LAUNCHER)
         command = [program if program.startswith("..") else os.path.join(".", program), *words]
         print("$ " + shlex.join(command) + (f" > {shlex.quote(to)}" if to else ""), flush=True)
-        with tempfile.TemporaryFile("w+") as out:
-            began = subprocess.Popen(command, stdout=out if to else subprocess.PIPE, stderr=subprocess.PIPE if to else subprocess.STDOUT, text=True, env=os.environ | {PYTHON: sys.executable})
+        kept = os.environ | {PYTHON: sys.executable}
+        with (
+            tempfile.TemporaryFile("w+") as out,
+            subprocess.Popen(command, stdout=out if to else subprocess.PIPE, stderr=subprocess.PIPE if to else subprocess.STDOUT, text=True, env=kept) as began,
+        ):
             said = told(began, began.stderr if to else began.stdout)
             out.seek(0)
             printed = out.read() if to else said
@@ -140,7 +144,7 @@ def covering(steps: Steps, model: str, given: Namespace) -> str:
     """The model with a box that holds its starts, where these are no box."""
     if given.as_it_is or not says(model, lambda found: found.text.get("region")):
         return model
-    steps.must("regions", model, steps.path(COVERED))
+    steps.must("regions", model, steps.path(COVERED), "--seconds", str(given.seconds))
     return steps.path(COVERED)
 
 
@@ -185,7 +189,7 @@ def disturbed(steps: Steps, model: str, design: str) -> list[list[str]]:
     made = read_model(model)
     if not any(made.disturbed):
         return []
-    files.write(steps.path(RANGE), "".join(",".join(map(str, end)) + "\n" for end in grid_disturbances(made, read_design(design))))
+    files.write(steps.path(RANGE), records_text(grid_disturbances(made, read_design(design))))
     return [[steps.path(RANGE)]]
 
 
@@ -195,7 +199,7 @@ def show(steps: Steps, model: str, given: Namespace) -> list[str]:
     steps.must("states", design, states, "--corners", str(given.corners), "--random", str(given.random), "--seed", str(given.seed))
     left = steps.run("loop", design, controller, states, str(given.turns), to=loop)
     if left.status == LEFT_THE_BOX:
-        add_other_starts(steps, design, controller, states, loop, given.turns)
+        add_other_starts(design, controller, states, loop, given.turns)
         steps.must("reach", design, states, loop, "--turns", str(given.turns))
     elif left.status:
         raise Refusal(f"mpc loop ended with status {left.status}: what stands above says why", left.status)
@@ -216,7 +220,7 @@ def show(steps: Steps, model: str, given: Namespace) -> list[str]:
     return settled
 
 
-def add_other_starts(steps: Steps, design: str, controller: str, states: str, loop: str, count: int) -> None:
+def add_other_starts(design: str, controller: str, states: str, loop: str, count: int) -> None:
     """Adds the loops of the starts after one that leaves the box, at which `mpc loop` ends."""
     starts, all_lines, leaving, done = files.read_bytes(states).decode().splitlines(), files.read_bytes(loop).decode().splitlines(), [], 0
     lines = all_lines

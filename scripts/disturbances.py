@@ -14,13 +14,13 @@ has the numbers over `2^grid`, as the plant adds them after its next state was r
 import argparse
 import math
 import random
-import sys
 
 from .common import files
 from .common.arguments import Parser, several, turns
 from .common.design_text import Design, read_design
 from .common.disturbances import MOST, box_in
 from .common.libraries import Refusal, run
+from .common.texts import records_text
 
 
 def heights(word: str) -> list[float]:
@@ -78,11 +78,7 @@ def main() -> int:
     design = read_design(given.design)
     made = records(design, given.turns, given)
     refuse_beyond(design, made, *(box_in(given.within, design) if given.within else ([-MOST] * design.states, [MOST] * design.states)))
-    text = "".join(",".join(map(str, record)) + "\n" for record in made)
-    if given.file:
-        files.write(given.file, text)
-    else:
-        sys.stdout.write(text)
+    files.put(given.file, records_text(made))
     return 0
 
 

@@ -14,11 +14,10 @@ standard error: what each rounding moved, and where the loop of the design settl
 Where a size of the design would pass what the program accepts, the plant is rounded to a smaller denominator, or weights and limits more coarsely, and that is said.
 """
 import math
-import sys
 from dataclasses import dataclass, field, replace
 
 from .common import models
-from .common.libraries import need, run
+from .common.libraries import need, run, say
 
 need("numpy", "scipy", "cvxopt", "jsonschema")
 import numpy
@@ -47,10 +46,6 @@ DENOMINATOR = 1048576
 # the parts of themselves by which numbers may move, one after the other, where the sizes refuse the first
 COARSER = (0.002, 0.005, 0.01, 0.03)
 TRIES = 24
-
-
-def say(*words: str) -> None:
-    print(*words, file=sys.stderr)
 
 
 @dataclass
@@ -494,10 +489,7 @@ def main() -> int:
     for words in made.said:
         say(words)
     text = text_of(made.design)
-    if given.design:
-        files.write(given.design, text)
-    else:
-        sys.stdout.write(text)
+    files.put(given.design, text)
     return 0
 
 

@@ -16,12 +16,11 @@ The faces go to FACES, or are printed; how far each coordinate can go, and the g
 Where a face doesn't hold, it says which, by how much, and what a tolerance or a box would have to be, and ends with status 17, as `./mpc stay` and `./mpc lean` do. Nothing rests on the solver: what is
 found is tested in whole numbers, and they test it again.
 """
-import sys
 from dataclasses import dataclass
 from fractions import Fraction
 from math import ceil, lcm
 
-from .common.libraries import need, run
+from .common.libraries import need, run, say
 
 need("numpy", "scipy")
 import numpy
@@ -33,15 +32,11 @@ from .common.corners import corners_of, cost_limit, lean_multiplier_of, margin_o
 from .common.design_text import plain, read_design
 from .common.disturbances import box_in
 from .common.excess import excesses_of
-from .common.texts import read_text, records_of
+from .common.texts import read_text, records_of, records_text
 from .common.trajectories import dot
 
 SCALE = 2**40
 MOST = 2**31 - 1
-
-
-def say(*words):
-    print(*words, file=sys.stderr)
 
 
 # ---- the rows that the first state and the first inputs decide
@@ -372,10 +367,6 @@ def bearable(design, faces, excess):
     return rooms[1::2], rooms[0::2]
 
 
-def text_of(records):
-    return "".join(",".join(map(str, record)) + "\n" for record in records)
-
-
 def main():
     parser = Parser(__doc__)
     parser.add_argument("design", metavar="DESIGN")
@@ -409,11 +400,8 @@ def main():
         name = design.name("state", i + 1)
         say(f"{name.word}: bears disturbances from {l} to {h} a turn, {name.shown(Fraction(l, 2**design.grid))} to {name.shown(Fraction(h, 2**design.grid))}")
     if given.bears:
-        files.write(given.bears, text_of([least, most]))
-    if given.faces:
-        files.write(given.faces, text_of(faces))
-    else:
-        sys.stdout.write(text_of(faces))
+        files.write(given.bears, records_text([least, most]))
+    files.put(given.faces, records_text(faces))
     return 0
 
 

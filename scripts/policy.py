@@ -16,10 +16,9 @@ Where no plan keeps every limit at some corner, it names the corner and the rows
 simulates the policy in whole numbers.
 """
 import math
-import sys
 from collections.abc import Callable
 
-from .common.libraries import need, run
+from .common.libraries import need, run, say
 
 need("numpy", "cvxopt")
 from .common import files
@@ -31,16 +30,13 @@ from .common.excess import excesses_of
 from .common.lean_plans import LeanPlans
 from .common.programs import Programs, reach_of
 from .common.sizes import form_of
+from .common.texts import records_text
 from .explain import size_words
 
 FINE = 2**24
 MOST = 1024
 GOLDEN = (5**0.5 - 1) / 2
 SECTIONS = 16
-
-
-def say(*words: str) -> None:
-    print(*words, file=sys.stderr)
 
 
 def plans_with(programs: Programs, slack: float) -> tuple[list | None, float]:
@@ -211,10 +207,6 @@ def dearest_words(design: Design, policy: list[list[int]], reference: list[list[
     return words, lean_multiplier_of(design, margin, excess)
 
 
-def text_of(records: list[list[int]]) -> str:
-    return "".join(",".join(map(str, record)) + "\n" for record in records)
-
-
 def main() -> int:
     parser = Parser(__doc__)
     parser.add_argument("design", metavar="DESIGN")
@@ -235,11 +227,8 @@ def main() -> int:
         return 6
     tell(design, policy, given.turns, reference)
     if reference:
-        files.write(given.lean, text_of(reference))
-    if given.policy:
-        files.write(given.policy, text_of(policy))
-    else:
-        sys.stdout.write(text_of(policy))
+        files.write(given.lean, records_text(reference))
+    files.put(given.policy, records_text(policy))
     return 0
 
 

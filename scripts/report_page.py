@@ -10,7 +10,6 @@ import html
 import os
 import re
 import string
-import sys
 from collections.abc import Iterable
 from dataclasses import dataclass
 from fractions import Fraction
@@ -192,10 +191,7 @@ def main() -> int:
     inputs = {name: os.path.join(given.folder, name) for name in [*READ, "faces.csv", "disturbances.csv", *SETTLES, FITTED]}
     files.keep_apart(inputs, {"PAGE": given.page or files.STANDARD_OUTPUT})
     text = page(read_folder(given.folder))
-    if given.page:
-        files.write(given.page, text)
-    else:
-        sys.stdout.write(text)
+    files.put(given.page, text)
     return 0
 
 

@@ -21,7 +21,6 @@ Where there is none, it says what is in the way, and ends with status 12.
 from __future__ import annotations
 
 import argparse
-import sys
 from dataclasses import dataclass
 from fractions import Fraction
 
@@ -229,10 +228,7 @@ def main() -> int:
         say(line)
     if given.promise:
         files.write(given.promise, promise_text(Promise(found.certificate.turns, found.settled, found.certificate.after, found.costs)))
-    if given.certificate:
-        files.write(given.certificate, certificate_text(found.certificate))
-    else:
-        sys.stdout.write(certificate_text(found.certificate))
+    files.put(given.certificate, certificate_text(found.certificate))
     return 0
 
 

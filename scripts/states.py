@@ -6,12 +6,12 @@ They go to STATES, or are printed, numbers over `2^grid`, a line each. Of more c
 states N, which is 4.
 """
 import random
-import sys
 
 from .common import files
 from .common.arguments import Parser, count
 from .common.design_text import Design, read_design
 from .common.libraries import run
+from .common.texts import records_text
 
 
 def corners(design: Design) -> list[list[int]]:
@@ -37,11 +37,7 @@ def main() -> int:
     given = parser.parse_args()
     files.keep_apart({"DESIGN": given.design}, {"STATES": given.states or files.STANDARD_OUTPUT})
     states = chosen(read_design(given.design), given.random, given.seed, given.corners)
-    text = "".join(",".join(map(str, state)) + "\n" for state in states)
-    if given.states:
-        files.write(given.states, text)
-    else:
-        sys.stdout.write(text)
+    files.put(given.states, records_text(states))
     return 0
 
 

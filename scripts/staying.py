@@ -17,7 +17,6 @@ limit, coordinate or disturbance is in the way. Nothing rests on it: ./mpc faces
 import contextlib
 import io
 import math
-import sys
 from dataclasses import dataclass, field, replace
 
 from .common.libraries import Refusal, need, run, say
@@ -477,13 +476,10 @@ def limit_words(model: Model, row: int) -> str:
 
 def search(model: Model, most: float = MOST_STEPS, seconds: float = 60.0, generate: bool = False, clock: float = 100.0, same: bool = False) -> tuple[dict, bool]:
     """The keys of a model whose design has faces, and whether they hold; else of the best that was seen."""
-    if any(model.stay) and found_faces(model, generate):
-        say("as it is: the faces hold")
-        return model.text, True
-    if not any(model.stay) and found_faces(model, generate):
-        say("the model's own limits keep it in the box")
-        return model.text, True
     with Budget(seconds) as budget:
+        if found_faces(model, generate):
+            say("as it is: the faces hold" if any(model.stay) else "the model's own limits keep it in the box")
+            return model.text, True
         found = Search(model, budget, generate, clock, same, most)
         keys = found.run()
     if keys is not None:
@@ -515,10 +511,7 @@ def main() -> int:
     if not holds:
         say("no coordinates, no limits and no box were found for which faces hold, and the best that was seen is kept: stronger inputs, a smaller box or a smaller `disturbed` (docs/BOXES.md)")
     text = files.read_bytes(given.model).decode() if found is model.text else model_text(found, "a model whose loops never leave the box, by ./mpc staying" + others_words(model, found))
-    if given.new:
-        files.write(given.new, text)
-    else:
-        sys.stdout.write(text)
+    files.put(given.new, text)
     return 0 if holds else 12
 
 

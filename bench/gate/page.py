@@ -80,6 +80,13 @@ def row(name: str, cost: Cost, pace: float = 1) -> str:
     return f"| `{name}` | {cell(cost.proof, PROOF * pace)} | {cell(cost.tests, TESTS * pace)} | {edits} | {f'{cost.memory:.1f}' if cost.proof else ''} | {minutes(cost.above)} |"
 
 
+def page_of(lines: list[str], costs: dict[str, Cost], pace: float) -> str:
+    """The page of these lines before its rows."""
+    last = "The last column has the processor minutes that a changed contract or definition of a crate costs, without edits: the proofs and tests of it and of all above it."
+    head = ["| Crate | Proof | Tests | Edits | Their time | Memory | A change, minutes |", "|---|---|---|---|---|---|---|"]
+    return "\n".join([HEAD, *lines, last, "", *head, *(row(name, cost, pace) for name, cost in costs.items()), ""])
+
+
 def text(kit: str, processors: int, wall: float, costs: dict[str, Cost], chain: tuple[float, list[str]], first: str = "", note: str = "", pace: float = 1) -> str:
     """The page. Costs stand in the order of their crates; the chain is its seconds and its crates. The machine takes `pace` times the time of the one that the marks are for."""
     proof, tests, edits = (sum(getattr(cost, part) for cost in costs.values()) for part in ("proof", "tests", "edit_time"))
@@ -93,10 +100,8 @@ def text(kit: str, processors: int, wall: float, costs: dict[str, Cost], chain: 
         f"The longest chain of proofs is {chain[0] / 60:.1f} minutes: {', '.join(f'`{name}`' for name in chain[1])}.",
         *([first] if first else []),
         f"Beyond the mark of {minutes(PROOF)} minutes for a proof or {minutes(TESTS)} for tests{slower}, where the number is bold: {', '.join(beyond) or 'none'}. An empty field has no tests or no edits.",
-        "The last column has the processor minutes that a changed contract or definition of a crate costs, without edits: the proofs and tests of it and of all above it.",
     ]
-    table = ["| Crate | Proof | Tests | Edits | Their time | Memory | A change, minutes |", "|---|---|---|---|---|---|---|", *(row(name, cost, pace) for name, cost in costs.items())]
-    return HEAD + "\n" + "\n".join(lines) + "\n\n" + "\n".join(table) + "\n"
+    return page_of(lines, costs, pace)
 
 
 def renewed(costs: dict[str, Cost], chain: tuple[float, list[str]], first: str, note: str, pace: float) -> str:
@@ -110,10 +115,8 @@ def renewed(costs: dict[str, Cost], chain: tuple[float, list[str]], first: str, 
         f"Not measured: {', '.join(none) or 'none'}. Their rows are empty, and sums lack them.",
         f"The longest chain of proofs that were measured is {chain[0] / 60:.1f} minutes: {', '.join(f'`{name}`' for name in chain[1])}.",
         *([first] if first else []),
-        "The last column has the processor minutes that a changed contract or definition of a crate costs, without edits: the proofs and tests of it and of all above it.",
     ]
-    table = ["| Crate | Proof | Tests | Edits | Their time | Memory | A change, minutes |", "|---|---|---|---|---|---|---|", *(row(name, cost, pace) for name, cost in costs.items())]
-    return HEAD + "\n" + "\n".join(lines) + "\n\n" + "\n".join(table) + "\n"
+    return page_of(lines, costs, pace)
 
 
 def first_answer(look: float, first: tuple[float, float], others: tuple[float, float], processors: int, pace: float = 1) -> str:

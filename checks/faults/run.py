@@ -329,6 +329,15 @@ def read_what_is_left(checks, what, command, folder):
     checks.ended(what, ran, said.status, said.line)
 
 
+def with_name(command, at, name):
+    """A command with another name in the place of a file: its words, how it ran, and what is left."""
+    words = list(command.words)
+    words[at] = name
+    with tempfile.TemporaryDirectory() as folder:
+        command.lay(folder)
+        return words, Command(command.executable, "", words, {}).run(folder), command.left(folder)
+
+
 def files(options, _):
     checks = Checks()
     given = list(commands(options))
@@ -352,24 +361,14 @@ def files(options, _):
     for command in writing:
         for name in ("/dev/full", "no/c", ".", ""):
             for i, at in enumerate(command.places):
-                words = list(command.words)
-                words[at] = name
-                with tempfile.TemporaryDirectory() as folder:
-                    command.lay(folder)
-                    ran = Command(options.program, "", words, {}).run(folder)
-                    left = command.left(folder)
+                words, ran, left = with_name(command, at, name)
                 checks.ended(f"{words}", ran, 4, f"error 4 write-fault {at}\n".encode())
                 wanted = {it: command.made[it] if k < i else OLD[it] for k, it in enumerate(command.outputs)}
                 checks.expect(f"{words}", left == wanted, f"the files hold {left}")
     for name, status, line in (("missing", 3, "read-fault"), (".", 3, "read-fault"), ("", 3, "read-fault"), ("/proc/self/mem", 3, "read-fault"), ("/dev/zero", 13, "long")):
         for command in given:
             for at in (at for at in READS[command.words[0]] if at < len(command.words) and at <= (command.refused or at)):
-                words = list(command.words)
-                words[at] = name
-                with tempfile.TemporaryDirectory() as folder:
-                    command.lay(folder)
-                    ran = Command(options.program, "", words, {}).run(folder)
-                    left = command.left(folder)
+                words, ran, left = with_name(command, at, name)
                 checks.ended(f"{words}", ran, status, f"error {status} {line} {at}\n".encode())
                 checks.expect(f"{words}", ran.stdout == b"" and left == {it: OLD[it] for it in command.outputs}, "something was written")
     print(f"files: {checks.count} checks, {checks.wrong} wrong", flush=True)

@@ -33,7 +33,7 @@ def bytes_changed(pick, data):
     return bytes(data)
 
 
-def number_changed(pick, data, most=None):
+def number_changed(pick, data):
     """One of the text's numbers is made another."""
     found = list(re.finditer(rb"-?[0-9]+", data))
     if not found:
@@ -245,7 +245,14 @@ class Border:
 
 
 # the exponent that covers the squares is a ratio, and hardly depends on what the numbers are over: so one form serves the search
-within_form = lambda make, times=1: lambda real, dens: lambda d, plans, form=make(read_over(real, dens)[0]): forms.is_within_limit(d, form, times)
+def within_form(make, times=1):
+    def over(real, dens):
+        form = make(read_over(real, dens)[0])
+        return lambda d, plans: forms.is_within_limit(d, form, times)
+
+    return over
+
+
 within_corners = lambda sizes, *names: lambda real, dens: lambda d, plans: all(v <= forms.LIMIT for name, v in sizes(d, plans).items() if not names or name in names)
 SHORT, LONG = [1, 1, 2, 2, 3, 3, 4, 5, 7, 10, 20], [1, 2, 3, 5, 7, 10, 10, 14, 20, 20]
 BORDERS = [

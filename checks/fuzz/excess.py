@@ -6,7 +6,7 @@ numbers, with no code of the program's; `fault` holds it against the simulated p
 from fractions import Fraction
 
 from . import at_corners, forms
-from .forms import FINE, Enclosure, ceil_div, combined, divided, product
+from .forms import FINE, Enclosure, ceil_div, combined, divided, eliminated, product
 
 
 class Numbers:
@@ -79,15 +79,8 @@ def excess(d, form, plans, references):
 
 def unlimited(exact, state):
     """The plan of least cost where there are no limits, in exact fractions, from an exact form."""
-    size = len(exact.q)
     rows = [[Fraction(2 * v.mid) for v in row] + [Fraction(-forms.dot([v.mid for v in of_state], state) - h.mid)] for row, of_state, h in zip(exact.q, exact.f, exact.h0)]
-    for j in range(size):
-        rows[j] = [v / rows[j][j] for v in rows[j]]
-        for i in range(size):
-            if i != j and rows[i][j]:
-                factor = rows[i][j]
-                rows[i] = [a - factor * b for a, b in zip(rows[i], rows[j])]
-    return [row[-1] for row in rows]
+    return [row[-1] for row in eliminated(rows)]
 
 
 def fault(d, plans, references):

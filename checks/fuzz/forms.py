@@ -237,3 +237,14 @@ def fault(d):
         if abs(v.mid * over - w.mid * den) > v.rad * over:
             return f"{name} is further from the exact fraction than its radius"
     return rounded
+
+
+def eliminated(rows):
+    """The rows of a regular system with what stands behind its matrix, reduced until the matrix is the identity."""
+    for j in range(len(rows)):
+        rows[j] = [v / rows[j][j] for v in rows[j]]
+        for i in range(len(rows)):
+            if i != j and rows[i][j]:
+                factor = rows[i][j]
+                rows[i] = [a - factor * b for a, b in zip(rows[i], rows[j])]
+    return rows

@@ -13,7 +13,7 @@ from fractions import Fraction
 from math import ceil, isqrt
 
 from . import at_corners, excess, forms
-from .forms import LIMIT, ceil_div
+from .forms import LIMIT, ceil_div, eliminated
 from .machines import MACHINES, VERSIONS
 
 sys.set_int_max_str_digits(0)
@@ -60,7 +60,7 @@ def read_design(data, versions=VERSIONS):
         text = data.decode("utf-8").removeprefix("\ufeff")
         top = tomllib.loads(text)
     except (UnicodeDecodeError, ValueError, RecursionError):
-        raise Refused(5, "not-toml")
+        raise Refused(5, "not-toml") from None
 
     def too_large(v):
         if isinstance(v, dict):
@@ -553,13 +553,7 @@ def settled(x, matrix, column, f):
 def exact_gains(choice):
     """Good solutions by elimination over fractions, each rounded to the nearest; where the rounding isn't good enough, entries are moved until it is."""
     f, matrix, size = choice.report["bits"], choice.matrix, len(choice.matrix)
-    rows = [[Fraction(v) for v in row] + [Fraction(2**f * column[j]) for column in choice.columns] for j, row in enumerate(matrix)]
-    for j in range(size):
-        rows[j] = [v / rows[j][j] for v in rows[j]]
-        for i in range(size):
-            if i != j and rows[i][j]:
-                factor = rows[i][j]
-                rows[i] = [a - factor * b for a, b in zip(rows[i], rows[j])]
+    rows = eliminated([[Fraction(v) for v in row] + [Fraction(2**f * column[j]) for column in choice.columns] for j, row in enumerate(matrix)])
     solutions = []
     for number, column in enumerate(choice.columns):
         x = [(2 * rows[j][size + number] + 1).__floor__() // 2 for j in range(size)]

@@ -131,7 +131,7 @@ class Gains:
             try:
                 self.found = split_boxes.read_cells(text, self.versions) if text.startswith(b"mpc-cells ") else [control.read_controller(text, self.versions)]
             except Refused as refused:
-                raise ValueError(f"the controller that was written is none: {refused}")
+                raise ValueError(f"the controller that was written is none: {refused}") from None
         return self.found
 
     def __call__(self, choice):
@@ -173,7 +173,7 @@ class Program:
         try:
             return reader(data)
         except Refused as refused:
-            raise Refused(refused.args[0], file, *refused.args[1:])
+            raise Refused(refused.args[0], file, *refused.args[1:]) from None
 
     def design(self):
         return self.text(1, lambda data: model.read_design(data, self.versions))
@@ -274,7 +274,7 @@ class Program:
                 choices.append(model.choose(box, plans))
             except Refused as refused:
                 status, *words = refused.args
-                raise Refused(18, number, NAMES[status], *words)
+                raise Refused(18, number, NAMES[status], *words) from None
         self.cells, bounds = zip(*(made_of(choice, self.gains) for choice in choices))
         self.write_texts((4, split_boxes.text_of(self.cells)), (5, b"".join(map(report_text, bounds))))
 
@@ -304,7 +304,7 @@ class Program:
             try:
                 self.put(listing.play_line(l, self.played(l, row)))
             except listing.Trapped as trapped:
-                raise Refused(21, entry, *trapped.args)
+                raise Refused(21, entry, *trapped.args) from None
 
     def plant_and_controller(self):
         """The design and the controller, which must be of the same sizes."""

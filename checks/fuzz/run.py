@@ -277,7 +277,7 @@ class Runner:
                 file.write(data)
 
     def started(self, words):
-        return subprocess.run([self.executable, *words], cwd=self.folder, stdin=subprocess.DEVNULL, stdout=subprocess.PIPE, stderr=subprocess.PIPE, timeout=600)
+        return subprocess.run([self.executable, *words], cwd=self.folder, stdin=subprocess.DEVNULL, capture_output=True, timeout=600)
 
     def left(self):
         found = {}

@@ -430,7 +430,7 @@ class CText:
         begins = ("work->entry_base_low[i]", "work->entry_base_high[i]") if sums.tier == PARTS else ("work->entry_base[i]",)
         lines = ["    for (i = 0; i < NAME_ENTRIES; i++) {", *self.sum_words(sums, *begins), f"        {self.plan_type} entry;"]
         if form.rows:
-            lines += self.products(sums, "gain", "multipliers", len(form.rows), None, 0) + self.moved_on("gain", sums, len(form.rows))
+            lines += self.products(sums, "gain", "multipliers", len(form.rows), None) + self.moved_on("gain", sums, len(form.rows))
         floor = self.floor(sums, self.controller.bits + self.controller.step, "sum" if sums.tier != PARTS else ("sum0", "sum1", "sum2"))
         if form.is_wide:
             lines += [f"        entry = NAME_negative({floor});"]
@@ -458,7 +458,7 @@ class CText:
         begins = "NAME_first_entry[i]" if len(set(self.spans)) > 1 else self.spans[0][0]
         lines = [f"    for (i = {first}; i < {last}; i++) {{", *self.sum_words(sums, zero, zero)]
         lines += [f"        {self.moved_type} moved;"] + ([f"        {self.moved_type} second;"] if is_pair else [])
-        lines += self.products(sums, "row", "plan", length if length is not None else count, begins, 0) + self.moved_on("row", sums, count)
+        lines += self.products(sums, "row", "plan", length if length is not None else count, begins) + self.moved_on("row", sums, count)
         if self.multiplier_parts:
             lines += [f"        moved = ((int64_t)work->multipliers_high[i] * {power(form.entry_sums.cut)}) + work->multipliers_low[i];"]
         else:
@@ -489,7 +489,7 @@ class CText:
         lines = [f"        {value} += {cast}{f'(int64_t){floor}.low' if sums.tier == WIDE else floor};", f"        if ({value} < 0) {{", f"            {value} = 0;", "        }"]
         return lines + [f"        if ({value} > {top}) {{", f"            {value} = {top};", "        }"]
 
-    def products(self, sums, word, member, count, first, indent):
+    def products(self, sums, word, member, count, first):
         """The products of one sum. `count` is a number, or how many in C; `first` the first entry that a row counts, or None for all multipliers."""
         if not isinstance(count, int) or sums.tier == WIDE:
             self.has_loop = True

@@ -1,6 +1,7 @@
 """Files as each script reads and writes them: no more is read than the program reads, no output takes the place of an input, and an output stands whole or as before."""
 import os
 import stat
+import sys
 from collections.abc import Iterator, Mapping
 
 from .libraries import Refusal
@@ -62,6 +63,14 @@ def write(path: str, text: str | bytes) -> None:
         replace(target, data)
     except OSError as fault:
         raise OSError(fault.errno, fault.strerror, path) from fault
+
+
+def put(path: str | None, text: str) -> None:
+    """Writes a file, or to standard output where none is named."""
+    if path:
+        write(path, text)
+    else:
+        sys.stdout.write(text)
 
 
 def replace(target: str, data: bytes) -> None:

@@ -125,11 +125,11 @@ class LeanPlans:
             return fine
         most = wanted * (margin / 2**16 + self.target) * (1 - 2**-20) - 2**-12
         plans = numpy.array([[u / record[0] for u in record[1:]] for record in policy])
-        found = [self.reference(*corner, most) for corner in zip(self.states, plans, self.free, self.excesses(plans))]
+        found = [self.reference(*corner, most) for corner in zip(self.free, self.excesses(plans))]
         made = lean_multiplier_of(self.design, margin, max(0, *excesses_of(self.design, form, policy, found)[0]))
         return found if made == wanted else fine
 
-    def reference(self, state: list, plan: numpy.ndarray, free: numpy.ndarray, excess: float, most: float) -> list[int]:
+    def reference(self, free: numpy.ndarray, excess: float, most: float) -> list[int]:
         """One corner's, with an excess of at most this, or nearly the least."""
         least = min(self.design.input_weights) / self.design.cost_den
         for k in range(LONGEST + 1):

@@ -42,8 +42,9 @@ def need(*names: str) -> None:
 
 
 def say(*words: object) -> None:
-    """A line on standard error."""
-    print(*words, file=sys.stderr)
+    """A line on standard error, where there is one."""
+    if sys.stderr is not None:
+        print(*words, file=sys.stderr)
 
 
 def run(main: Callable[[], int | None]) -> NoReturn:

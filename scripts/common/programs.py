@@ -89,11 +89,11 @@ def exact_loop(design: Design, state: list, turns: int, programs: Programs | Non
     return out
 
 
-def reach_of(design: Design, turns: int = 50, programs: Programs | None = None) -> numpy.ndarray:
+def reach_of(design: Design, turns: int = 50) -> numpy.ndarray:
     """How far the closed loops with the best plans go from each corner, in each coordinate, as a part of the box from its middle: above 1 a loop leaves it."""
     lo, hi = numpy.array(design.lo) / 2**design.grid, numpy.array(design.hi) / 2**design.grid
     middle, half = (lo + hi) / 2, numpy.maximum((hi - lo) / 2, 1e-12)
-    far = numpy.zeros(design.states)
+    far, programs = numpy.zeros(design.states), Programs(design)
     for number in range(1, 2**design.states + 1):
         start = [int(v * 2**design.grid) for v in design.corner(number)]
         for state, _ in exact_loop(design, start, turns, programs):

@@ -6,7 +6,7 @@ from fractions import Fraction
 
 from .design_text import Design, Name, plain
 from .libraries import Refusal
-from .texts import records_of
+from .texts import records_of, records_text
 from .tubes import Box, Certificate
 
 
@@ -21,7 +21,7 @@ class Promise:
 
 
 def certificate_text(s: Certificate) -> str:
-    return "".join(",".join(map(str, record)) + "\n" for record in s.records())
+    return records_text(s.records())
 
 
 def certificate_of(text: str, states: int) -> Certificate:

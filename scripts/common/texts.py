@@ -19,6 +19,11 @@ def records_of(text):
     return [[int(word.strip().strip('"')) for word in line.split(",")] for line in text.splitlines() if line]
 
 
+def records_text(records) -> str:
+    """The text of records, a line each."""
+    return "".join(",".join(map(str, record)) + "\n" for record in records)
+
+
 @dataclass
 class Controller:
     """The numbers of a controller text, by its words; exps has a step exponent for each row."""

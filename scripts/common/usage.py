@@ -39,8 +39,3 @@ def written(command: str) -> list[int]:
 def places_of(command: str) -> list[str]:
     """What the arguments of a command are called, in their order: a file's fault names its place among them."""
     return [word.lower() for word in named(table().get(command, []))]
-
-
-def files_of(command: str) -> list[str]:
-    """What the files of a command are called, in the order of its arguments."""
-    return [word.lower() for word in named([word for word in table().get(command, []) if not word.startswith("=")])]

@@ -17,6 +17,7 @@ from scripts.common.c_text import TWO_WORDS, CText
 from scripts.common.c_words import LONG, NARROW, PARTS, WIDE, Form, Sums, parts_fit
 from scripts.common.libraries import Refusal, answered
 from scripts.common.strict_texts import absolute_sums, safe_controller, strict_controller, strict_report
+from scripts.common.texts import records_text
 
 from . import c_trials
 from .controllers import random_controller, run, text_of
@@ -100,7 +101,7 @@ class Examples(unittest.TestCase):
             folder, c = self.controller(name)
             states = [c.lo, c.hi, [(3 * low + 5 * high) // 8 for low, high in zip(c.lo, c.hi)]]
             with open(os.path.join(folder, "states"), "w", encoding="ascii") as file:
-                file.write("".join(",".join(map(str, state)) + "\n" for state in states))
+                file.write(records_text(states))
             told = subprocess.run([PROGRAM, "solve", os.path.join(folder, "controller"), os.path.join(folder, "states")], check=True, capture_output=True, text=True).stdout
             self.assertEqual([[int(v) for v in line.split()[1:]] for line in told.splitlines()], [run(c, state) for state in states], name)
 

@@ -14,9 +14,9 @@ LACKING = missing(*PACKAGES)
 if not LACKING:
     from scripts import cells
     from scripts.common import cell_pictures, matching
+    from scripts.common.budget import Budget
     from scripts.common.corners import corners_of, margin_of, multiplier_of, steps_of
     from scripts.common.design_text import design_of, read_design
-    from scripts.common.progress import Progress
     from scripts.common.texts import read_text, records_of
 
 # the box -1 to 2 times -2 to 3
@@ -105,11 +105,28 @@ class Costs(unittest.TestCase):
 
     def test_search_lowers_the_mean(self):
         design = read_design(os.path.join(EXAMPLES, "motor", "design.toml"))
-        cuts = cells.search(design, 3, Progress("corners", 0))
+        cuts = cells.search(design, 3, cells.Guesses(design), Budget(60.0))
         self.assertEqual(cells.count_of(cuts), 3)
         found = [cells.made(cell, 0) for cell in cells.cells_of(design, cuts)]
         self.assertLess(cells.mean(found), 0.85 * 452)
         self.assertLessEqual(max(cell.steps for cell in found), 452)
+
+    def test_what_gains(self):
+        """A number counts where those before are about the same: less than a hundredth is nothing."""
+        found = [cells.against(worth, (100.0, 50.0)) for worth in ((100.0, 50.0), (99.5, 40.0), (98.0, 70.0), (101.0, 49.9), (99.5, 49.6))]
+        self.assertEqual(found, [(100.0, 50.0), (100.0, 40.0), (98.0, 70.0), (100.0, 50.0), (100.0, 50.0)])
+
+    def test_a_guess_where_a_corner_has_no_plan(self):
+        """Of 0 to 9 only 0 and 1 can be at most 1/4 after a stage."""
+        beyond = design_of(FIRST.replace("hi = [1]", "hi = [9]"))
+        guesses = cells.Guesses(beyond)
+        self.assertEqual(guesses.worth(beyond, [[]]), (1.0, 0.0, 0.0))
+        lacking, greatest, mean = guesses.worth(beyond, [[0]])
+        self.assertEqual((lacking, greatest), (0.9, mean))
+        self.assertEqual(guesses.words((0.9, 4.0, 4.0)), "the greatest K 4, the mean 4, 90 % of the box without a policy")
+        self.assertEqual(cells.search(beyond, 9, guesses, Budget(60.0))[0][0], 0)
+        # where the time is over nothing is tried
+        self.assertEqual(cells.search(beyond, 9, guesses, Budget(1e-9)), [[]])
 
     def test_mean_over_the_turns_of_loops(self):
         design = design_of(BOXES)

@@ -195,7 +195,7 @@ class WholeWay(unittest.TestCase):
         folder, paths = folder_with(self, states="1\n2\n3\n4\n", loop="1 1 5 8 0\n")
         answers = iter([(12, ["1 1 6 8 0", "1 2 6 8 0", "2 1 7 8 0"]), (0, ["1 1 8 8 0"])])
         with unittest.mock.patch.object(design, "looped", lambda *given: next(answers)), contextlib.redirect_stdout(io.StringIO()) as said:
-            design.add_other_starts(design.Steps(folder), "d", "c", paths["states"], paths["loop"], 2)
+            design.add_other_starts("d", "c", paths["states"], paths["loop"], 2)
         with open(paths["loop"], encoding="ascii") as file:
             self.assertEqual(file.read(), "1 1 5 8 0\n2 1 6 8 0\n2 2 6 8 0\n3 1 7 8 0\n4 1 8 8 0\n")
         self.assertIn("the loops of starts 1, 3 leave the box", said.getvalue())

@@ -280,6 +280,12 @@ class Commands(unittest.TestCase):
         self.assertIn(b"4 of 9 states", os.read(here, 1000))
         os.close(here)
 
+    def test_where_standard_error_is_closed(self):
+        """What is said goes nowhere, and not among what is printed."""
+        code = "from scripts.common import budget; from scripts.common.libraries import say\nwith budget.Budget(1):\n    say('words')\nprint('text')"
+        got = subprocess.run(["sh", "-c", 'exec "$@" 2>&-', "sh", "env", f"PYTHONPATH={TOP}", sys.executable, "-c", code], capture_output=True)
+        self.assertEqual((got.returncode, got.stdout), (0, b"text\n"))
+
     def test_wide_products_are_priced_as_such(self):
         """Three gains of 47 bits by multipliers of 17, and three factors of rows by plan entries that such gains reach, are two products of 32-bit words each, at four steps."""
         wide = FIRST_CONTROLLER.replace("W 256 -256 256", f"W {2**45} -256 256").replace("bits 10 0 1 26", "bits 10 0 1 80")

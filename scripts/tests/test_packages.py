@@ -1,4 +1,5 @@
 """The scripts, and the model of checks/fuzz, are packages that can be installed; from a checkout they run as they stand."""
+import ast
 import importlib.util
 import os
 import pathlib
@@ -79,6 +80,13 @@ class Style(unittest.TestCase):
     @unittest.skipIf(shutil.which("mypy") is None, "missing: mypy")
     def test_types_of_the_common_parts(self):
         self.passes("mypy", "--cache-dir", os.devnull)
+
+    def test_causes_of_faults(self):
+        """What is raised where another fault was caught says from which, or from none."""
+        for path in python_files():
+            caught = [node for node in ast.walk(ast.parse(path.read_text(encoding="utf-8"))) if isinstance(node, ast.ExceptHandler)]
+            raised = [node for handler in caught for part in handler.body for node in ast.walk(part) if isinstance(node, ast.Raise) and isinstance(node.exc, ast.Call)]
+            self.assertEqual([node.lineno for node in raised if node.cause is None], [], path)
 
     @unittest.skipIf(importlib.util.find_spec("pycodestyle") is None, "missing: pycodestyle")
     def test_errors_of_style(self):

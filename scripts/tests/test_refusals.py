@@ -731,13 +731,8 @@ mkdir -p crates/mpc_generate/out; printf '#!/bin/bash\necho built\n' >crates/mpc
         self.assertEqual({name: words.split() for name, words in listed if name not in ("explain", "design", "try")}, {name: [word.translate(marks) for word in words] for name, words in usage.table().items()})
 
     def test_usage_stands_once(self):
-        self.assertEqual(usage.files_of("loop"), ["design", "controller", "states", "disturbances"])
         self.assertEqual(usage.places_of("loop"), ["design", "controller", "states", "turns", "disturbances"])
         self.assertEqual(usage.places_of("c"), ["controller", "name", "source", "header"])
-        self.assertEqual(usage.files_of("c"), ["controller", "source", "header"])
-        self.assertEqual(usage.files_of("settle"), ["design", "controller", "certificate", "disturbances"])
-        self.assertEqual(usage.files_of("lean"), ["design", "policy", "reference", "controller", "report", "faces", "disturbances"])
-        self.assertEqual(usage.files_of("stay"), ["design", "policy", "controller", "report", "faces", "disturbances"])
 
     def test_input_reaches_the_program(self):
         self.assertEqual(self.launched("cat; exit 0", "solve").stdout, "")

@@ -6,8 +6,10 @@ import math
 import os
 import random
 import signal
+import time
 import tomllib
 import unittest
+import unittest.mock
 from dataclasses import replace
 from fractions import Fraction
 
@@ -23,6 +25,7 @@ if not LACKING:
     import numpy
 
     from scripts import faces, staying
+    from scripts.common import budget as budgets
     from scripts.common import turns
     from scripts.common.budget import Budget
     from scripts.common.design_text import read_design
@@ -410,13 +413,19 @@ class Boxes(unittest.TestCase):
         self.assertAlmostEqual(found.stay[0], 0.045)
 
     def test_interrupted(self):
-        with contextlib.redirect_stderr(io.StringIO()) as said, Budget(1000) as budget:
-            self.assertTrue(budget.goes_on())
-            os.kill(os.getpid(), signal.SIGINT)
-            self.assertFalse(budget.goes_on())
-            budget.told -= 10
-            budget.goes_on()
-        self.assertRegex(said.getvalue(), "^interrupted: the best so far is kept\n[0-9]+ % of 1000 s, 2 trials: nothing yet\n$")
+        """A line stands there every few seconds, also within a trial whose own words are kept back, and none after the search."""
+        with unittest.mock.patch.object(budgets, "EVERY", 0.05), contextlib.redirect_stderr(io.StringIO()) as said:
+            with Budget(1000) as budget, contextlib.redirect_stderr(io.StringIO()):
+                self.assertTrue(budget.goes_on())
+                time.sleep(0.5)
+            with Budget(1000) as other:
+                os.kill(os.getpid(), signal.SIGINT)
+                self.assertFalse(other.goes_on())
+            before = said.getvalue()
+            time.sleep(0.2)
+        line = "([0-9]+ % of 1000 s, 1 trials: nothing yet\n)"
+        self.assertRegex(before.replace("0 trials", "1 trials"), f"^{line}{{2,}}interrupted: the best so far is kept\n{line}*$")
+        self.assertEqual(said.getvalue(), before)
 
 
 def lean_excess_of(design):

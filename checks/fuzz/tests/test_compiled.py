@@ -7,8 +7,9 @@ import tempfile
 import unittest
 
 from checks.fuzz import cases, compiled, control
+from checks.rows.texts import sub
 
-from .worked import CONTROLLER, sub, told
+from .worked import CONTROLLER, told
 
 STRICT = ["-O2", "-Wall", "-Wextra", "-Wconversion", "-Wsign-conversion", "-Wpedantic", "-Werror", "-std=c99"]
 COMPILERS = [name for name in ("gcc", "clang") if shutil.which(name)]

@@ -3,8 +3,9 @@ import random
 import unittest
 
 from checks.fuzz import cases, control, listing, model
+from checks.rows.texts import sub
 
-from .worked import CONTROLLER, DESIGN, sub, told
+from .worked import CONTROLLER, DESIGN, told
 
 TEXT = told("list c l", c=CONTROLLER)[3]["l"].encode()
 SECOND = sub(CONTROLLER, (b"mpc-controller 1", b"mpc-controller 2"), (b"words 6\n", b"words 6\nexps 1 1 0\n"))

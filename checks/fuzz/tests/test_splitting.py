@@ -3,8 +3,9 @@ import random
 import unittest
 
 from checks.fuzz import at_corners, cases, control, model, program, split_boxes, split_cases
+from checks.rows.texts import sub
 
-from .worked import CONTROLLER, DESIGN, POLICY, sub, told
+from .worked import CONTROLLER, DESIGN, POLICY, refusal, told
 
 CUTS, PLANS = b"1,0\n", b"1,0\n1,0\n8,-7\n8,-7\n"
 # the controllers of 0 and of 1, and the reports of the first design with these boxes
@@ -40,14 +41,6 @@ def cut(low, high):
     """One who cuts a box of one coordinate."""
     design = model.read_design(sub(DESIGN, (b"lo = [0]\nhi = [1]", b"lo = [%d]\nhi = [%d]" % (low, high))))
     return lambda data: split_boxes.read_cuts(data, design)
-
-
-def refusal(of, *words):
-    try:
-        of(*words)
-    except model.Refused as refused:
-        return refused.args
-    return None
 
 
 class Cuts(unittest.TestCase):

@@ -4,8 +4,9 @@ import unittest
 from fractions import Fraction
 
 from checks.fuzz import control, held_boxes, model, program
+from checks.rows.texts import sub
 
-from .worked import CONTROLLER, DESIGN, POLICY, sub, told
+from .worked import CONTROLLER, DESIGN, POLICY, refusal, told
 
 # x+ = x + u from 0 to 1, whose next state is to lie in it, too
 HELD = sub(DESIGN, (b"final = [[4, 1]]", b"final = [[4, 1], [-4, 1]]"), (b"den = 1\nviolation = 16\ngap = 1", b"den = 10\nviolation = 1\ngap = 10"))
@@ -16,14 +17,6 @@ STILL = [0], [0]
 
 def design_of(*changes):
     return model.read_design(sub(HELD, *changes))
-
-
-def refusal(of, *words):
-    try:
-        of(*words)
-    except model.Refused as refused:
-        return refused.args
-    return None
 
 
 class Faces(unittest.TestCase):

@@ -14,11 +14,13 @@ def example(name):
 DESIGN, POLICY, CONTROLLER = map(example, ("design.toml", "policy.csv", "controller.txt"))
 
 
-def sub(text, *pairs):
-    for old, new in pairs:
-        assert text.count(old) == 1, (old, text.count(old))
-        text = text.replace(old, new)
-    return text
+def refusal(of, *words):
+    """What a call refuses with, or nothing."""
+    try:
+        of(*words)
+    except model.Refused as refused:
+        return refused.args
+    return None
 
 
 def told(words, **files):
