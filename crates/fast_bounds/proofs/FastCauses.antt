@@ -1,24 +1,28 @@
 -- A cause is what a list of tests tells, and so there is one at most.
-use Rattle.std.proofs.Common.{◌≡◌, inl, inr, ℕ, ◌<◌, ◌≤◌, List, unsigned_abs, arith, ap, sym, ◌∙◌, pos}
+use Rattle.std.proofs.Common.{◌≡◌, inl, inr, ℕ, ◌<◌, ◌≤◌, List, ℤ, pos, unsigned_abs, arith, rules, refl, ap, sym, ◌∙◌}
 use Rattle.std.proofs.lemmas.Bool.{cases_lt}
 use Rattle.qp_model.specs.form.Class.{form_of}
+use Rattle.qp_model.specs.problem.Design.{Design}
 use Rattle.qp_model.specs.problem.Parts.{IsDesign, design_of}
+use Rattle.qp_model.specs.problem.Policy.{Plans}
 use Rattle.qp_model.specs.declared.design_parts.DesignParts.{DesignParts}
 use Rattle.qp_model.specs.declared.quantity.Quantity.TheVariants.{Multiplier, Excess, Error, Descent, Width}
 use Rattle.qp_model.specs.declared.refusal.Refusal.{Refusal}
-use Rattle.qp_model.specs.declared.refusal.Refusal.TheVariants.{TooManySteps}
+use Rattle.qp_model.specs.declared.refusal.Refusal.TheVariants.{Memory, TooManySteps, TooFine}
+use Rattle.controller_maker.specs.Widest.{fast_width_size}
 use Rattle.hessian_check.specs.RowExponents.{AreExponentsOf}
 use Rattle.dual_bounds.specs.FastSteps.{quarter_steps, IsLeastQuarter}
 use Rattle.step_error.specs.CarriedErrors.{run_sums_of}
 use Rattle.step_error.proofs.SumFacts.{floor_range}
 use Rattle.overflow_check.specs.FastController.{most_fast_steps}
-use Rattle.design_engine.specs.Stages.{Nothing, OfForm}
+use Rattle.design_engine.specs.Stages.{Nothing, Sized, Finds, OfForm}
+use Rattle.design_engine.specs.Targets.{Targets}
 use Rattle.design_engine.specs.declared.aimed.Aim.{Aim}
-use Rattle.design_engine.proofs.TestLaws.{IsOne, IsNone, nothing_one, nothing_none, sized_one, sized_none, finds_one, finds_none}
+use Rattle.design_engine.proofs.TestLaws.{IsOne, IsNone, IsApart, nothing_one, nothing_none, sized_one, sized_none, sized_apart, finds_one, finds_none}
 use Rattle.design_engine.proofs.OneOfEach.{one_choice, no_choice, one_exponents}
-use Rattle.design_engine.proofs.StageLaws.{form_one, form_none, corners_one, corners_none}
+use Rattle.design_engine.proofs.StageLaws.{form_one, form_none, form_apart, corners_one, corners_none, corners_apart}
 use Rattle.lean_engine.specs.Refusals.{aim_at}
-use Rattle.fast_bounds.specs.FastRefusals.{AreStepsFor, AreFastBitsOf, AfterFastBits, IsFastFine, AfterExponents, IsFastLong, HasFastAimCause, AfterFastExponent, PassesFastAim, FastCausesLaw, FastPassingLaw}
+use Rattle.fast_bounds.specs.FastRefusals.{AreStepsFor, AreFastBitsOf, AfterFastBits, IsFastFine, AfterExponents, IsFastLong, HasFastAimCause, AfterFastExponent, HasFastCause, PassesFastAim, FastCausesLaw, FastPassingLaw}
 
 -- ---- the steps
 pub one_quarter : (n a b : ℕ) → IsLeastQuarter n a → IsLeastQuarter n b → a ≡ b
@@ -62,6 +66,26 @@ module _ (p : DesignParts) (a : Aim) (design : IsDesign p) (s : ℕ) where
       (AfterFastBits (design_of p) a s k) f (fine_clash k es) (one_choice _ _ _) h.choice
       (sized_none Descent _ _ h.descent (sized_none Width _ Nothing h.width nothing_none)))))
 
+-- out of memory is told by none of them
+fast_aim_apart : (d : Design) (a : Aim) (s : ℕ) → IsApart (HasFastAimCause d a s)
+fast_aim_apart d a s e memory (inl h) = long (pos h.0) (sym memory ∙ h.1)
+  where
+    long : (k : ℤ) → Memory ≡ TooManySteps k → ⊥
+    long k g = search rules
+fast_aim_apart d a s e memory (inr h) = exponents h.0 e memory h.2
+  where
+    fine : (eps : ℤ) → Memory ≡ TooFine eps → ⊥
+    fine eps g = search rules
+
+    chosen : (k : ℕ) (es : List ℕ) → IsApart (Finds ℕ (IsFastFine d a s k es) (AreFastBitsOf d a s k es) (AfterFastBits d a s k))
+    chosen k es e memory (inl h) = fine _ (sym memory ∙ h.0)
+    chosen k es e memory (inr h) = sized_apart Descent _ (Sized Width (fast_width_size d (unsigned_abs a.r) s k h.0) Nothing)
+        (sized_apart Width _ Nothing (λ e memory never. never)) e memory h.2
+
+    exponents : (k : ℕ) → IsApart (Finds (List ℕ) Nothing (AreExponentsOf d s) (AfterExponents d a s k))
+    exponents k e memory (inl h) = absurd h
+    exponents k e memory (inr h) = sized_apart Error _ _ (chosen k h.0) e memory h.2
+
 -- ---- a design with a policy and reference plans
 pub one_cause : FastCausesLaw
 one_cause p plans references t e other design policy =
@@ -75,3 +99,7 @@ no_cause p plans references t m s k es f e design policy h =
     corners_none p plans (λ m. OfForm d (AfterFastExponent d t plans references m)) design policy m h.margin.room h.margin.margin h.margin.slack
     (form_none d (AfterFastExponent d t plans references m) s h.form h.exponent
     (sized_none Excess _ _ h.excess (sized_none Multiplier _ _ h.multiplier (fast_aim_none p (aim_at d t plans references m) design s k es f h.aim)))) e
+
+pub memory_apart : (d : Design) (t : Targets) (plans references : Plans) → HasFastCause d t plans references Memory → ⊥
+memory_apart d t plans references = corners_apart d plans (λ m. OfForm d (AfterFastExponent d t plans references m))
+    (λ m. form_apart d (AfterFastExponent d t plans references m) (λ s. sized_apart Excess _ _ (sized_apart Multiplier _ _ (fast_aim_apart d (aim_at d t plans references m) s)))) Memory refl

@@ -119,7 +119,7 @@ real_cost_le p h r c design form made =
     more : {a b : ℕ} (t : ℕ) → a ≤ b → a + t ≤ b + t
     more {a} {b} t h = omega (arith, h)
 
-cost_limited : (p : DesignParts) (a : Aim) (c : Numbers) → IsFastMadeWith p a c →
+pub cost_limited : (p : DesignParts) (a : Aim) (c : Numbers) → IsFastMadeWith p a c →
     cost_for p (form_of (design_of p)) (unsigned_abs a.r) c (real_errors (design_of p) (form_of (design_of p)) (unsigned_abs a.r) c) ≤ unsigned_abs a.error_target
 cost_limited p a c h =
     omega (arith, real_cost_le p (form_of (design_of p)) (unsigned_abs a.r) c h.design (form_law p h.design h.narrow) h.made, h.bits.within)

@@ -13,5 +13,8 @@ pub mod FastCauses
 -- ---- what is made
 pub mod FastPrinted
 pub mod FastNumbers
-pub mod FastMade
+pub mod FastAssembled
+pub mod FastResiduals
+pub mod FastAnswers
+pub mod FastPriced
 mod FastBoundsWorked

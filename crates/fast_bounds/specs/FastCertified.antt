@@ -1,6 +1,6 @@
 -- What a controller of the accelerated machine is certified for, and what that rests on: in each bound k (k + 3) stands for the k steps of the plain machine,
 -- and each step exponent is greater by two.
-use Rattle.std.specs.Prelude.{◌≡◌, ℕ, ◌+◌, ◌^◌, ◌≤◌, ℤ, pos, ◌≤ℤ◌, List, length, unsigned_abs}
+use Rattle.std.specs.Prelude.{◌≡◌, ℕ, ◌+◌, ◌^◌, ◌≤◌, ℤ, pos, ◌≤ℤ◌, List, length, unsigned_abs, true}
 use Rattle.integer_algebra.specs.Sums.{at}
 use Rattle.qp_model.specs.problem.Design.{Design}
 use Rattle.qp_model.specs.problem.Parts.{IsDesign, design_of}
@@ -109,6 +109,7 @@ pub record IsFastBuilt (p : DesignParts) (plans references : Plans) (c : Numbers
   pub slack : pos 1 ≤ℤ b.margin
   pub excess : b.cost ≡ pos (excess_of (design_of p) (form_of (design_of p)) plans references)
   pub made : IsFastMadeWith p (lean_aim (targets_of p) (unsigned_abs b.margin) (unsigned_abs b.cost)) c
+  pub lean : b.lean ≡ true
   pub bounds : AreFastThresholdBoundsOf c b (printed_bound p b) (violation_target (targets_of p))
       (cost_for p (form_of (design_of p)) (printed_bound p b) c (real_errors (design_of p) (form_of (design_of p)) (printed_bound p b) c))
 

@@ -97,6 +97,14 @@ pub record PassesFast (d : Design) (t : Targets) (plans references : Plans) (m :
   pub multiplier : fast_multiplier_size_at d t plans references m ≤ 2 ^ 126
   pub aim : PassesFastAim d (aim_at d t plans references m) s k exponents f
 
+-- some numbers do
+abbrev pub PassesSomeFastAim : Design → Aim → ℕ → Type 0
+PassesSomeFastAim d a s = (k : ℕ) × (exponents : List ℕ) × (f : ℕ) × PassesFastAim d a s k exponents f
+
+abbrev pub PassesSomeFast : Design → Targets → (plans references : Plans) → Type 0
+PassesSomeFast d t plans references =
+    (m : Margin) × (s : ℕ) × (k : ℕ) × (exponents : List ℕ) × (f : ℕ) × PassesFast d t plans references m s k exponents f
+
 -- ---- at most one refusal has a cause, and none has one where every test is passed
 abbrev pub FastCausesLaw : Type 0
 FastCausesLaw = (p : DesignParts) (plans references : Plans) (t : Targets) (e other : Refusal) → IsDesign p → IsPolicyFor (design_of p) plans →

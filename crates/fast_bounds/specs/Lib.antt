@@ -2,3 +2,4 @@ pub mod FastDesign
 pub mod FastCertified
 pub mod FastRefusals
 pub mod FastTerms
+pub mod FastAnswers

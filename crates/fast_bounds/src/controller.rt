@@ -1,6 +1,7 @@
 // A controller of the accelerated machine of a design, whose numbers are chosen.
 ghost use Rattle.std.specs.Prelude.{unsigned_abs, IfOk, IfErr, OnOk};
 ghost use Rattle.qp_model.specs.problem.Parts.{design_of};
+ghost use Rattle.controller_maker.specs.Assembled.{IsFastAssembled};
 ghost use Rattle.design_engine.specs.Aims.{IsAim, IsSteppedFormOf};
 ghost use Rattle.design_engine.specs.Tests.{IsRefusedFor};
 ghost use Rattle.fast_bounds.specs.FastCertified.{IsFastMadeWith};
@@ -32,6 +33,7 @@ pub fn fast_controller_with(
     requires aim { IsAim aim }
     requires chosen { PassesFastBits (design_of design.now) aim stepped.now.s steps exps.items f }
     ensures made { IfOk result (IsFastMadeWith design.now aim) }
+    ensures assembled { IfOk result (IsFastAssembled (design_of design.now) (unsigned_abs aim.r) stepped.now.s exps.items steps f) }
     ensures passes { OnOk result (PassesFastAim (design_of design.now) aim stepped.now.s steps exps.items f) }
     ensures refused { IfErr result (IsRefusedFor (HasFastAimCause (design_of design.now) aim stepped.now.s)) }
 {

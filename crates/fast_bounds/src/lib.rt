@@ -1,13 +1,17 @@
 //! Controllers of the accelerated machine that are made for a design, and what they promise.
 #![tactic(auto)]
 
+mod aimed;
 mod bounds;
 mod controller;
+mod generation;
 mod laws;
 mod numbers;
+mod residuals;
 
 pub use bounds::fast_bounds_of;
 pub use controller::fast_controller_with;
+pub use generation::{FastMade, generate_fast};
 pub use laws::{
     fast_carried_law, fast_causes_law, fast_certified_law, fast_design_run_law, fast_lean_law,
     fast_stated_run_law, plan_errors_law,

@@ -7,7 +7,7 @@ use Rattle.design_engine.proofs.AnswerLaws.{absent_of_error, ok_of_error}
 use Rattle.design_engine.proofs.RefusalFacts.{refused_by}
 use Rattle.design_engine.proofs.GenerationFacts.{size_kept}
 use Rattle.design_engine.proofs.BuiltFacts.{exponent_small}
-use Rattle.fast_bounds.proofs.FastMade.{solve_refused, width_refused, exponents_held, made_from}
+use Rattle.fast_bounds.proofs.FastAssembled.{solve_refused, width_refused, exponents_held, made_from}
 use Rattle.fast_bounds.proofs.controller.fast_controller_with.Goals as goal
 
 -- ---- the gains
@@ -68,6 +68,11 @@ returns-clause-made c =
     made_from p c.args.aim c.in_ok-fast_controller_of.field-0 c.args.stepped.now.s _ _ _ _ c.requires.stepped.form.design c.requires.stepped.form.sizes.cost_room
     (c.requires.stepped.exponent p c.requires.stepped.form) c.requires.chosen (search rules) (size_kept c.args.aim.r r) c.in_ok-fast_controller_of.ensures.made
 
+pub returns-clause-assembled : goal.returns-clause-assembled
+returns-clause-assembled c =
+    let r : SFits w128 c.args.aim.r = search rules in
+    rw (to_z-of_z w128 _ r) at c.in_ok-fast_controller_of.ensures.made
+
 pub returns-clause-passes : goal.returns-clause-passes
 returns-clause-passes c =
     let r : SFits w128 c.args.aim.r = search rules in
@@ -86,11 +91,17 @@ returns-clause-passes c =
 pub returns-in_err-gains-clause-made : goal.returns-in_err-gains-clause-made
 returns-in_err-gains-clause-made c = absent_of_error c.from_residual.result _ c.from_residual.ensures.0
 
+pub returns-in_err-gains-clause-assembled : goal.returns-in_err-gains-clause-assembled
+returns-in_err-gains-clause-assembled c = absent_of_error c.from_residual.result _ c.from_residual.ensures.0
+
 pub returns-in_err-gains-clause-passes : goal.returns-in_err-gains-clause-passes
 returns-in_err-gains-clause-passes c = ok_of_error c.from_residual.result _ c.from_residual.ensures.0
 
 pub returns-in_err-fast_controller_of-clause-made : goal.returns-in_err-fast_controller_of-clause-made
 returns-in_err-fast_controller_of-clause-made c = absent_of_error c.from_residual-in_err-fast_controller_of.result _ c.from_residual-in_err-fast_controller_of.ensures.0
+
+pub returns-in_err-fast_controller_of-clause-assembled : goal.returns-in_err-fast_controller_of-clause-assembled
+returns-in_err-fast_controller_of-clause-assembled c = absent_of_error c.from_residual-in_err-fast_controller_of.result _ c.from_residual-in_err-fast_controller_of.ensures.0
 
 pub returns-in_err-fast_controller_of-clause-passes : goal.returns-in_err-fast_controller_of-clause-passes
 returns-in_err-fast_controller_of-clause-passes c = ok_of_error c.from_residual-in_err-fast_controller_of.result _ c.from_residual-in_err-fast_controller_of.ensures.0

@@ -1,28 +1,45 @@
 -- What is made for a design with an aim, and why the last tests refuse it.
-use Rattle.std.proofs.Common.{◌≡◌, inl, inr, ℕ, ◌^◌, ◌<◌, ◌≤◌, List, unsigned_abs, arith, refl, ◌∙◌}
+use Rattle.std.proofs.Common.{◌≡◌, inl, inr, ℕ, ◌+◌, ◌^◌, ◌<◌, ◌≤◌, ℤ, pos, List, unsigned_abs, arith, refl, ap, ◌∙◌}
+use Rattle.std.proofs.lemmas.Bool.{cases_lt}
 use Rattle.qp_model.specs.form.Class.{form_of, hessian_quantity}
 use Rattle.qp_model.specs.form.Columns.{descent_size}
 use Rattle.qp_model.specs.problem.Design.{Design}
 use Rattle.qp_model.specs.problem.Parts.{IsDesign, design_of}
+use Rattle.qp_model.specs.bounds.Choices.{step_count}
 use Rattle.qp_model.specs.machine.Controller.{Numbers}
 use Rattle.qp_model.specs.refusal.Refusing.{of_size}
 use Rattle.qp_model.specs.declared.design_parts.DesignParts.{DesignParts}
 use Rattle.qp_model.specs.declared.size_fault.SizeFault.{SizeFault}
 use Rattle.qp_model.specs.declared.size_fault.SizeFault.TheVariants.{Memory as size_memory, TooWide as size_wide}
 use Rattle.qp_model.specs.declared.refusal.Refusal.{Refusal}
+use Rattle.qp_model.specs.declared.refusal.Refusal.TheVariants.{TooManySteps}
 use Rattle.approx_inverse.specs.Fault.{IsFault}
 use Rattle.controller_maker.specs.Fault.{IsWidthFault}
 use Rattle.controller_maker.specs.Widest.{fast_width_size}
 use Rattle.controller_maker.specs.Assembled.{HasFastExponents, IsFastAssembled}
+use Rattle.dual_bounds.specs.FastSteps.{quarter_steps}
+use Rattle.dual_bounds.proofs.QuarterLaws.{few}
 use Rattle.hessian_check.specs.Steps.{IsExponentOf}
 use Rattle.hessian_check.specs.RowExponents.{AreExponentsOf}
-use Rattle.overflow_check.specs.FastController.{IsFastController}
+use Rattle.overflow_check.specs.FastController.{most_fast_steps, IsFastController}
 use Rattle.design_engine.specs.Tests.{IsRefusedFor}
 use Rattle.design_engine.specs.declared.aimed.Aim.{Aim}
 use Rattle.design_engine.proofs.BuiltFacts.{exponents_listed}
 use Rattle.fast_bounds.specs.FastCertified.{IsFastMadeWith}
-use Rattle.fast_bounds.specs.FastRefusals.{AfterFastBits, HasFastAimCause}
+use Rattle.fast_bounds.specs.FastRefusals.{AreStepsFor, AfterFastBits, HasFastAimCause}
 use Rattle.fast_bounds.specs.FastTerms.{PassesFastBits}
+
+-- ---- the steps
+-- they are too many
+pub steps_refused : (d : Design) (a : Aim) (s : ℕ) (k : ℤ) → quarter_steps 65534 < step_count (s + 2) (unsigned_abs a.r) (unsigned_abs a.step_target) →
+    (k ≡ pos (unsigned_abs k)) × AreStepsFor a s (unsigned_abs k) → (e : Refusal) → e ≡ TooManySteps k → HasFastAimCause d a s e
+steps_refused d a s k many h e j = inl (unsigned_abs k, j ∙ ap (λ (n : ℤ). TooManySteps n) h.0, (h.1, more (unsigned_abs k) h.1))
+  where
+    more : (n : ℕ) → AreStepsFor a s n → most_fast_steps < n
+    more n steps = elim (cases_lt most_fast_steps n) [ inl l ↦ l | inr l ↦ absurd (clash many (few _ n steps l)) ]
+      where
+        clash : {a b : ℕ} → a < b → b ≤ a → ⊥
+        clash {a} {b} h k = omega (arith, h, k)
 
 -- ---- the last tests
 module _ (d : Design) (a : Aim) (s k : ℕ) (es : List ℕ) (f : ℕ) (passes : PassesFastBits d a s k es f) where
