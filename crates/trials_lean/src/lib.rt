@@ -2,4 +2,6 @@
 #![tactic(auto)]
 
 #[cfg(test)]
+mod fast_rows;
+#[cfg(test)]
 mod rows;

@@ -25,7 +25,7 @@ const CLOSER: Changed = (
 );
 
 // The first worked design in the second version of the format, in which each row has a step exponent of its own.
-const SECOND: Changed = (
+pub(crate) const SECOND: Changed = (
     DESIGN,
     &[
         ("version = 1", "version = 2"),
@@ -34,20 +34,20 @@ const SECOND: Changed = (
 );
 
 // What is expected of a controller and its bounds.
-struct Row {
-    design: Changed<'static>,
-    policy: &'static [u8],
-    reference: &'static [u8],
+pub(crate) struct Row {
+    pub(crate) design: Changed<'static>,
+    pub(crate) policy: &'static [u8],
+    pub(crate) reference: &'static [u8],
     // The margin, the excess, R, the violation, the gap and the undercut.
-    bounds: [i128; 6],
+    pub(crate) bounds: [i128; 6],
     // The step exponent, the steps, the bits, the width and the words.
-    sizes: [usize; 5],
-    clamp: i128,
-    rows: &'static [i128],
+    pub(crate) sizes: [usize; 5],
+    pub(crate) clamp: i128,
+    pub(crate) rows: &'static [i128],
 }
 
 // Whether a report's numbers are those of a row.
-fn has_bounds(b: &Bounds, row: &Row) -> bool {
+pub(crate) fn has_bounds(b: &Bounds, row: &Row) -> bool {
     b.lean
         && [
             b.margin,
@@ -113,9 +113,9 @@ fn is_row_of(alloc: Global, row: &Row) -> Result<bool, Fail> {
     Ok(is_row(answer, row))
 }
 
-const PLANS: &[u8] = b"1,0\n8,-7\n";
+pub(crate) const PLANS: &[u8] = b"1,0\n8,-7\n";
 
-const BEST: &[u8] = b"1,0\n2,-1\n";
+pub(crate) const BEST: &[u8] = b"1,0\n2,-1\n";
 
 static FIRST: [Row; 3] = [
     Row {
