@@ -15,8 +15,8 @@ handed A is passed cause from (Ok x) e h f = absurd h
 handed A is passed cause from (Err x) e h f = record { made = tt; passes = tt; refused = f x h }
 
 -- the same of an answer, in other words
-pub told_as : (A : Type 0) (is other : A → Type 0) (passed more : Type 0) (cause why : Refusal → Type 0) (r : Result A Refusal) → ((x : A) → is x → other x) → (passed → more) →
-    ((e : Refusal) → IsRefusedFor cause e → IsRefusedFor why e) → TellsOf A is passed cause r → TellsOf A other more why r
+pub told_as : (A : Type 0) (is other : A → Type 0) (passed more : Type 0) (cause why : Refusal → Type 0) (r : Result A Refusal) →
+    ((x : A) → is x → other x) → (passed → more) → ((e : Refusal) → IsRefusedFor cause e → IsRefusedFor why e) → TellsOf A is passed cause r → TellsOf A other more why r
 told_as A is other passed more cause why (Ok x) f g k h = record { made = f x h.made; passes = g h.passes; refused = tt }
 told_as A is other passed more cause why (Err e) f g k h = record { made = tt; passes = tt; refused = k e h.refused }
 

@@ -22,7 +22,8 @@ use Rattle.design_engine.proofs.TestLaws.{IsOne, IsNone, IsApart, nothing_one, n
 use Rattle.design_engine.proofs.OneOfEach.{one_choice, no_choice, one_exponents}
 use Rattle.design_engine.proofs.StageLaws.{form_one, form_none, form_apart, corners_one, corners_none, corners_apart}
 use Rattle.lean_engine.specs.Refusals.{aim_at}
-use Rattle.fast_bounds.specs.FastRefusals.{AreStepsFor, AreFastBitsOf, AfterFastBits, IsFastFine, AfterExponents, IsFastLong, HasFastAimCause, AfterFastExponent, HasFastCause, PassesFastAim, FastCausesLaw, FastPassingLaw}
+use Rattle.fast_bounds.specs.FastRefusals.{AreStepsFor, AreFastBitsOf, AfterFastBits, IsFastFine, AfterExponents, IsFastLong, HasFastAimCause, PassesFastAim}
+use Rattle.fast_bounds.specs.FastRefusals.{AfterFastExponent, HasFastCause, FastCausesLaw, FastPassingLaw}
 
 -- ---- the steps
 pub one_quarter : (n a b : ℕ) → IsLeastQuarter n a → IsLeastQuarter n b → a ≡ b
@@ -102,4 +103,5 @@ no_cause p plans references t m s k es f e design policy h =
 
 pub memory_apart : (d : Design) (t : Targets) (plans references : Plans) → HasFastCause d t plans references Memory → ⊥
 memory_apart d t plans references = corners_apart d plans (λ m. OfForm d (AfterFastExponent d t plans references m))
-    (λ m. form_apart d (AfterFastExponent d t plans references m) (λ s. sized_apart Excess _ _ (sized_apart Multiplier _ _ (fast_aim_apart d (aim_at d t plans references m) s)))) Memory refl
+    (λ m. form_apart d (AfterFastExponent d t plans references m)
+    (λ s. sized_apart Excess _ _ (sized_apart Multiplier _ _ (fast_aim_apart d (aim_at d t plans references m) s)))) Memory refl

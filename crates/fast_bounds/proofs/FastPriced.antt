@@ -58,8 +58,10 @@ bound_narrow units excess share r e h = close excess (lean_multiplier units exce
 pub bound_of_target : (units excess : ℕ) (z : ℤ) (t : ℕ) (r : ℤ) → z ≡ pos t →
     (fast_multiplier_size units excess (unsigned_abs z) ≤ 2 ^ 126) × (r ≡ pos (lean_multiplier units excess (unsigned_abs z))) →
     (fast_multiplier_size units excess t ≤ 2 ^ 126) × (r ≡ pos (lean_multiplier units excess t))
-bound_of_target units excess z t r e h =
-    (subst (λ (n : ℕ). fast_multiplier_size units excess n ≤ 2 ^ 126) (ap unsigned_abs e) h.0, h.1 ∙ ap (λ (n : ℕ). pos (lean_multiplier units excess n)) (ap unsigned_abs e))
+bound_of_target units excess z t r e h = (
+  subst (λ (n : ℕ). fast_multiplier_size units excess n ≤ 2 ^ 126) (ap unsigned_abs e) h.0,
+  h.1 ∙ ap (λ (n : ℕ). pos (lean_multiplier units excess n)) (ap unsigned_abs e),
+)
 
 -- a lean controller's terms have a target
 pub terms_some : (t : Targets) (units excess : ℕ) (x : Terms) → x ≡ lean_terms t units excess → IsSome x.target
@@ -91,8 +93,9 @@ module _ (d : Design) (t : Targets) (plans references : Plans) where
     excess_refused (size_wide quantity) (inl memory) e f = absurd (search rules)
     excess_refused (size_wide quantity) (inr wide) e f = inr (after e (inl (f ∙ ap of_size wide.0, wide.1)))
 
-    pub multiplier_refused : (x share : ℕ) (quantity : Quantity) → policy_excess_size d plans references ≤ 2 ^ 126 → x ≡ policy_excess d plans references → share ≡ floor_target t →
-        (fast_multiplier_size (unsigned_abs m.units) x share ≤ 2 ^ 126 → ⊥) → quantity ≡ Multiplier → (e : Refusal) → e ≡ TooWide quantity → IsRefusedFor (HasFastCause d t plans references) e
+    pub multiplier_refused : (x share : ℕ) (quantity : Quantity) → policy_excess_size d plans references ≤ 2 ^ 126 → x ≡ policy_excess d plans references →
+        share ≡ floor_target t → (fast_multiplier_size (unsigned_abs m.units) x share ≤ 2 ^ 126 → ⊥) → quantity ≡ Multiplier → (e : Refusal) → e ≡ TooWide quantity →
+        IsRefusedFor (HasFastCause d t plans references) e
     multiplier_refused x share quantity room f g refuted named e is =
         inr (after e (inr (room, inl (is ∙ ap (λ (q : Quantity). TooWide q) named, rw (f, g) at (above (fast_multiplier_size (unsigned_abs m.units) x share) refuted)))))
       where
@@ -142,7 +145,8 @@ module _ (p : DesignParts) (plans references : Plans) (m : Margin) (policy : IsP
   pub fast_told : (s : ℕ) (x : Terms) (r : Result FastMade Refusal) → PassesScaling (design_of p) (targets_of p) plans m s →
       policy_excess_size (design_of p) plans references ≤ 2 ^ 126 → fast_multiplier_size_at (design_of p) (targets_of p) plans references m ≤ 2 ^ 126 → x ≡ Priced →
       TellsOf FastMade (IsFastMadeBy p x) (PassesSomeFastAim (design_of p) x.aim s) (HasFastAimCause (design_of p) x.aim s) r →
-      TellsOf FastMade (IsFastBuiltAs p plans references) (PassesSomeFast (design_of p) (targets_of p) plans references) (HasFastCause (design_of p) (targets_of p) plans references) r
+      TellsOf FastMade (IsFastBuiltAs p plans references) (PassesSomeFast (design_of p) (targets_of p) plans references)
+      (HasFastCause (design_of p) (targets_of p) plans references) r
   fast_told s x r before excess multiplier is h =
       told_as FastMade (IsFastMadeBy p Priced) _ _ _ _ _ r (λ made. fast_built made before.margin.margin before.margin.slack)
       (λ k. (m, s, k.0, k.1, k.2, record { margin = before.margin; form = before.form; exponent = before.exponent; excess = excess; multiplier = multiplier; aim = k.3 }))

@@ -61,8 +61,8 @@ stated_as p a s k es y n numbers is = numbers.cost ∙
     (λ i. pos (fast_stated_cost (design_of p) (unsigned_abs a.r) (sym is.step_exponent i) (sym is.steps i) (sym is.exponents i) (sym is.fraction_bits i)))
 
 -- ---- what is said of its numbers, by other names of these
-module _ (p : DesignParts) (r : ℕ) (c : Condensed) (e : ErrorSums) (k n : Numbers) (t : List ℤ) (es : List ℕ) (same : n ≡ k) (offsets : t ≡ n.offsets) (exponents : es ≡ n.exponents)
-    (sound : IsFastController n) (given : IsFastGivenFor p r c e k) where
+module _ {p : DesignParts} {r : ℕ} {c : Condensed} {e : ErrorSums} {k n : Numbers} {t : List ℤ} {es : List ℕ}
+    (same : n ≡ k) (offsets : t ≡ n.offsets) (exponents : es ≡ n.exponents) (sound : IsFastController n) (given : IsFastGivenFor p r c e k) where
   shaped : IsShaped (with_last_version n)
   shaped = sound.form.sized.rest.shaped
 

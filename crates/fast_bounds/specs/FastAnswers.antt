@@ -33,8 +33,8 @@ stated_cost_for d r c = fast_stated_cost d r c.step_exponent c.steps c.exponents
 
 -- ---- what is made
 -- the run that an aim asks for, with the step exponent s
-abbrev pub IsFastRunOf : DesignParts → Aim → ℕ → FastRun → Type 0
-IsFastRunOf p a s x = AreRunNumbersOf p a s x.steps x.exps.items x.numbers
+abbrev pub IsRunForAim : DesignParts → Aim → ℕ → FastRun → Type 0
+IsRunForAim p a s x = AreRunNumbersOf p a s x.steps x.exps.items x.numbers
 
 -- a controller with an aim, and what the errors of its run cost
 pub record IsFastAimedOf (p : DesignParts) (a : Aim) (x : FastAimed) : Type 0 where

@@ -3,7 +3,7 @@ ghost use Rattle.std.specs.Prelude.{◌^◌, pos, ◌≤ℤ◌, unsigned_abs, If
 ghost use Rattle.qp_model.specs.problem.Parts.{design_of};
 ghost use Rattle.design_engine.specs.Aims.{IsAim, IsSteppedFormOf};
 ghost use Rattle.design_engine.specs.Tests.{IsRefusedFor};
-ghost use Rattle.fast_bounds.specs.FastAnswers.{IsFastRunOf, IsFastAimedOf, TellsOf};
+ghost use Rattle.fast_bounds.specs.FastAnswers.{IsRunForAim, IsFastAimedOf, TellsOf};
 ghost use Rattle.fast_bounds.specs.FastRefusals.{HasFastAimCause, PassesSomeFastAim};
 
 use crate::controller::fast_controller_with;
@@ -43,7 +43,7 @@ fn fast_run(
     requires stepped { IsSteppedFormOf design.now stepped.now }
     requires aim { IsAim aim }
     requires narrow { aim.r ≤ℤ pos (2 ^ 42) }
-    ensures chosen { IfOk result (IsFastRunOf design.now aim stepped.now.s) }
+    ensures chosen { IfOk result (IsRunForAim design.now aim stepped.now.s) }
     ensures refused { IfErr result (IsRefusedFor (HasFastAimCause (design_of design.now) aim stepped.now.s)) }
 {
     let steps = fast_steps(stepped.s, aim.r, aim.step_target)?;

@@ -29,7 +29,8 @@ fast_controller_with-requires-clause-chosen c = c.in_ok-chosen.ensures.chosen.pa
 pub fast_real_cost-cost-requires : goal.fast_real_cost-cost-requires
 fast_real_cost-cost-requires c = (
   unsigned_abs c.args.aim.r,
-  given_from c.args.design.now c.args.aim c.args.stepped.now _ _ c.in_ok-chosen.chosen.numbers c.in_ok-controller.controller c.requires.stepped c.in_ok-chosen.ensures.chosen
+  given_from c.args.design.now c.args.aim c.args.stepped.now _ _ c.in_ok-chosen.chosen.numbers c.in_ok-controller.controller c.requires.stepped
+      c.in_ok-chosen.ensures.chosen
       c.in_ok-controller.ensures.passes.descent (search rules) c.in_ok-controller.ensures.assembled,
 )
 
@@ -56,7 +57,8 @@ returns c =
         cost = to_z-of_z w128 _ cost ∙ c.fast_real_cost-cost.ensures (unsigned_abs c.args.aim.r)
             (given_from c.args.design.now c.args.aim c.args.stepped.now _ _ c.in_ok-chosen.chosen.numbers c.in_ok-controller.controller c.requires.stepped chosen
             c.in_ok-controller.ensures.passes.descent (search rules) assembled);
-        errors = to_z-of_z w128 _ eps ∙ stated_as c.args.design.now c.args.aim c.args.stepped.now.s _ _ c.in_ok-chosen.chosen.numbers c.in_ok-controller.controller chosen assembled;
+        errors = to_z-of_z w128 _ eps
+            ∙ stated_as c.args.design.now c.args.aim c.args.stepped.now.s _ _ c.in_ok-chosen.chosen.numbers c.in_ok-controller.controller chosen assembled;
       };
       passes = (c.in_ok-chosen.chosen.steps, c.in_ok-chosen.chosen.exps.items, c.in_ok-chosen.chosen.numbers.choice.f, c.in_ok-controller.ensures.passes);
       refused = tt;

@@ -82,7 +82,8 @@ returns-in_err-numbers-clause-refused c =
 -- ---- the run
 pub returns-clause-chosen : goal.returns-clause-chosen
 returns-clause-chosen c =
-    subst (λ (es : List ℕ). AreRunNumbersOf c.args.design.now c.args.aim c.args.stepped.now.s c.in_ok-steps.steps es c.in_ok-numbers.numbers) c.deref.ensures.value c.in_ok-numbers.ensures.chosen
+    subst (λ (es : List ℕ). AreRunNumbersOf c.args.design.now c.args.aim c.args.stepped.now.s c.in_ok-steps.steps es c.in_ok-numbers.numbers)
+    c.deref.ensures.value c.in_ok-numbers.ensures.chosen
 
 -- ---- nothing is chosen on a refusal
 pub returns-in_err-steps-clause-chosen : goal.returns-in_err-steps-clause-chosen

@@ -101,7 +101,8 @@ pub returns-in_err-fast_controller_of-clause-made : goal.returns-in_err-fast_con
 returns-in_err-fast_controller_of-clause-made c = absent_of_error c.from_residual-in_err-fast_controller_of.result _ c.from_residual-in_err-fast_controller_of.ensures.0
 
 pub returns-in_err-fast_controller_of-clause-assembled : goal.returns-in_err-fast_controller_of-clause-assembled
-returns-in_err-fast_controller_of-clause-assembled c = absent_of_error c.from_residual-in_err-fast_controller_of.result _ c.from_residual-in_err-fast_controller_of.ensures.0
+returns-in_err-fast_controller_of-clause-assembled c =
+    absent_of_error c.from_residual-in_err-fast_controller_of.result _ c.from_residual-in_err-fast_controller_of.ensures.0
 
 pub returns-in_err-fast_controller_of-clause-passes : goal.returns-in_err-fast_controller_of-clause-passes
 returns-in_err-fast_controller_of-clause-passes c = ok_of_error c.from_residual-in_err-fast_controller_of.result _ c.from_residual-in_err-fast_controller_of.ensures.0

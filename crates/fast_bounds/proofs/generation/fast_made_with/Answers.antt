@@ -54,7 +54,8 @@ returns-in-Ok c =
     record {
       made = record {
         controller = aimed.made;
-        bounds = subst (λ (n : ℕ). AreFastPrintedOf c.args.terms c.in_ok-aimed.aimed.controller n (printed c.in-Ok.bounds)) (whole_is c.in_ok-aimed.aimed.cost _ cost aimed.cost) c.in-Ok.ensures;
+        bounds = subst (λ (n : ℕ). AreFastPrintedOf c.args.terms c.in_ok-aimed.aimed.controller n (printed c.in-Ok.bounds))
+            (whole_is c.in_ok-aimed.aimed.cost _ cost aimed.cost) c.in-Ok.ensures;
         errors = to_z-of_z w128 _ eps ∙ aimed.errors;
       };
       passes = c.in_ok-aimed.ensures.passes;

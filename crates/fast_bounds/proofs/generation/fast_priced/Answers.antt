@@ -107,5 +107,6 @@ returns c =
     let excess = c.in_ok-excess.ensures.value in
     fast_told c.args.design.now (plans_of c.args.policy.now) (plans_of c.args.reference.now) c.args.margin c.requires.plans c.requires.references
     c.args.stepped.now.s c.lean_terms-terms.result c.fast_made_with.result c.requires.scaled c.in_ok-excess.ensures.room
-    (subst (λ (n : ℕ). n ≤ 2 ^ 126) (λ i. fast_multiplier_size (unsigned_abs c.args.margin.units) (unsigned_abs (excess i)) (floor_target (targets_of (parts i)))) bound.0)
+    (subst (λ (n : ℕ). n ≤ 2 ^ 126)
+    (λ i. fast_multiplier_size (unsigned_abs c.args.margin.units) (unsigned_abs (excess i)) (floor_target (targets_of (parts i)))) bound.0)
     (is ∙ (λ i. lean_terms (targets_of (parts i)) (unsigned_abs c.args.margin.units) (unsigned_abs (excess i)))) c.fast_made_with.ensures

@@ -21,12 +21,14 @@ returns-clause-built c = ok_map c.made_fast.result _ _ c.made_fast.ensures.made 
 pub returns-clause-certified : goal.returns-clause-certified
 returns-clause-certified c =
     ok_map c.made_fast.result _ _ c.made_fast.ensures.made
-    (λ (made : FastMade) h. (lean_law c.args.design.now (plans_of c.args.policy.now) (plans_of c.args.reference.now) made.controller (printed made.bounds) h.built).certified)
+    (λ (made : FastMade) h.
+    (lean_law c.args.design.now (plans_of c.args.policy.now) (plans_of c.args.reference.now) made.controller (printed made.bounds) h.built).certified)
 
 pub returns-clause-targets : goal.returns-clause-targets
 returns-clause-targets c =
     ok_map c.made_fast.result _ _ c.made_fast.ensures.made
-    (λ (made : FastMade) h. (lean_law c.args.design.now (plans_of c.args.policy.now) (plans_of c.args.reference.now) made.controller (printed made.bounds) h.built).within)
+    (λ (made : FastMade) h.
+    (lean_law c.args.design.now (plans_of c.args.policy.now) (plans_of c.args.reference.now) made.controller (printed made.bounds) h.built).within)
 
 pub returns-clause-errors : goal.returns-clause-errors
 returns-clause-errors c = ok_map c.made_fast.result _ _ c.made_fast.ensures.made (λ (made : FastMade) h. h.errors)

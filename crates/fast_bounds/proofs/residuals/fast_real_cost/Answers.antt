@@ -21,8 +21,7 @@ real_run_epsilon-requires-clause-form c = subst (λ (p : DesignParts). IsFormOf 
 
 pub real_run_epsilon-requires-clause-count : goal.real_run_epsilon-requires-clause-count
 real_run_epsilon-requires-clause-count c =
-    counted c.args.design.now c.requires.0 c.args.condensed.now c.args.sums.now c.args.controller.now (numbers c.parts-parts.result.now) c.deref-2.result.now c.deref.result.now
-    c.parts-parts.ensures.value c.deref-2.ensures.value c.deref.ensures.value c.parts-parts.ensures.sound c.requires.1
+    counted c.parts-parts.ensures.value c.deref-2.ensures.value c.deref.ensures.value c.parts-parts.ensures.sound c.requires.1
 
 pub real_run_epsilon-requires-clause-exponents : goal.real_run_epsilon-requires-clause-exponents
 real_run_epsilon-requires-clause-exponents c =
@@ -36,8 +35,7 @@ pub real_run_epsilon-requires-clause-made : goal.real_run_epsilon-requires-claus
 real_run_epsilon-requires-clause-made c = record {
   parts = c.args.design.now;
   r = c.requires.0;
-  made = named c.args.design.now c.requires.0 c.args.condensed.now c.args.sums.now c.args.controller.now (numbers c.parts-parts.result.now) c.deref-2.result.now c.deref.result.now
-      c.parts-parts.ensures.value c.deref-2.ensures.value c.deref.ensures.value c.parts-parts.ensures.sound c.requires.1;
+  made = named c.parts-parts.ensures.value c.deref-2.ensures.value c.deref.ensures.value c.parts-parts.ensures.sound c.requires.1;
 }
 
 pub real_run_epsilon-requires-clause-plan : goal.real_run_epsilon-requires-clause-plan
@@ -50,10 +48,7 @@ returns c r given =
     let f : SFits w128 c.plan_reach-plan.result = search rules in
     let s : SFits w128 c.real_run_epsilon.result = search rules in
     to_z-of_z w128 _ s ∙ c.real_run_epsilon.ensures c.args.design.now r (numbers c.parts-parts.result.now)
-    (named c.args.design.now r c.args.condensed.now c.args.sums.now c.args.controller.now (numbers c.parts-parts.result.now) c.deref-2.result.now c.deref.result.now
-    c.parts-parts.ensures.value c.deref-2.ensures.value c.deref.ensures.value c.parts-parts.ensures.sound given)
-    (own_gains c.args.design.now r c.args.condensed.now c.args.sums.now c.args.controller.now (numbers c.parts-parts.result.now) c.deref-2.result.now c.deref.result.now
-    c.parts-parts.ensures.value c.deref-2.ensures.value c.deref.ensures.value c.parts-parts.ensures.sound given)
+    (named c.parts-parts.ensures.value c.deref-2.ensures.value c.deref.ensures.value c.parts-parts.ensures.sound given)
+    (own_gains c.parts-parts.ensures.value c.deref-2.ensures.value c.deref.ensures.value c.parts-parts.ensures.sound given)
     (to_z-of_z w128 _ f ∙ c.plan_reach-plan.ensures)
-    ∙ cost_same c.args.design.now r c.args.condensed.now c.args.sums.now c.args.controller.now (numbers c.parts-parts.result.now) c.deref-2.result.now c.deref.result.now
-    c.parts-parts.ensures.value c.deref-2.ensures.value c.deref.ensures.value c.parts-parts.ensures.sound given
+    ∙ cost_same c.parts-parts.ensures.value c.deref-2.ensures.value c.deref.ensures.value c.parts-parts.ensures.sound given

@@ -11,7 +11,8 @@ pub returns : goal.returns
 returns c =
     let s : SFits w128 c.in-Some.sum = search rules in
     let r : SFits w128 c.ceil_div.result = search rules in
-    to_z-of_z w128 _ r ∙ c.ceil_div.ensures ∙ rw (to_z-of_z w128 _ s, one_shifted c.args.parts.now.f (omega (arith, c.requires.form.sized.rest.fraction_bits.1)), c.in-Some.ensures.1)
+    to_z-of_z w128 _ r ∙ c.ceil_div.ensures
+    ∙ rw (to_z-of_z w128 _ s, one_shifted c.args.parts.now.f (omega (arith, c.requires.form.sized.rest.fraction_bits.1)), c.in-Some.ensures.1)
     (ceil_of_pos _ _ (pow_pos c.args.parts.now.f))
 
 pub plan_sum_for-requires : goal.plan_sum_for-requires
