@@ -1,8 +1,7 @@
 -- What a controller is made of, as it was read.
 use Rattle.std.specs.Prelude.{Option, option_map, IfSome}
-use Rattle.qp_model.specs.problem.Policy.{Plans, plans_of, IsPolicyFor}
+use Rattle.qp_model.specs.problem.Policy.{plans_of, IsPolicyFor}
 use Rattle.qp_model.specs.problem.Parts.{design_of}
-use Rattle.qp_model.specs.declared.policy.Policy.{Policy}
 use Rattle.qp_model.specs.machine.Controller.{Numbers}
 use Rattle.qp_model.specs.bounds.Printed.{Printed}
 use Rattle.stay_check.specs.FaceForms.{faces_of, AreFacesFor}

@@ -2,17 +2,23 @@
 ghost use Rattle.std.specs.Prelude.{◌≡◌};
 ghost use Rattle.command_line.specs.Words.{IsStay, IsLean, IsLeanStay};
 ghost use Rattle.command_line.specs.Does.{DoesInStore};
-ghost use Rattle.command_make.specs.Make.{make_deeds, IsAsked, stay_deeds, lean_deeds, lean_stay_deeds, asked_of};
+ghost use Rattle.command_line.specs.Running.{RunsInStore};
+ghost use Rattle.command_make.specs.Make.{fast_after, make_after, after_any, make_deeds, IsAsked, stay_deeds, lean_deeds, lean_stay_deeds, asked_of};
 
-use crate::inputs::read_inputs;
+use crate::fast::fast_texts;
+use crate::inputs::{read_inputs, read_plans};
 use crate::texts::texts_of;
+use command_design_files::{Wanted, read_asked_file, read_design_file};
 use command_line::{Status, write_texts};
 use io_edge::{Store, Words};
+use qp_model::Design;
 use std::alloc::Global;
 
 /// What a command asks for, and at which positions its files stand.
 #[derive(Drop)]
 pub struct Asked {
+    /// A design of any version, of which one of version 3 asks for the accelerated machine.
+    pub any: bool,
     pub lean: bool,
     pub faced: bool,
     pub disturbed: bool,
@@ -33,7 +39,8 @@ pub fn stay<S: Store>(alloc: Global, words: &Words, disturbed: bool, store: &mut
 }
 
 /// Makes a controller of the design in the first file with the policy in the second and the reference plans in the third, and writes its text to the fourth
-/// and the report of its bounds to the fifth: as JSON where that name ends in `.json`, and else as lines. Nothing is written before both texts are there.
+/// and the report of its bounds to the fifth: as JSON where that name ends in `.json`, and else as lines. Nothing is written before both texts are there. A
+/// design of version 3 has a controller of the accelerated machine.
 pub fn lean<S: Store>(alloc: Global, words: &Words, store: &mut S) -> Status
     requires { IsLean words.now }
     ensures { DoesInStore S.Store words.now lean_deeds store.old store.new result }
@@ -56,6 +63,7 @@ fn asked_of(lean: bool, faced: bool, disturbed: bool) -> Asked
 {
     let controller = if lean { 4 } else { 3 };
     Asked {
+        any: lean && !faced,
         lean,
         faced,
         disturbed,
@@ -71,9 +79,72 @@ fn make_asked<S: Store>(alloc: Global, words: &Words, asked: &Asked, store: &mut
     requires { IsAsked words.now asked.now }
     ensures { DoesInStore S.Store words.now (make_deeds asked.now) store.old store.new result }
 {
-    match read_inputs(alloc, words, asked, store) {
+    if asked.any {
+        match read_asked_file(alloc, 1, words.at(1), store) {
+            Ok(wanted) => make_any(alloc, words, asked, wanted, store),
+            Err(status) => status,
+        }
+    } else {
+        match read_design_file(alloc, 1, words.at(1), store) {
+            Ok(design) => make_plain(alloc, words, asked, design, store),
+            Err(status) => status,
+        }
+    }
+}
+
+// What comes after a design of any version.
+fn make_any<S: Store>(
+    alloc: Global,
+    words: &Words,
+    asked: &Asked,
+    wanted: Wanted,
+    store: &mut S,
+) -> Status
+    requires { IsAsked words.now asked.now }
+    ensures { RunsInStore S.Store words.now (make_deeds asked.now) store.old store.new result (after_any asked.now wanted.fast wanted.design) }
+{
+    if wanted.fast {
+        make_fast(alloc, words, asked, &wanted.design, store)
+    } else {
+        make_plain(alloc, words, asked, wanted.design, store)
+    }
+}
+
+// What comes after a design of version 1 or 2.
+fn make_plain<S: Store>(
+    alloc: Global,
+    words: &Words,
+    asked: &Asked,
+    design: Design,
+    store: &mut S,
+) -> Status
+    requires { IsAsked words.now asked.now }
+    ensures { RunsInStore S.Store words.now (make_deeds asked.now) store.old store.new result (make_after asked.now design) }
+{
+    match read_inputs(alloc, words, asked, design, store) {
         Ok(inputs) => {
             let made = texts_of(alloc, &inputs, words.at(asked.report as usize));
+            write_texts(words, asked.controller, asked.report, made, store)
+        }
+        Err(status) => status,
+    }
+}
+
+// What comes after a design that asks for the accelerated machine.
+fn make_fast<S: Store>(
+    alloc: Global,
+    words: &Words,
+    asked: &Asked,
+    design: &Design,
+    store: &mut S,
+) -> Status
+    requires { IsAsked words.now asked.now }
+    ensures { RunsInStore S.Store words.now (make_deeds asked.now) store.old store.new result (fast_after asked.now design.now) }
+{
+    match read_plans(alloc, words, asked, design, store) {
+        Ok(plans) => {
+            let name = words.at(asked.report as usize);
+            let made = fast_texts(alloc, design, &plans.policy, &plans.reference, name);
             write_texts(words, asked.controller, asked.report, made, store)
         }
         Err(status) => status,

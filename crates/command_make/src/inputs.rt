@@ -10,11 +10,11 @@ ghost use Rattle.command_line.specs.Script.{ends};
 ghost use Rattle.command_line.specs.Running.{ReadsAlong};
 ghost use Rattle.command_design_files.specs.Reading.{policy_kind};
 ghost use Rattle.command_files.specs.Reading.{faces_kind, range_kind};
-ghost use Rattle.command_make.specs.Make.{after_policy, make_deeds, make_work, IsAsked};
+ghost use Rattle.command_make.specs.Make.{fast_after, fast_act, make_after, after_policy, make_deeds, IsAsked};
 ghost use Rattle.command_make.specs.Inputs.{AreInputs, act_of};
 
 use crate::command::Asked;
-use command_design_files::{read_design_file, read_policy_file};
+use command_design_files::read_policy_file;
 use command_files::{read_faces_file, read_range_file};
 use command_line::Status;
 use io_edge::{Store, Words};
@@ -34,18 +34,18 @@ pub struct Inputs {
     pub range: Option<Mat>,
 }
 
-/// All that is asked for, or the status that ends the run.
+/// All that is asked for behind the design, or the status that ends the run.
 pub fn read_inputs<S: Store>(
     alloc: Global,
     words: &Words,
     asked: &Asked,
+    design: Design,
     store: &mut S,
 ) -> Result<Inputs, Status>
     requires { IsAsked words.now asked.now }
-    ensures along { ReadsAlong S.Store words.now (make_deeds asked.now) (make_work asked.now).script (λ i. ends (act_of asked.now i)) result store.old store.new }
+    ensures along { ReadsAlong S.Store words.now (make_deeds asked.now) (make_after asked.now design) (λ i. ends (act_of asked.now i)) result store.old store.new }
     ensures inputs { IfOk result AreInputs }
 {
-    let design = read_design_file(alloc, 1, words.at(1), store)?;
     let policy = read_policy_file(alloc, 2, words.at(2), &design, store)?;
     read_others(alloc, words, asked, design, policy, store)
 }
@@ -138,4 +138,30 @@ fn read_range<S: Store>(
     } else {
         Ok(None)
     }
+}
+
+/// The plans of a policy and reference plans.
+#[derive(Drop)]
+pub struct BothPlans {
+    pub policy: Policy,
+    pub reference: Policy,
+}
+
+/// The policy for a design and the reference plans, or the status that ends the run.
+pub fn read_plans<S: Store>(
+    alloc: Global,
+    words: &Words,
+    asked: &Asked,
+    design: &Design,
+    store: &mut S,
+) -> Result<BothPlans, Status>
+    requires { IsAsked words.now asked.now }
+    ensures along { ReadsAlong S.Store words.now (make_deeds asked.now) (fast_after asked.now design.now)
+        (λ b. ends (fast_act asked.now design.now (plans_of b.policy) (plans_of b.reference))) result store.old store.new }
+    ensures policy { IfOk result (λ b. IsPolicyFor (design_of design.now) (plans_of b.policy)) }
+    ensures reference { IfOk result (λ b. IsPolicyFor (design_of design.now) (plans_of b.reference)) }
+{
+    let policy = read_policy_file(alloc, 2, words.at(2), design, store)?;
+    let reference = read_policy_file(alloc, 3, words.at(3), design, store)?;
+    Ok(BothPlans { policy, reference })
 }

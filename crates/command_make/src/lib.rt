@@ -5,6 +5,7 @@
 mod check;
 mod command;
 mod excess;
+mod fast;
 mod inputs;
 mod made;
 mod texts;

@@ -11,7 +11,8 @@ ghost use Rattle.command_line.specs.Deeds.{IsCalledFor, UsesNoFile, IsUnwritten,
 ghost use Rattle.command_generate.specs.Generate.{IsGenerated};
 ghost use Rattle.command_make.specs.Stay.{IsStayed};
 ghost use Rattle.command_play.specs.AsSolved.{PlaysAsSolved};
-ghost use Rattle.command_make.specs.Lean.{IsLeanWritten, IsLeanStayed};
+ghost use Rattle.command_make.specs.Lean.{IsLeanStayed};
+ghost use Rattle.command_make.specs.Fast.{IsAnyWritten};
 ghost use Rattle.command_split.specs.Split.{IsSplitWritten};
 ghost use Rattle.command_serve.specs.Held.{ServesHeld};
 ghost use Rattle.command_c.specs.Compiled.{IsCompiled};
@@ -90,9 +91,10 @@ pub fn run<S: Store, O: Sink>(alloc: Global, words: &Words, store: &mut S, out: 
     ensures stayed { (disturbed : Bool) → IsStay words.now disturbed → result ≡ Status.Done
         → IfSome (S.held store.old) (λ files. IsSomeAnd (S.held store.new) (IsStayed disturbed words.now files)) }
     // And where `lean` answers `Done`, its two files hold the text of one controller and the report of its bounds, made leanly of the design, the policy and
-    // the reference plans in the files, whatever these plans are: with the same promise, and within the same targets.
+    // the reference plans in the files, whatever these plans are: with the same promise, and within the same targets. Of a design of version 3 it is a controller
+    // of the accelerated machine, and the promise is of that machine's run.
     ensures leaned { IsLean words.now → result ≡ Status.Done
-        → IfSome (S.held store.old) (λ files. IsSomeAnd (S.held store.new) (IsLeanWritten words.now files)) }
+        → IfSome (S.held store.old) (λ files. IsSomeAnd (S.held store.new) (IsAnyWritten words.now files)) }
 
     // So it does where `lean` with faces answers `Done`, and the closed loop stays in the box, as that of `stay`: under every list of disturbances within
     // the range in the seventh file, and without disturbances where there is no such file.

@@ -1,4 +1,4 @@
-use Rattle.std.proofs.Common.{◌≡◌, Option, Some, None, option_map, refl, sym, subst}
+use Rattle.std.proofs.Common.{◌≡◌, Option, Some, None, option_map, refl, subst}
 use Rattle.qp_model.specs.problem.Policy.{plans_of}
 use Rattle.mat_int.specs.Matrix.{Matrix}
 use Rattle.stay_check.specs.FaceForms.{faces_of}

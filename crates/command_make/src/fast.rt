@@ -1,0 +1,67 @@
+// A controller of the accelerated machine and its bounds, and both texts of them.
+ghost use Rattle.std.specs.Prelude.{◌≡◌, IfOk, IfErr};
+ghost use Rattle.qp_model.specs.problem.Parts.{design_of};
+ghost use Rattle.qp_model.specs.problem.Policy.{plans_of, IsPolicyFor};
+ghost use Rattle.qp_model.specs.bounds.Printed.{printed};
+ghost use Rattle.controller_text.specs.TextForm.{IsFastControllerText};
+ghost use Rattle.command_generate.specs.Engine.Targets.{targets_of};
+ghost use Rattle.command_line.specs.Answers.{IsAnswer};
+ghost use Rattle.command_line.specs.TwoTexts.{IsUnmade};
+ghost use Rattle.command_generate.specs.Made.{IsReport, AreTextsBy};
+ghost use Rattle.command_make.specs.Fast.{FastCalls, IsFastMadeOf};
+
+use command_generate::report_for;
+use command_line::{Status, Texts};
+use controller_text::write_fast_controller;
+use fast_bounds::{FastMade, generate_fast};
+use qp_model::{Design, Policy};
+use std::alloc::Global;
+
+// The controller and the bounds of a design with a policy and reference plans, or the status that tells why there are none.
+fn made_fast(
+    alloc: Global,
+    design: &Design,
+    policy: &Policy,
+    reference: &Policy,
+) -> Result<FastMade, Status>
+    requires plans { IsPolicyFor (design_of design.now) (plans_of policy.now) }
+    requires references { IsPolicyFor (design_of design.now) (plans_of reference.now) }
+    ensures made { IfOk result (λ m. IsFastMadeOf design.now (plans_of policy.now) (plans_of reference.now) m.controller (printed m.bounds)) }
+    ensures called { IfOk result (λ _. IsAnswer (FastCalls (design_of design.now) (targets_of design.now) (plans_of policy.now) (plans_of reference.now)) Status.Done) }
+    ensures unmade { IfErr result (IsUnmade (FastCalls (design_of design.now) (targets_of design.now) (plans_of policy.now) (plans_of reference.now))) }
+{
+    match generate_fast(alloc, design, policy, reference) {
+        Ok(made) => Ok(made),
+        Err(refusal) => Err(Status::from(refusal)),
+    }
+}
+
+// Both texts of what was made. It is borrowed here, so that it ends on one path alone.
+fn texts_of_fast(alloc: Global, made: &FastMade, report_name: &str) -> Result<Texts, Status>
+    ensures texts { IfOk result (λ t. IsFastControllerText t.first.items made.now.controller
+        × IsReport report_name.now (printed made.now.bounds) t.second.items) }
+    ensures memory { IfErr result (λ e. e ≡ Status.Memory) }
+{
+    let first = write_fast_controller(alloc, &made.controller)?;
+    let second = report_for(alloc, report_name, &made.bounds)?;
+    Ok(Texts { first, second })
+}
+
+/// Both texts of a design with a policy and reference plans, or the status that tells why there are none.
+pub fn fast_texts(
+    alloc: Global,
+    design: &Design,
+    policy: &Policy,
+    reference: &Policy,
+    report_name: &str,
+) -> Result<Texts, Status>
+    requires plans { IsPolicyFor (design_of design.now) (plans_of policy.now) }
+    requires references { IsPolicyFor (design_of design.now) (plans_of reference.now) }
+    ensures texts { IfOk result (λ t. AreTextsBy IsFastControllerText (IsFastMadeOf design.now (plans_of policy.now) (plans_of reference.now))
+        report_name.now t.first.items t.second.items) }
+    ensures called { IfOk result (λ _. IsAnswer (FastCalls (design_of design.now) (targets_of design.now) (plans_of policy.now) (plans_of reference.now)) Status.Done) }
+    ensures unmade { IfErr result (IsUnmade (FastCalls (design_of design.now) (targets_of design.now) (plans_of policy.now) (plans_of reference.now))) }
+{
+    let made = made_fast(alloc, design, policy, reference)?;
+    texts_of_fast(alloc, &made, report_name)
+}
