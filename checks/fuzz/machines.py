@@ -130,6 +130,11 @@ class Accelerated:
 
 
 MACHINES = {1: Plain, 2: Plain, 3: Accelerated}
-# those of the program, which has no other yet
+# those that every command of the program takes
 VERSIONS = (1, 2)
 ALL_VERSIONS = tuple(MACHINES)
+
+
+def versions_of(words):
+    """Those of the designs and controllers that a command takes: of all `lean` without faces, and `solve`."""
+    return ALL_VERSIONS if words[:1] == ["solve"] or words[:1] == ["lean"] and len(words) == 6 else VERSIONS

@@ -1,6 +1,6 @@
 """An independent model of the whole program: what each command answers with, to the byte.
 
-    python3 -m checks.fuzz.program [--all-versions] COMMAND ..    runs the command as the program does, in the present folder; or with the versions that it doesn't know, too
+    python3 -m checks.fuzz.program [--all-versions] COMMAND ..    runs the command as the program does, in the present folder; or with texts of version 3 where it takes none yet, too
 
 The one thing that isn't determined is which good solutions a design's gains are. So `answer` is told them by `gains`, a function of the choice; run as a
 program, it takes its own. Everything else is exact: the status, its line on standard error, standard output, and what each file holds.
@@ -12,7 +12,7 @@ from dataclasses import dataclass, field
 
 from . import compiled, control, held_boxes, listing, model, settling, split_boxes
 from .command_table import COUNTS, OUTPUTS
-from .machines import ALL_VERSIONS, VERSIONS
+from .machines import ALL_VERSIONS, versions_of
 from .model import LIMIT, Refused
 
 NAMES = {1: "memory", 2: "usage", 3: "read-fault", 4: "write-fault", 5: "text", 6: "no-margin", 7: "curvature", 8: "too-many-steps", 9: "too-fine", 10: "too-wide",
@@ -122,7 +122,7 @@ class Gains:
     """Of controllers that were written, for a choice each: those of one text, or of the cells of one, in their order. `text` gives the bytes, or None where none were
     written; then the model's own are as good. ValueError where they aren't good ones."""
 
-    def __init__(self, text, versions=VERSIONS):
+    def __init__(self, text, versions=ALL_VERSIONS):
         self.text, self.versions, self.found, self.count = text, versions, None, 0
 
     def read(self):
@@ -154,10 +154,11 @@ class Gains:
 
 class Program:
     """The words are texts, the first of them the command; `read` gives a name's bytes, or None where it can't be read; `write` tells whether a name could be
-    written. `run` gives a controller's sums from a state, `played` a listing's words; designs and controllers are of these versions, but those that `list` and `c` read; `solve` reads any."""
+    written. `run` gives a controller's sums from a state, `played` a listing's words; designs and controllers are of these versions, but those that `list` and `c` read, or of those that the
+    command takes."""
 
-    def __init__(self, words, read, write, gains, run=control.run, played=listing.played, put=None, versions=VERSIONS):
-        self.words, self.read, self.write, self.gains, self.run, self.played, self.versions = words, read, write, gains, run, played, versions
+    def __init__(self, words, read, write, gains, run=control.run, played=listing.played, put=None, versions=None):
+        self.words, self.read, self.write, self.gains, self.run, self.played, self.versions = words, read, write, gains, run, played, versions or versions_of(words)
         self.answer = Answer()
         self.put = put or self.answer.out.append
         # the controller that was made of a design, or those of cells
@@ -178,8 +179,8 @@ class Program:
     def design(self):
         return self.text(1, lambda data: model.read_design(data, self.versions))
 
-    def controller(self, file, versions=None):
-        return self.text(file, lambda data: control.read_controller(data, versions or self.versions))
+    def controller(self, file):
+        return self.text(file, lambda data: control.read_controller(data, self.versions))
 
     def usage(self):
         words = self.words
@@ -258,7 +259,7 @@ class Program:
         return rows
 
     def solve(self):
-        c = self.controller(1, ALL_VERSIONS)
+        c = self.controller(1)
         for row in self.states(2, c, c.n):
             self.put(control.plan_line(c, row, self.run))
 
@@ -343,7 +344,7 @@ class Program:
             self.put(control.plan_line(c, row, self.run))
 
 
-def answer(words, read, write, gains, run=control.run, versions=VERSIONS):
+def answer(words, read, write, gains, run=control.run, versions=None):
     return Program(words, read, write, gains, run, versions=versions).go()
 
 
@@ -360,7 +361,7 @@ def main():
 
     words = sys.argv[1:]
     has_all = words[:1] == ["--all-versions"]
-    said = answer(words[has_all:], read, write, model.gains, versions=ALL_VERSIONS if has_all else VERSIONS)
+    said = answer(words[has_all:], read, write, model.gains, versions=ALL_VERSIONS if has_all else None)
     for name, data in said.written.items():
         with open(name, "wb") as file:
             file.write(data)

@@ -8,7 +8,7 @@ determined: they are taken from the controller that the program wrote, once they
 product and partial sum traced, and all must fit its width; but a run of many steps of a controller that isn't of the kind `controller` only has its sums compared.
 
 A case is made of the seed and its number alone. --case runs one again and shows it; --kind makes all cases of that kind: generate, lean, border, stay, lean_stay, solve,
-controller, loop, settle, list, play, split, serve, demo, usage; or accelerated, which is drawn only so: these on texts of version 3, for a program that has it. Of the kinds `stay` and `lean_stay` the first are the worked rows of `stay` that are accepted. Half of the designs are of
+controller, loop, settle, list, play, split, serve, demo, usage; or accelerated: these on texts of version 3. Of the kinds `stay` and `lean_stay` the first are the worked rows of `stay` that are accepted. Half of the designs are of
 version 2; how many of these were accepted, and how many of them have a row with a smaller exponent, the last line says. With --table, faces, disturbances, cuts, policies (those of
 cells), cells or listings, the cases are worked texts of that kind, each cut after every one of its bytes, and with every byte replaced by a space, `-`, `0` and `9`. A border
 design's exact numbers, its enclosures, the corners of its policy in either class, or what its rows come to where they count 16 times, pass the limit by little or stay
@@ -34,13 +34,13 @@ import sys
 import tempfile
 
 from . import at_corners, cases, control, forms, held_boxes, listing, listing_cases, model, program, settle_cases, settling, split_boxes, split_cases, stay_cases, tables
-from .machines import ALL_VERSIONS, VERSIONS
+from .machines import ALL_VERSIONS
 
 KINDS = ["generate"] * 22 + ["lean"] * 12 + ["border"] * 4 + ["stay"] * 14 + ["lean_stay"] * 6 + ["solve"] * 26 + ["controller"] * 18 + ["loop"] * 22 + ["list"] * 6 + ["play"] * 16
 KINDS += ["split"] * 12 + ["serve"] * 16 + ["c"] * 8 + ["usage"] * 4
-KINDS += ["settle"] * 14
-# those whose texts may be of version 3
-ACCELERATED = ["generate"] * 6 + ["lean"] * 8 + ["border"] * 2 + ["stay", "lean_stay"] * 3 + ["solve"] * 3 + ["accelerated_controller"] * 6 + ["loop"] * 5 + ["settle"] * 3 + ["list", "c"] + ["split"] * 5 + ["serve"] * 4
+KINDS += ["settle"] * 14 + ["accelerated"] * 12
+# those whose texts are of version 3 then, which `lean` and `solve` alone take
+ACCELERATED = ["lean"] * 10 + ["solve"] * 4 + ["accelerated_controller"] * 6 + ["generate", "border", "stay", "lean_stay", "loop", "settle", "list", "c", "split", "serve"]
 DEMO_EVERY = 2500
 # the most products that the model makes in a case, and the most in a run whose every value it traces
 MOST_PRODUCTS, MOST_TRACED = 3_000_000, 60_000
@@ -261,7 +261,6 @@ class Runner:
 
     def __init__(self, executable, folder, options):
         self.executable, self.folder, self.loop_products = executable, folder, options.loop_products
-        self.versions = ALL_VERSIONS if options.kind == "accelerated" else VERSIONS
 
     def path(self, name):
         return os.path.join(self.folder, name)
@@ -297,7 +296,7 @@ class Runner:
         write = lambda name: name not in ("", ".", "./", "./.") and "no/" not in name
         place = program.OUTPUTS.get(case.words[0] if case.words else "", (3,))[0]
         written = lambda: next((left[name] for name in map(os.path.normpath, case.words[place : place + 1]) if name in left), None)
-        wrong, status, notes = self.compare(case, ran, left, read, write, program.Gains(written, self.versions))
+        wrong, status, notes = self.compare(case, ran, left, read, write, program.Gains(written))
         if case.same:
             other = self.started(case.same)
             if (other.returncode, other.stderr, other.stdout) != (ran.returncode, ran.stderr, ran.stdout):
@@ -361,7 +360,7 @@ class Runner:
     def check_split(self, case, left):
         """Of a box in cells: `generate` writes the same of one of the cells' designs, and `serve` puts the lines of the states' cells."""
         pick, (made, report) = random.Random(repr(case.files)), (left[name] for name in case.words[4:6])
-        cells, d = split_boxes.read_cells(made, self.versions), read_design(case.files["d"])
+        cells, d = split_boxes.read_cells(made), read_design(case.files["d"])
         boxes = split_boxes.cells_of(d, split_boxes.read_cuts(case.files["l"], d))
         policies, reports = split_boxes.read_policies(case.files["p"], d, len(boxes)), report.split(b"end\n")
         covered = [i for i, plans in enumerate(policies) if plans]
@@ -430,7 +429,7 @@ class Runner:
                 raise TooLong
             return listing.played(l, state)
 
-        told = program.Program(case.words, read, write, gains, run, played, versions=self.versions)
+        told = program.Program(case.words, read, write, gains, run, played)
         try:
             said = told.go()
         except TooLong:
@@ -536,7 +535,7 @@ def main():
     parser.add_argument("--cases", type=int, default=1000)
     parser.add_argument("--seed", type=int, default=1)
     parser.add_argument("--jobs", type=int, default=os.cpu_count())
-    parser.add_argument("--kind", choices=sorted({*KINDS, "demo", "accelerated"}))
+    parser.add_argument("--kind", choices=sorted({*KINDS, "demo"}))
     parser.add_argument("--table", choices=sorted(tables.TABLES))
     parser.add_argument("--loop-products", type=int, default=MOST_LOOP_PRODUCTS)
     parser.add_argument("--case", type=int)

@@ -156,11 +156,14 @@ class Refused(unittest.TestCase):
         self.assertEqual(answer(["solve", "c", "s"], c=text.replace("steps 1\n", "steps 9\n"), s="1\n").status, 0)
 
     def test_versions(self):
-        """The program makes no such controllers yet, and `solve` alone reads them; no listing, and no program in C, is made of one."""
-        text = answer(LEAN, d=third(DESIGN), p=POLICY, q=REFERENCE).written["c"].decode()
-        self.refused(LEAN, "5 text 1 range 1", (1, 2), d=third(DESIGN), p=POLICY, q=REFERENCE)
-        self.assertEqual(answer(["solve", "c", "s"], (1, 2), c=text, s="1\n").out, [b"128 -64\n"])
-        self.refused(["loop", "d", "c", "s", "1"], "11 controller 2 line 1", (1, 2), d=DESIGN, c=text, s="1\n")
+        """`lean` without faces and `solve` alone take such texts; and no listing, and no program in C, is made of one."""
+        made = answer(LEAN, None, d=third(DESIGN), p=POLICY, q=REFERENCE)
+        text = made.written["c"].decode()
+        self.assertEqual((made.status, text.split("\n")[0]), (0, "mpc-controller 3"))
+        self.assertEqual(answer(["solve", "c", "s"], None, c=text, s="1\n").out, [b"128 -64\n"])
+        self.refused(GENERATE, "5 text 1 range 1", None, d=third(DESIGN), p=POLICY)
+        self.refused([*LEAN, "f"], "5 text 1 range 1", None, d=third(DESIGN), p=POLICY, q=REFERENCE, f=FACES.decode())
+        self.refused(["loop", "d", "c", "s", "2"], "11 controller 2 line 1", None, d=DESIGN, c=text, s="1\n")
         self.refused(["list", "c", "l"], "11 controller 1 line 1", c=text)
         self.refused(["c", "c", "mpc", "t", "h"], "11 controller 1 line 1", c=text)
         self.refused(LEAN, "5 text 1 range 1", d=DESIGN.replace("version = 1", "version = 4"), p=POLICY, q=REFERENCE)
