@@ -52,7 +52,7 @@ TEXTS = {
     '{hint} ./mpc policy finds a policy with room, or says which row and corner are to blame (docs/TARGETS.md, "Slack of the vertex plans").',
     "curvature": "The limits are too steep for the cost: no step 2^-s with s up to 40 is small enough. Divide the rows by their tolerances, or take larger weights "
     '(docs/TARGETS.md, "Weights").',
-    "too-many-steps": "A run would take K = {steps} steps, and at most 4194304 are accepted. {formula}: take a larger violation target{hint}, or a policy with "
+    "too-many-steps": "A run would take K = {steps} steps, and at most {most} are accepted. {formula}: take a larger violation target{hint}, or a policy with "
     '{better} (docs/TARGETS.md, "What K is made of").',
     "too-fine": "The gap target asks for more than 48 fraction bits: rounding at 48 bits may cost {epsilon}, {hint}. A larger gap target, or a policy with a smaller R "
     '(docs/TARGETS.md, "What K is made of").',
@@ -115,12 +115,13 @@ BOXES = (
 STEPS = {
     "generate": ("K = 2^(s+2) R / target", "a larger margin or a smaller cost"),
     "lean": ("K = 2^(s+1) R over 15/16 of the target", "a smaller excess, as ./mpc policy --lean finds it"),
+    "fast": ("K (K + 3) = 2^(s+3) R over 15/16 of the target", "a smaller excess, as ./mpc policy --lean finds it"),
 }
 
 DENOMINATOR, NUMERATOR = "a denominator, 1 to 1048576", "-2147483647 to 2147483647"
 # key, shape, range: by the place in a design text
 PLACES = [
-    ("version", "an integer", "1 or 2"),
+    ("version", "an integer", "1 or 2, for `lean` without faces 3, too"),
     ("states", "an integer", "1 to 4, in version 2 up to 6"),
     ("inputs", "an integer", "1 to 3"),
     ("stages", "an integer", "1 to 20, in version 2 up to 30"),
@@ -490,9 +491,12 @@ def no_margin(call: Call, corner: int, row: int, above: int, below: int) -> str:
 
 def too_many_steps(call: Call, steps: int) -> str:
     design = call.design()
-    hint = f" (at least {plain(Fraction(design.violation * steps, design.target_den * 2**22))})" if design else ""
-    formula, better = STEPS["lean" if call.command == "lean" else "generate"]
-    return TEXTS["too-many-steps"].format(steps=steps, formula=formula, hint=hint, better=better)
+    fast = design is not None and design.version == 3
+    most = 65534 if fast else 2**22
+    times = Fraction(steps * (steps + 3), most * (most + 3)) if fast else Fraction(steps, most)
+    hint = f" (at least {plain(times * Fraction(design.violation, design.target_den))})" if design else ""
+    formula, better = STEPS["fast" if fast else "lean" if call.command == "lean" else "generate"]
+    return TEXTS["too-many-steps"].format(steps=steps, most=most, formula=formula, hint=hint, better=better)
 
 
 def too_fine(call: Call, epsilon: int) -> str:

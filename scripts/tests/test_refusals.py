@@ -126,7 +126,7 @@ class Explained(unittest.TestCase):
         self.assertIn("`states` in the design file", told)
         self.assertIn("1 to 4, in version 2 up to 6", told)
         self.assertIn("1 to 20, in version 2 up to 30", self.generate("error 5 text 1 range 4", SECOND.replace("stages = 1", "stages = 31")))
-        self.assertIn("out of its range: 1 or 2.", self.generate("error 5 text 1 range 1", FIRST.replace("version = 1", "version = 3")))
+        self.assertIn("out of its range: 1 or 2, for `lean` without faces 3, too.", self.generate("error 5 text 1 range 1", FIRST.replace("version = 1", "version = 3")))
 
     def test_policy_count_of_six_states(self):
         six = SECOND.replace("states = 1", "states = 6")
@@ -201,6 +201,11 @@ class Explained(unittest.TestCase):
         told = self.lean("error 8 too-many-steps 8388608")
         self.assertIn("K = 2^(s+1) R over 15/16 of the target", told)
         self.assertIn("or a policy with a smaller excess, as ./mpc policy --lean finds it", told)
+
+    def test_steps_of_the_accelerated_machine(self):
+        told = self.lean("error 8 too-many-steps 131070", FIRST.replace("version = 1", "version = 3"))
+        self.assertIn("K = 131070 steps, and at most 65534 are accepted. K (K + 3) = 2^(s+3) R over 15/16 of the target", told)
+        self.assertIn("at least 64", told)
 
     def test_sizes_of_a_lean_controller(self):
         self.assertIn("passes 2^126 (it is 2^181.7)", self.lean("error 10 too-wide excess", reference="1,0\n1,-999999999999999\n"))
