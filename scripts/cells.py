@@ -36,6 +36,7 @@ from .common.condensed import condense, curvature
 from .common.corners import corners_of, margin_of, multiplier_of, steps_of
 from .common.design_text import Design, plain, read_design, text_of
 from .common.launcher import LAUNCHER
+from .common.machines import machine_of, refuse_accelerated
 from .common.programs import Programs
 from .common.texts import loop_lines_of, read_text, records_text, report_of
 from .policy import find
@@ -46,7 +47,7 @@ PLACES = ((0.5,), (0.25,), (0.75,), (0.25, 0.75), (0.125, 0.875), (0.375, 0.625)
 # slacks at which plans are tried, by the greatest that all corners of the box have
 TIMES = tuple(2 ** (k / 2) for k in range(-6, 5))
 # the greatest K that `generate` takes
-MOST_STEPS = 4194304
+MOST_STEPS = machine_of(1).most_steps
 # what is no gain
 NOTHING = 0.99
 
@@ -301,6 +302,7 @@ def main() -> int:
     inputs = {"DESIGN": given.design} | {word: path for word, path in (("--cuts", given.cuts), ("--lines", given.lines)) if path}
     files.keep_apart(inputs, {"CUTS": given.cuts_file, "POLICIES": given.policies} | ({"--picture": given.picture} if given.picture else {}))
     design = read_design(given.design)
+    refuse_accelerated(design.version, "cells are of designs of")
     with Budget(given.seconds) as budget:
         cuts = cuts_in(given.cuts, design) if given.cuts else search(design, given.cells, Guesses(design), budget)
         tried = each_made(design, cuts, budget)

@@ -1,6 +1,6 @@
 """From a model to a controller that is judged: each step shown as the command that it runs, so that you can go on by hand where you like.
 
-    ./mpc design MODEL FOLDER [--as-it-is | --stay] [--same-cost] [--generate] [--gap PART] [--turns N] [--seconds S] [--corners N] [--random N] [--states N] [--seed N]
+    ./mpc design MODEL FOLDER [--as-it-is | --stay] [--same-cost] [--generate | --accelerated] [--gap PART] [--turns N] [--seconds S] [--corners N] [--random N] [--states N] [--seed N]
 
 In FOLDER, which is made where it isn't there, stand then
 
@@ -25,6 +25,8 @@ and where no loop is to leave the box, by --stay or by `stay` in the model's `[b
 and where the model's `[box]` has `disturbed`, range.csv is the range of it under which loops settle.
 
     --generate    makes the controller that keeps far from its limits, by `generate` or `stay`: of more steps, mostly far more, and with real violations far below the printed ones
+    --accelerated makes the controller for the accelerated machine, of version 3 (./mpc draft --accelerated): of far fewer steps where a run takes many. Its loops are run by ./mpc disturbed_loop
+                  under still.csv, disturbances of 0, since `loop` takes none of version 3, and no certificate is searched that they settle. Not with --stay
     --as-it-is    takes the model's own coordinates and box, whatever its loops do
     --stay        searches limits on the next state, coordinates and a box for which faces hold
     --same-cost   keeps the model's cost and stages where no loop is to leave the box and a run would take longer than a stage, in place of trying others
@@ -55,14 +57,17 @@ from .common import files, usage
 from .common.arguments import Parser, count, positive, turns
 from .common.design_text import read_design
 from .common.launcher import LAUNCHER
+from .common.machines import is_accelerated, refuse_accelerated
 from .common.models import Model, grid_disturbances, read_model
 from .common.texts import records_text
 
 MADE = ["fitted.toml", "design.toml", "policy.csv", "reference.csv", "controller.txt", "report.txt", "states.csv", "loop.txt", "exact.txt", "loop.svg", "judged.txt", "explained.txt", "report.html"]
 STAYS = ["faces.csv", "disturbances.csv"]
 SETTLES = ["settle.csv", "settled.txt"]
-RANGE, COVERED = "range.csv", "covered.toml"
+RANGE, COVERED, STILL = "range.csv", "covered.toml", "still.csv"
 LEFT_THE_BOX = 12
+# what is said where no certificate is found, of the plain machine and of the accelerated one
+UNSETTLED = ("no certificate was found that loops settle: what ./mpc settles says above is in the way", "that loops settle was not asked: `settle` reads controllers of versions 1 and 2")
 
 
 @dataclass
@@ -152,7 +157,8 @@ def make(steps: Steps, model: str, given: Namespace, stays: bool) -> None:
     """The design, its policy, its faces where no loop is to leave the box, and its controller: a lean one, but where the other is asked for."""
     design, policy, reference = map(steps.path, ("design.toml", "policy.csv", "reference.csv"))
     made = [steps.path("controller.txt"), steps.path("report.txt")]
-    steps.must("draft", model, design, "--gap", str(given.gap), *([] if given.generate else ["--lean"]))
+    kind = [] if given.generate else ["--accelerated"] if given.accelerated else ["--lean"]
+    steps.must("draft", model, design, "--gap", str(given.gap), *kind)
     steps.must("policy", design, policy, *([] if given.generate else ["--lean", reference]), "--turns", "0")
     texts = [design, policy] if given.generate else [design, policy, reference]
     command = "lean" if not given.generate else "stay" if stays else "generate"
@@ -197,14 +203,15 @@ def show(steps: Steps, model: str, given: Namespace) -> list[str]:
     """Loops and their picture, and what was measured beside what is printed; and in words where loops settle."""
     design, controller, states, loop, exact = map(steps.path, ("design.toml", "controller.txt", "states.csv", "loop.txt", "exact.txt"))
     steps.must("states", design, states, "--corners", str(given.corners), "--random", str(given.random), "--seed", str(given.seed))
-    left = steps.run("loop", design, controller, states, str(given.turns), to=loop)
+    still = kept_still(steps, given.turns)
+    left = steps.run(*loop_words(design, controller, states, given.turns, still), to=loop)
     if left.status == LEFT_THE_BOX:
-        add_other_starts(design, controller, states, loop, given.turns)
+        add_other_starts(design, controller, states, loop, given.turns, still)
         steps.must("reach", design, states, loop, "--turns", str(given.turns))
     elif left.status:
-        raise Refusal(f"mpc loop ended with status {left.status}: what stands above says why", left.status)
+        raise Refusal(f"the loops ended with status {left.status}: what stands above says why", left.status)
     steps.must("exact_loop", design, states, str(given.turns), to=exact)
-    settled = settle(steps, model)
+    settled = [] if still else settle(steps, model)
     boxes = ["--settled", steps.path("settled.txt"), "--certificate", steps.path("settle.csv")] if settled else []
     if left.said:
         steps.must("plot", design, loop, exact, "--labels", "controller,exact", "--report", steps.path("report.txt"), *boxes, "--out", steps.path("loop.svg"))
@@ -220,7 +227,21 @@ def show(steps: Steps, model: str, given: Namespace) -> list[str]:
     return settled
 
 
-def add_other_starts(design: str, controller: str, states: str, loop: str, count: int) -> None:
+def kept_still(steps: Steps, turns: int) -> str | None:
+    """The file of disturbances of 0 under which the loops of a design of version 3 are run; None of others, whose loops `loop` runs."""
+    design, path = read_design(steps.path("design.toml")), steps.path(STILL)
+    if not is_accelerated(design.version):
+        return None
+    files.write(path, records_text([[0] * design.states] * turns))
+    return path
+
+
+def loop_words(design: str, controller: str, states: str, turns: int, still: str | None) -> list[str]:
+    """The command that prints loops."""
+    return ["disturbed_loop" if still else "loop", design, controller, states, str(turns), *([still] if still else [])]
+
+
+def add_other_starts(design: str, controller: str, states: str, loop: str, count: int, still: str | None = None) -> None:
     """Adds the loops of the starts after one that leaves the box, at which `mpc loop` ends."""
     starts, all_lines, leaving, done = files.read_bytes(states).decode().splitlines(), files.read_bytes(loop).decode().splitlines(), [], 0
     lines = all_lines
@@ -230,7 +251,7 @@ def add_other_starts(design: str, controller: str, states: str, loop: str, count
         leaving.append(str(done))
         if done >= len(starts):
             break
-        status, lines = looped(design, controller, starts[done:], count)
+        status, lines = looped(design, controller, starts[done:], count, still)
         all_lines = all_lines + [f"{int(number) + done} {others}" for number, others in (line.split(" ", 1) for line in lines)]
         if status != LEFT_THE_BOX:
             break
@@ -238,12 +259,12 @@ def add_other_starts(design: str, controller: str, states: str, loop: str, count
     print(f"    the loops of starts {', '.join(leaving)} leave the box, and {loop} has them up to there, and those of the others after them")
 
 
-def looped(design: str, controller: str, starts: list[str], count: int) -> tuple[int, list[str]]:
-    """The status and the lines of `mpc loop` from these starts; what it says is known already."""
+def looped(design: str, controller: str, starts: list[str], count: int, still: str | None = None) -> tuple[int, list[str]]:
+    """The status and the lines of the loops from these starts; what is said of them is known already."""
     with tempfile.NamedTemporaryFile("w", suffix=".csv") as rest:
         rest.write("".join(start + "\n" for start in starts))
         rest.flush()
-        got = subprocess.run([LAUNCHER, "loop", design, controller, rest.name, str(count)], stdout=subprocess.PIPE, stderr=subprocess.DEVNULL, text=True)
+        got = subprocess.run([LAUNCHER, *loop_words(design, controller, rest.name, count, still)], stdout=subprocess.PIPE, stderr=subprocess.DEVNULL, text=True)
     return got.returncode, got.stdout.splitlines()
 
 
@@ -255,6 +276,14 @@ def says(path: str, what: Callable[[Model], object]) -> bool:
         return False
 
 
+def refuse_others(given: Namespace, stays: bool) -> None:
+    """Ends where no controller of version 3 is made as it is asked for."""
+    if given.generate:
+        refuse_accelerated(3, "`generate` makes controllers of")
+    if stays:
+        refuse_accelerated(3, "no loop leaves the box by faces, which are of models of")
+
+
 def main() -> int:
     parser = Parser(__doc__, prog="./mpc design")
     parser.add_argument("model", metavar="MODEL")
@@ -263,7 +292,9 @@ def main() -> int:
     either.add_argument("--as-it-is", action="store_true")
     either.add_argument("--stay", action="store_true")
     parser.add_argument("--same-cost", action="store_true")
-    parser.add_argument("--generate", action="store_true")
+    machine = parser.add_mutually_exclusive_group()
+    machine.add_argument("--generate", action="store_true")
+    machine.add_argument("--accelerated", action="store_true")
     parser.add_argument("--gap", type=positive, default=0.1, metavar="PART")
     parser.add_argument("--turns", type=turns, default=50, metavar="N")
     parser.add_argument("--seconds", type=positive, default=60.0, metavar="S")
@@ -272,15 +303,17 @@ def main() -> int:
     parser.add_argument("--seed", type=int, default=1, metavar="N")
     given = parser.parse_args()
     steps = Steps(given.folder)
-    files.keep_apart({"MODEL": given.model}, {name: steps.path(name) for name in [*MADE, *STAYS, *SETTLES, RANGE, COVERED]})
+    files.keep_apart({"MODEL": given.model}, {name: steps.path(name) for name in [*MADE, *STAYS, *SETTLES, RANGE, COVERED, STILL]})
     files.read_bytes(given.model)
-    os.makedirs(given.folder, exist_ok=True)
     began, stays = time.monotonic(), given.stay or says(given.model, lambda found: any(found.stay))
+    if given.accelerated or says(given.model, lambda found: is_accelerated(found.version)):
+        refuse_others(given, stays)
+    os.makedirs(given.folder, exist_ok=True)
     steps.must("outlook", given.model)
     model = fitted(steps, covering(steps, given.model, given), given, stays)
     make(steps, model, given, stays)
     settled = show(steps, model, given)
-    print("\n".join(settled) or "no certificate was found that loops settle: what ./mpc settles says above is in the way")
+    print("\n".join(settled) or UNSETTLED[is_accelerated(read_design(steps.path("design.toml")).version)])
     print(f"in {time.monotonic() - began:.0f} s: {steps.path('report.html')} has it all on one page, and {steps.path('controller.txt')} the controller")
     return 0
 

@@ -1,15 +1,17 @@
 """Drafts a design from a continuous model with limits, cost and box, all in physical units.
 
-    ./mpc draft MODEL [DESIGN] [--gap PART] [--keep-weights] [--lean]
+    ./mpc draft MODEL [DESIGN] [--gap PART] [--keep-weights] [--lean] [--accelerated]
 
 It samples and rounds the plant, divides each limit row by its tolerance (so that the violation target is 1 for all), holds limits on states at the next state,
-takes all weights by one factor so that the curvature is just below 1 (step 0), and asks for a gap of PART (0.1) of the greatest cost. In version 2 the curvature is just
+takes all weights by one factor so that the curvature is just below 1 (step 0), and asks for a gap of PART (0.1) of the greatest cost. From version 2 on the curvature is just
 below 16 (step 4): that leaves the steps as they are, and the exponents of flat rows can be lowered. The design goes to DESIGN, or is printed; what was done goes to
 standard error: what each rounding moved, and where the loop of the design settles beside that of the model. The policy is the next step: ./mpc policy DESIGN POLICY.
 
     --keep-weights    takes the weights as they are, with no common factor
-    --lean            for a lean controller, whose R is small and counts as a whole number: in version 2 the curvature is just below that power of two from 1 to 16, the
+    --lean            for a lean controller, whose R is small and counts as a whole number: from version 2 on the curvature is just below that power of two from 1 to 16, the
                       greatest, by which R loses at most a tenth to that (step 0 to 4)
+    --accelerated     for a lean controller of the accelerated machine, which takes about twice the root of the steps: the design is of version 3, whatever the model's is. So it is where
+                      the model has `version = 3`
 
 Where a size of the design would pass what the program accepts, the plant is rounded to a smaller denominator, or weights and limits more coarsely, and that is said.
 """
@@ -29,6 +31,7 @@ from .common.corners import corners_of, margin_of, multiplier_of
 from .common.design_text import Design, Name, plain, text_of
 from .common.lean_plans import LeanPlans
 from .common.lean_plans import whole as whole_bound
+from .common.machines import is_accelerated
 from .common.models import Model, named, read_model
 from .common.programs import Programs
 from .common.rounding import limit_denominator, moves, whole_limits, whole_ratio, whole_row
@@ -37,8 +40,8 @@ from .discretise import least_den, lost, response_error, responses_error, rounde
 from .explain import later_sizes
 from .policy import plans_with, search
 
-# the step exponent, by version: in version 2 that of a row is up to 4 less
-STEP = {1: 0, 2: 4}
+# the step exponent, by version: from version 2 on that of a row is up to 4 less
+STEP = {1: 0, 2: 4, 3: 4}
 # what R may lose to being whole
 WHOLE_LOSS = 1.1
 NUMERATOR = 2147483647
@@ -475,6 +478,11 @@ def place_words(design: Design, place: Settled | None) -> str:
     return ", ".join(told) + (f", where {' and '.join(binding)} bind{'s' * (len(binding) == 1)}" if binding else "")
 
 
+def accelerated(model: Model) -> Model:
+    """The model for the accelerated machine."""
+    return Model(model.text | {"version": 3})
+
+
 def main() -> int:
     parser = Parser(__doc__ + "\nA model is " + models.__doc__.split("\n", 1)[0].lower() + "\n" + models.__doc__.split("\n", 1)[1])
     parser.add_argument("model", metavar="MODEL")
@@ -482,10 +490,12 @@ def main() -> int:
     parser.add_argument("--gap", type=positive, default=0.1)
     parser.add_argument("--keep-weights", action="store_true")
     parser.add_argument("--lean", action="store_true")
+    parser.add_argument("--accelerated", action="store_true")
     given = parser.parse_args()
     files.keep_apart({"MODEL": given.model}, {"DESIGN": given.design or files.STANDARD_OUTPUT})
-    model = read_model(given.model)
-    made = told(model, given.gap, given.keep_weights, given.lean)
+    model = accelerated(read_model(given.model)) if given.accelerated else read_model(given.model)
+    # no other command makes a controller of that machine
+    made = told(model, given.gap, given.keep_weights, given.lean or is_accelerated(model.version))
     for words in made.said:
         say(words)
     text = text_of(made.design)

@@ -5,8 +5,9 @@
 The files come in any order, but for reference plans, which come after their policy; each is known by what it holds. FILE alone will do, and each further one adds what
 follows from it:
 
-    a report          every bound in decimals, and K = 2^(s+2) R over the violation target; in version 2 by how much each row may be exceeded
-    with a controller the products of a run, the bits of gains, multipliers and plan, the exponents of rows, and what its C takes of a Cortex-M4 at a clock (100 MHz)
+    a report          every bound in decimals, and K = 2^(s+2) R over the violation target; from version 2 on by how much each row may be exceeded
+    with a controller the products of a run, the bits of gains, multipliers and plan, the exponents of rows, and what its C takes of a Cortex-M4 at a clock (100 MHz); what
+                      version 3 would take where that is less, and of one of version 3 an estimate, beside what version 2 would take
     with a design     bounds in the units that its comments name, row by row, and the sizes in bits of 126
     with its policy   where R comes from: the corner and row of the least slack, the corner of the greatest cost, the step against the curvature; of a lean controller, with
                       its reference plans, the corner of the greatest excess
@@ -22,17 +23,20 @@ from fractions import Fraction
 
 from .common import files, matching, sizes
 from .common.arguments import Parser, positive
-from .common.c_costs import c_words
+from .common.c_costs import c_words, other_cycle_words, saves
 from .common.condensed import Condensed, condense, curvature
 from .common.corners import Corner, corners_of, cost_limit, lean_multiplier_of, margin_of, multiplier_of, steps_of
 from .common.design_text import Design, design_of, plain
 from .common.excess import excesses_of
 from .common.libraries import Refusal, run
+from .common.machines import accelerated_steps, is_accelerated, machine_of, plain_steps
 from .common.promises import promise_of, promise_words
 from .common.texts import Controller, cells_of, controller_of, kind_of, read_text, records_of, report_of, reports_of
 from .common.trajectories import dot
 
 WORD = 32
+# above so many steps it is told what the accelerated machine would take
+MANY = 100
 KINDS = {"design": "a design", "controller": "a controller", "cells": "cells", "report": "a report", "policy": "a policy", "reference": "a policy or reference plans"}
 KINDS |= {"lines": "lines of solve or loop, or nothing that is known", "settled": "what settle says"}
 
@@ -50,6 +54,8 @@ def report_words(report: dict, design: Design | None) -> Iterator[str]:
     """A report's lines in decimals."""
     least = " or more" if min(report["violations"], default=report["violation"]) < report["violation"] else ""
     yield f"every run takes K = {report['steps']} steps, a step is 2^-{report['step']}{least}, plans and gains have f = {report['bits']} fraction bits"
+    if is_accelerated(report["version"]):
+        yield weight_words(report["steps"])
     yield f"no product and no partial sum leaves a signed word of {report['width']} bits; {report['words']} words hold all that changes"
     if report["lean"]:
         yield f"R = {report['multiplier']}: the excess {plain(report['excess'])} over the sum of the least slack {plain(report['margin'])} and the violation target, rounded up"
@@ -69,6 +75,12 @@ def report_words(report: dict, design: Design | None) -> Iterator[str]:
     yield f"the plan costs at most {plain(report['gap'])} more than any feasible plan{part}"
     times = "the violation target" if report["lean"] else "the violation"
     yield f"and some feasible plan costs at most {plain(report['undercut'])} more than it (R times {times}, loose)"
+
+
+def weight_words(steps: int) -> str:
+    """How the plans of an accelerated run count."""
+    weights = f"weights 2 to {steps + 1}, together" if steps > 1 else "weight"
+    return f"the machine is accelerated (version 3): the plans count by the {weights} {machine_of(3).total(steps)}, over which the sums of `solve` are averaged"
 
 
 def violation_words(report: dict, design: Design, kind: str, number: int) -> str:
@@ -119,10 +131,15 @@ def cost_words(controller: Controller, period: float | None, clock: float, cycle
     if c.version > 1:
         yield exponent_words(c)
     yield (
-        f"signed words: gains W {bits_of(flat(c.W))} bits, P {bits_of(flat(c.P))}, rows G {bits_of(flat(c.G))}, E {bits_of(flat(c.E))}, multipliers {multiplier}, "
-        f"plan {plan}"
+        f"signed words: gains W {bits_of(flat(c.W))} bits, P {bits_of(flat(c.P))}, rows G {bits_of(flat(c.G))}, E {bits_of(flat(c.E))}, "
+        f"{accelerated_bits(c) if is_accelerated(c.version) else f'multipliers {multiplier}'}, plan {plan}"
     )
     yield from c_words(c, period, clock)
+
+
+def accelerated_bits(c: Controller) -> str:
+    """The bits of the rows' numbers in an accelerated run."""
+    return f"multipliers {bits_of([2 * c.clamp])}, their sums by weights {bits_of([2 * c.clamp * machine_of(c.version).total(c.steps)])}, means {bits_of([c.clamp])}"
 
 
 def words_of(bits: int) -> int:
@@ -209,9 +226,31 @@ def step_words(design: Design, report: dict | None, bound: int, lean: bool) -> I
     yield f"the curvature is {plain(steep)}, and the step needs 2^{step} = {2**step}: " + (
         "nothing is lost" if steep > 0.9 * 2**step else f"all weights by {plain(steep * 1.003 / 2**step)} would cost nothing and take K by that factor"
     )
-    formula, power = ("K = 2^(s+1) R over 15/16 of the target", 2 ** (step + 1)) if lean else ("K = 2^(s+2) R / target", 2 ** (step + 2))
-    over = plain(Fraction(design.violation, design.target_den) * (Fraction(15, 16) if lean else 1))
-    yield f"{formula} = {plain(power)} * {bound} / {over} = {steps_of(design, step, bound, lean)}"
+    steps, fast = steps_of(design, step, bound, lean), is_accelerated(design.version)
+    over = Fraction(design.violation, design.target_den) * (Fraction(15, 16) if lean else 1)
+    power = (1 if lean else 2) + 2 * fast
+    formula = f"2^(s+{power}) R {'over 15/16 of the target' if lean else '/ target'} = {plain(2 ** (step + power))} * {bound} / {plain(over)}"
+    if fast:
+        of_plain = steps_of(replace(design, version=2), step, bound, lean)
+        yield f"K = {steps}, the least with K (K + 3) at least {formula} = {plain(2 ** (step + power) * bound / over)}; in version 2 K = {of_plain}"
+    else:
+        yield f"K = {formula} = {steps}"
+
+
+def other_words(design: Design | None, report: dict | None, controller: Controller | None) -> Iterator[str]:
+    """What the other machine would take: the plain one in place of the accelerated; and that in place of the plain one of a lean controller, where it takes many steps or would take fewer cycles."""
+    made = report or {"version": controller.version, "steps": controller.steps, "lean": True}
+    fast = is_accelerated(made["version"])
+    if not fast and not (made["lean"] and (made["steps"] > MANY or controller and saves(controller))):
+        return
+    if design and report:
+        other = steps_of(replace(design, version=2 if fast else 3), report["step"], report["multiplier"], report["lean"])
+        told = f"K = {other}"
+    else:
+        other = plain_steps(made["steps"]) if fast else accelerated_steps(made["steps"])
+        told = f"at most {other} steps"
+    cycles = other_cycle_words(controller, other) if controller else ""
+    yield f"{'version 2' if fast else 'version 3 (`lean` without faces)'} would take {told}{cycles}" + ("" if fast else " (docs/SPEED.md)")
 
 
 def whole_words(design: Design, report: dict | None, margin: int, excess: int) -> Iterator[str]:
@@ -244,7 +283,7 @@ def class_words(design: Design, policy: list, form: Condensed) -> Iterator[str]:
         yield f"with rows that count 16 times, sizes pass 126 bits ({told_sizes(lowered)}), so that no row has a smaller step exponent, and each the same violation"
 
 
-def size_words(design: Design, policy: list, report: dict | None, reference: list | None = None) -> Iterator[str]:
+def size_words(design: Design, policy: list, report: dict | None, reference: list | None = None, exponents: list | None = None) -> Iterator[str]:
     """Each quantity in bits of 126, of the corners and of the condensed form by their classes."""
     _, cost = margin_of(corners_of(design, policy))
     bound, form = multiplier_from(design, policy, report, reference), sizes.form_of(design)
@@ -253,10 +292,10 @@ def size_words(design: Design, policy: list, report: dict | None, reference: lis
     parts[" of the corners' enclosures" if sizes.has_fine_corners(design, policy) else ""] |= sizes.corner_sizes(design, policy)
     if reference is not None:
         found, size = excesses_of(design, form, policy, reference)
-        parts[""] |= {"excess": size} | ({"multiplier": max(*found, 2**82 * bound)} if bound else {})
+        parts[""] |= {"excess": size} | ({"multiplier": sizes.multiplier_size(design, bound, max(found))} if bound else {})
     elif bound:
-        parts[""] |= {"multiplier": 2**82 * bound if is_lean(report, None) else sizes.multiplier_size(cost, bound)}
-    parts[" of the enclosures" if form.fine else ""] |= later_sizes(design, form, bound, report, is_lean(report, reference))
+        parts[""] |= {"multiplier": sizes.multiplier_size(design, bound, 0 if is_lean(report, None) else 2**16 * cost)}
+    parts[" of the enclosures" if form.fine else ""] |= later_sizes(design, form, bound, report, is_lean(report, reference), exponents)
     told = "; ".join((f"{of.strip()}: " if of else "") + told_sizes(found) for of, found in parts.items() if found)
     yield f"sizes in bits, at most 126 each: {told}"
     for of, found in parts.items():
@@ -264,19 +303,20 @@ def size_words(design: Design, policy: list, report: dict | None, reference: lis
             yield f"too wide{of}: {', '.join(wide(found))} (docs/SIZES.md)"
 
 
-def later_sizes(design: Design, form: Condensed, bound: int | None, report: dict | None, lean: bool = False) -> dict:
-    """The sizes of a condensed form, and of what is made of it as far as there is a bound R and a form within the limit."""
+def later_sizes(design: Design, form: Condensed, bound: int | None, report: dict | None, lean: bool = False, exponents: list | None = None) -> dict:
+    """The sizes of a condensed form, and of what is made of it as far as there is a bound R and a form within the limit; in version 3 by the exponents of rows where these are known."""
     found = sizes.form_sizes(design, form)
     if bound is None:
         return found
-    errors = sizes.Errors(design, form, bound)
+    step = report["step"] if report else 0
+    steps = steps_of(design, step, bound, lean)
+    errors = sizes.Errors(design, form, bound, steps, step, exponents)
     found["error"] = errors.size
     target = cost_limit(design, bound, lean)
     f = next((f for f in range(design.grid, 49) if errors.cost(f) <= target), None)
     if f is not None and found["hessian"] <= sizes.LIMIT:
         found["descent"], bounds = sizes.gain_bounds(design, form, f)
-        step = report["step"] if report else 0
-        found["width"] = sizes.greatest_width(design, form, bound, step, steps_of(design, step, bound, lean), f, bounds)
+        found["width"] = sizes.greatest_width(design, form, bound, step, steps, f, bounds)
     return found
 
 
@@ -332,9 +372,11 @@ def explain(texts: dict, clock: float = 100.0, cycles: float | None = None) -> I
         yield from report_words(report, design)
     if controller:
         yield from cost_words(controller, design.period if design else None, clock, cycles)
+    if controller or report:
+        yield from other_words(design, report, controller)
     if design and policy:
         yield from bound_words(design, policy, report, reference)
-        yield from size_words(design, policy, report, reference)
+        yield from size_words(design, policy, report, reference, controller.exps if controller else None)
     if "settled" in texts:
         if design is None:
             raise Refusal("what settle says is explained with its design: name that, too")

@@ -32,6 +32,7 @@ from .common.corners import corners_of, cost_limit, lean_multiplier_of, margin_o
 from .common.design_text import plain, read_design
 from .common.disturbances import box_in
 from .common.excess import excesses_of
+from .common.machines import refuse_accelerated
 from .common.texts import read_text, records_of, records_text
 from .common.trajectories import dot
 
@@ -380,6 +381,7 @@ def main():
     inputs = {"DESIGN": given.design, "POLICY": given.policy} | {word: path for word, path in optional.items() if path}
     files.keep_apart(inputs, {"FACES": given.faces or files.STANDARD_OUTPUT} | ({"--bears": given.bears} if given.bears else {}))
     design = read_design(given.design)
+    refuse_accelerated(design.version, "faces are of designs of")
     low, high = box_in(given.disturbances, design) if given.disturbances else ([0] * design.states, [0] * design.states)
     plans = {"POLICY": given.policy} | ({"REFERENCE": given.lean} if given.lean else {})
     records = [records_of(read_text(path)) for path in plans.values()]

@@ -16,13 +16,16 @@ from fractions import Fraction
 
 from .common import cell_boxes, sizes
 from .common.arguments import MOST_TURNS
-from .common.corners import corners_of, exact_corner, lean_multiplier_of, margin_of, multiplier_of
+from .common.condensed import Condensed, curvature
+from .common.corners import corners_of, exact_corner, lean_multiplier_of, margin_of, multiplier_of, steps_of
 from .common.design_text import Design, plain, read_design
 from .common.excess import excesses_of
 from .common.files import read_bytes, same
 from .common.libraries import run
+from .common.machines import is_accelerated, machine_of
 from .common.texts import read_text, records_of
 from .common.usage import commands, optional, places_of
+from .explain import step_of
 
 # ---- the texts: one for each status, and one for each fault that a status carries
 
@@ -491,8 +494,8 @@ def no_margin(call: Call, corner: int, row: int, above: int, below: int) -> str:
 
 def too_many_steps(call: Call, steps: int) -> str:
     design = call.design()
-    fast = design is not None and design.version == 3
-    most = 65534 if fast else 2**22
+    fast = design is not None and is_accelerated(design.version)
+    most = machine_of(design.version if design else 1).most_steps
     times = Fraction(steps * (steps + 3), most * (most + 3)) if fast else Fraction(steps, most)
     hint = f" (at least {plain(times * Fraction(design.violation, design.target_den))})" if design else ""
     formula, better = STEPS["fast" if fast else "lean" if call.command == "lean" else "generate"]
@@ -519,8 +522,14 @@ def sizes_of(design: Design, policy: list, reference: list | None) -> dict:
             return found
         excesses, size = excesses_of(design, form, policy, reference)
         bound = lean_multiplier_of(design, margin, max(0, *excesses))
-        return found | {"excess": size, "multiplier": max(*excesses, 2**82 * bound), "error": sizes.Errors(design, form, bound).size}
-    return found | sizes.form_sizes(design, form) | {"multiplier": sizes.multiplier_size(cost, bound), "error": sizes.Errors(design, form, bound).size}
+        return found | {"excess": size, "multiplier": sizes.multiplier_size(design, bound, max(excesses)), "error": errors_of(design, form, bound, True).size}
+    return found | sizes.form_sizes(design, form) | {"multiplier": sizes.multiplier_size(design, bound, 2**16 * cost), "error": errors_of(design, form, bound, False).size}
+
+
+def errors_of(design: Design, form: Condensed, bound: int, lean: bool) -> sizes.Errors:
+    """What errors cost; in version 3 by the steps, which the curvature needs."""
+    step = step_of(None, curvature(design, form)) if is_accelerated(design.version) else 0
+    return sizes.Errors(design, form, bound, steps_of(design, step, bound, lean), step)
 
 
 def too_wide(call: Call, name: str) -> str:

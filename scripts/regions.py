@@ -29,6 +29,7 @@ from .common.budget import Budget
 from .common.cell_boxes import cells_of
 from .common.corners import steps_of
 from .common.design_text import Design, plain, text_of
+from .common.machines import refuse_accelerated
 from .common.model_text import model_text
 from .common.models import Model, read_model, split_name
 from .common.programs import Programs
@@ -301,6 +302,8 @@ def main() -> int:
     given = parser.parse_args()
     files.keep_apart({"MODEL": given.model}, {"NEW_MODEL": given.new or files.STANDARD_OUTPUT} | dict(zip(("DESIGN", "CUTS", "POLICIES"), given.cells or [])))
     asked = read_model(given.model)
+    if given.cells:
+        refuse_accelerated(asked.version, "cells are of models of")
     made, texts = asked, []
     if asked.text.get("region"):
         with Budget(given.seconds) as budget:

@@ -168,7 +168,7 @@ def page(found: Found) -> str:
     return template.substitute(
         title=html.escape(found.title),
         warnings=f'<div class="warnings"><strong>Warnings</strong>{listed(told)}</div>' if told else '<p class="well">Nothing is to be warned of.</p>',
-        controller=listed(lines_with(found.explained, "every run", "no product", "the plan costs", "on a Cortex", "as C")),
+        controller=listed(lines_with(found.explained, "every run", "the machine is", "no product", "the plan costs", "on a Cortex", "as C", "version ")),
         promise="Promised for each state of the box; what was asked is the violation target."
         + (" No loop leaves the box: its faces stand beside, and lean or stay tested them where it made this controller of them." if found.bears else "")
         + (f" Loops settle: {html.escape(found.settles)}." if found.settles else ""),

@@ -18,6 +18,7 @@ import contextlib
 import io
 import math
 from dataclasses import dataclass, field, replace
+from fractions import Fraction
 
 from .common.libraries import Refusal, need, run, say
 
@@ -29,10 +30,11 @@ from . import faces
 from .common import files
 from .common.arguments import Parser, positive, several
 from .common.budget import Budget
-from .common.c_costs import about_step
+from .common.c_costs import ACCELERATED_ROW, ACCELERATED_STEP, about_step
 from .common.design_text import Design, plain
 from .common.kept_boxes import Plant, covered, largest, short_of
 from .common.lean_plans import LeanPlans
+from .common.machines import Accelerated, is_accelerated, refuse_accelerated
 from .common.model_text import TIMELY, model_text
 from .common.models import Model, grid_disturbances, neat, read_model
 from .common.programs import Programs
@@ -180,13 +182,15 @@ def steps_of(design: Design, generate: bool) -> float:
         return 4 * max(1.0, bound * steep)
     lean = LeanPlans(programs)
     bound = min(lean.bound(lean.plans(part)) for part in (LEAST / 2, *(min(slack, FAR) * part for part in SLACKS[:2])))
-    return 32 / 15 * max(1.0, bound * steep)
+    steps = 32 / 15 * max(1.0, bound * steep)
+    return float(Accelerated.steps(Fraction(steps))) if is_accelerated(design.version) and math.isfinite(steps) else steps
 
 
 def share_of(design: Design, steps: float, period: float, clock: float) -> float:
     """About which part of a stage a run of so many steps takes on a Cortex-M4 of so many MHz."""
     rows = Programs(design).rows
-    return steps * about_step(rows.round(12).tolist(), design.entries) / (period * clock * 1e6)
+    more = ACCELERATED_ROW * len(rows) + ACCELERATED_STEP if is_accelerated(design.version) else 0
+    return steps * (about_step(rows.round(12).tolist(), design.entries) + more) / (period * clock * 1e6)
 
 
 def lost_coordinate(model: Model, design: Design, generate: bool) -> int | None:
@@ -507,6 +511,7 @@ def main() -> int:
     given = parser.parse_args()
     files.keep_apart({"MODEL": given.model}, {"NEW_MODEL": given.new or files.STANDARD_OUTPUT})
     model = read_model(given.model)
+    refuse_accelerated(model.version, "no loop leaves the box by faces, which are of models of")
     found, holds = search(model, given.steps, given.seconds, given.generate, given.clock, given.same_cost)
     if not holds:
         say("no coordinates, no limits and no box were found for which faces hold, and the best that was seen is kept: stronger inputs, a smaller box or a smaller `disturbed` (docs/BOXES.md)")

@@ -3,10 +3,13 @@
 RAM is exact, and so are the tables in flash. Cycles and the bytes of the code are sums of shares that were fitted to what `bench/target/costs.py` measured of controllers of many
 sizes (gcc 12 -O2, cycles by the processor's table without wait states). That script says how near they come: cycles within 16 %, mostly 8, where there are two words a third; flash within a quarter.
 """
+from dataclasses import replace
+
 from .c_text import CHUNK, CText
 from .c_words import LONG, NARROW, PARTS, WIDE, Form
 from .design_text import plain
 from .libraries import Refusal
+from .machines import accelerated_steps, is_accelerated
 from .straight_costs import HELD, MOST_WIDTH, STEP, StraightCosts
 
 # cycles of a step for each product of the plan's entries, and for each entry
@@ -18,6 +21,11 @@ START = {NARROW: (11, 15), "two": (17, 18), "four": (11, 230), LONG: (11, 15), W
 # bytes of code: of everything, more by the words of entries and of rows, for each product that is written out, and for loops
 CODE, ENTRY_CODE, ROW_CODE = 800, {NARROW: 0, "two": 190, "four": 80, LONG: 60, WIDE: 230}, {NARROW: 0, "two": 80, "four": 780, LONG: 100, WIDE: 1100}
 PRODUCT_CODE, SINGLES_CODE, COUNTS_CODE = 15, 92, 61
+# cycles of a product and of a row of at most 64 bits, and what each row and a step take more in an accelerated run: the division of means, and two lists more. C made by hand of three examples at five
+# targets took 0.8 to 1.2 times as many (gcc 12 -O2, by the same table of cycles); no C of this machine is written yet
+A_PRODUCT, A_ROW, ACCELERATED_ROW, ACCELERATED_STEP = 2.5, 9, 55, 40
+# steps of the plain machine with which the accelerated one takes less, however much more of its own each takes
+MOST_PAYING = 10**6
 
 
 def kind(sums):
@@ -89,26 +97,73 @@ def rounded(value):
     return f"{round(value / unit) * unit:,}"
 
 
+def costs_of(controller):
+    """The costs of the C of a controller of the plain machine; Refusal where there is none."""
+    return StraightCosts(controller) if controller.width <= MOST_WIDTH else Costs(controller)
+
+
+def plain_cycles(controller, steps):
+    """About how many cycles a run of the plain machine takes that has a controller's numbers, and so many steps."""
+    return costs_of(replace(controller, version=2, steps=steps)).cycles
+
+
+def accelerated_cycles(controller, steps):
+    """And one of the accelerated machine: by its products, opposite rows sharing theirs, and its rows, none of which is left out."""
+    form = Form(controller)
+    rows = len(form.rows) + len(form.seconds)
+    step = A_PRODUCT * sum(form.products()) + A_ROW * rows if controller.width <= MOST_WIDTH else Costs(controller).step_cycles()
+    return steps * (step + ACCELERATED_ROW * rows + ACCELERATED_STEP)
+
+
 def c_words(controller, period, clock):
     """What the C of a controller takes and costs, in words."""
-    if controller.width <= MOST_WIDTH:
-        costs = StraightCosts(controller)
-        yield straight_words(costs.rows)
-    else:
-        try:
-            costs = Costs(controller)
-        except Refusal as why:
-            yield f"no C can be written of it: {why}"
-            return
-        yield table_words(costs.form)
+    try:
+        yield from accelerated_words(controller, period, clock) if is_accelerated(controller.version) else plain_words(controller, period, clock)
+    except Refusal as why:
+        yield f"no C can be written of it: {why}"
+
+
+def plain_words(controller, period, clock):
+    costs = costs_of(controller)
+    yield straight_words(costs.rows) if controller.width <= MOST_WIDTH else table_words(costs.form)
+    yield f"{cycle_words(controller, costs.cycles, period, clock)}; about {rounded(costs.flash)} bytes of flash, {costs.ram} of RAM"
+
+
+def accelerated_words(controller, period, clock):
+    """The same of a controller of version 3, as an estimate."""
+    cycles = accelerated_cycles(controller, controller.steps)
+    yield f"{cycle_words(controller, cycles, period, clock)}; an estimate, since no C is written yet of this machine: each row takes {ACCELERATED_ROW} cycles more than in the plain one"
+
+
+def cycle_words(controller, cycles, period, clock):
+    """The cycles of a run, and its time."""
     c = controller
     written = c.steps * (c.entries * (c.states + c.rows) + c.rows * (c.entries + c.states))
-    time = costs.cycles / (clock * 1e6)
+    time = cycles / (clock * 1e6)
     share = f", {plain(float(f'{100 * time / period:.2g}'))} % of a stage of {plain(period)} s" if period else ""
-    yield (
-        f"on a Cortex-M4 about {rounded(costs.cycles)} cycles a run, {costs.cycles / written:.1f} for each product as written: "
-        f"{plain(float(f'{time * 1e3:.2g}'))} ms at {plain(clock)} MHz{share}; about {rounded(costs.flash)} bytes of flash, {costs.ram} of RAM"
-    )
+    return f"on a Cortex-M4 about {rounded(cycles)} cycles a run, {cycles / written:.1f} for each product as written: {plain(float(f'{time * 1e3:.2g}'))} ms at {plain(clock)} MHz{share}"
+
+
+def other_cycle_words(controller, steps):
+    """What a run takes in so many steps of the machine that isn't the controller's, of the same numbers; and from how many steps of the plain one on the accelerated one takes less."""
+    fast = is_accelerated(controller.version)
+    of_plain, of_fast = (steps, controller.steps) if fast else (controller.steps, steps)
+    try:
+        plain_run, fast_run = plain_cycles(controller, of_plain), accelerated_cycles(controller, of_fast)
+    except Refusal:
+        return ""
+    ratio = fast_run / of_fast / (plain_run / of_plain)
+    pays = next((count for count in range(1, MOST_PAYING) if count > ratio * accelerated_steps(count)), MOST_PAYING)
+    told = f"about {rounded(plain_run)} cycles" if fast else f"about {rounded(fast_run)} cycles by an estimate"
+    return f", {told}; version 3 takes less from K = {pays} of version 2 on"
+
+
+def saves(controller):
+    """Whether a run of version 3 would take less than this one of the plain machine, as far as can be said."""
+    try:
+        return accelerated_cycles(controller, accelerated_steps(controller.steps)) < plain_cycles(controller, controller.steps)
+    except Refusal:
+        return False
 
 
 def straight_words(rows):

@@ -8,6 +8,7 @@ from fractions import Fraction
 from math import ceil, floor
 
 from .enclosures import ONE, enclosed, farthest, fine_costs, fine_limits, fine_trajectory
+from .machines import machine_of
 from .sizes import has_fine_corners
 from .trajectories import cost_of, slacks_of
 
@@ -78,8 +79,8 @@ def rounding_share(design, lean=False):
 
 
 def steps_of(design, step, multiplier, lean=False):
-    """K = ceil(2^(s+41) R / Tv), Tv the steps' share of the violation target over 2^40."""
-    return ceil(Fraction(2 ** (step + 41) * multiplier, step_share(design, lean)))
+    """K: 2^(s+41) R / Tv, rounded up, Tv the steps' share of the violation target over 2^40; in version 3 the least K with K (K + 3) at least four times that."""
+    return machine_of(design.version).steps(Fraction(2 ** (step + 41) * multiplier, step_share(design, lean)))
 
 
 def cost_limit(design, multiplier, lean=False):

@@ -17,7 +17,7 @@ from .files import read_bytes
 
 NAMED = re.compile(r"#\s*(state|input|stage row|final row) (\d+): ([^,]+?)(?:, 1 is ([0-9][0-9.eE+-]*) (.+?))?\s*$")
 # the greatest numbers of states and of stages, by version
-STATES, STAGES = {1: 4, 2: 6}, {1: 20, 2: 30}
+STATES, STAGES = {1: 4, 2: 6, 3: 6}, {1: 20, 2: 30, 3: 30}
 LASTS = re.compile(r"#\s*a stage lasts ([0-9][0-9.eE+-]*) s\s*$")
 
 

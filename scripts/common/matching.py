@@ -11,6 +11,7 @@ from .corners import corners_of, lean_multiplier_of, margin_of, multiplier_of, s
 from .design_text import Design, plain
 from .excess import excesses_of
 from .libraries import Refusal
+from .machines import machine_of
 from .texts import Controller
 
 # gains are rounded solutions: those of another cost are off by more than this part of the greatest of their column
@@ -35,7 +36,7 @@ def first(pairs: Iterable[tuple[str, object, object]], other: str) -> str | None
 
 def words_of(design: Design) -> int:
     """The words of memory that a run of the design's controller needs."""
-    return design.states + design.rows + 2 * design.entries
+    return design.states + machine_of(design.version).lists * design.rows + 2 * design.entries
 
 
 def report_difference(report: dict, design: Design) -> str | None:

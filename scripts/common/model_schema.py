@@ -79,7 +79,7 @@ def schema_of(version: int, n: int | None, p: int | None, held: int, plant_alone
     still = {"name": WORD, "into": states, "lo": NUMBER, "hi": NUMBER, "unit": POSITIVE}
     return table_of(
         {
-            "version": whole_from(1, 2),
+            "version": whole_from(1, 3),
             "period": POSITIVE,
             "stages": whole_from(1, STAGES[version]),
             "sampled": FLAG,
@@ -160,8 +160,8 @@ def plant_faults(model: dict) -> list[str]:
     """What is wrong with the sizes of the plant."""
     version = version_of(model)
     out = []
-    if "version" in model and (isinstance(model["version"], bool) or model["version"] not in (1, 2)):
-        out.append(f"version: version is 1 or 2, not {shown(model['version'])}")
+    if "version" in model and (isinstance(model["version"], bool) or model["version"] not in tuple(STATES)):
+        out.append(f"version: version is 1, 2 or 3, not {shown(model['version'])}")
     n, stages, still = len(model["a"]) if tables(model.get("a")) else 0, model.get("stages", 10), held_count(model)
     states = n + still + last_count(model)
     stages = stages if finite(None, stages) else 10
@@ -177,7 +177,8 @@ def plant_faults(model: dict) -> list[str]:
 
 
 def version_of(model: dict) -> int:
-    return 2 if not isinstance(model.get("version"), bool) and model.get("version") == 2 else 1
+    found = model.get("version")
+    return next((version for version in STATES if version == found and not isinstance(found, bool)), 1)
 
 
 def held_count(model: dict) -> int:

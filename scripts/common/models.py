@@ -1,6 +1,6 @@
 """A continuous model in physical units, as a text:
 
-    version = 2                                  # optional: up to 6 states and 30 stages, and each limit row has its own violation; 1: up to 4 and 20
+    version = 2                                  # optional: up to 6 states and 30 stages, and each limit row has its own violation; 1: up to 4 and 20; 3: as 2, for the accelerated machine
     period = 0.005                               # seconds a stage
     stages = 4
     a = [[0.0, 1.0], [0.0, -26.3]]               # x' = a x + b u

@@ -9,6 +9,7 @@ from math import ceil, log2
 
 from .condensed import condense
 from .enclosures import ONE, condense_fine
+from .machines import machine_of
 
 LIMIT = 2**126
 
@@ -127,19 +128,26 @@ def lowered_sizes(design, form):
     return form_sizes(design, form, 16)
 
 
-def multiplier_size(cost, multiplier):
-    """`multiplier`, which comes before these."""
-    return max(2**16 * cost, 2**82 * multiplier)
+def multiplier_size(design, multiplier, above=0):
+    """`multiplier`, of R and of what it is made of over 2^16: the greatest cost, or the excess."""
+    return max(above, 2 ** (82 + machine_of(design.version).more) * multiplier)
 
 
 # ---- what is made of it
 
 
-class Errors:
-    """What the errors of a step come to, by rounding and by the radii of the form, with multipliers up to 2 R."""
+# by how much the exponent of a row is lower at most
+LOWERED = 4
 
-    def __init__(self, design, form, multiplier):
+
+class Errors:
+    """What the errors of a step come to, by rounding and by the radii of the form, with multipliers up to 2 R; with the accelerated machine by its steps, and at most, where the exponents of its rows
+    aren't known but for the greatest."""
+
+    def __init__(self, design, form, multiplier, steps=1, step=0, exponents=None):
         self.design, self.form, self.top = design, form, 2 * multiplier
+        machine = machine_of(design.version)
+        self.carry = machine.carry(steps)
         self.rho, self.twice = min(design.input_weights), 2 if form.fine else 1
         self.box = over(max(map(abs, design.lo + design.hi)), 2**design.grid)
         spread = design.states * self.box + 1 + design.rows * self.top
@@ -149,7 +157,8 @@ class Errors:
         self.pull = design.cost_den * (self.box * linear + constant + self.top * sums(form.rows, form.row_radii, form.row_den))
         diagonal = [form.hess[j][j] + form.hess_radii[j][j] for j in range(design.entries)]
         self.tail = design.cost_den * spread * over(sum(diagonal), form.hess_den)
-        gradient = [over(v, 2 * form.hess_den) * spread + over(far(*row), form.hess_den) for v, *row in zip(diagonal, form.hess, form.hess_radii)]
+        means = machine.means(form, exponents or [max(0, step - LOWERED)] * design.rows)
+        gradient = [over(v, 2 * form.hess_den) * spread + over(far(*row), form.hess_den) + mean for v, mean, *row in zip(diagonal, means, form.hess, form.hess_radii)]
         self.squares = design.cost_den * sum(v * v for v in gradient)
         self.first = over(self.squares, 2 * self.rho)
         self.column = self.top * total(zip(*form.row_radii))
@@ -177,15 +186,15 @@ class Errors:
     def cost(self, f):
         """E(f): what the errors of a step cost at most, over 2^40."""
         d = self.design
-        rounding = over(self.twice * ONE * self.first, 4**f) + over(ONE * self.top * d.rows * self.residual(f), 2 ** (f + 1))
-        return rounding + over(d.entries * d.cost_den * self.moved(f) ** 2, ONE * self.rho) + over(self.row_radii(f), d.limit_den)
+        rounding = over(self.twice * self.carry * ONE * self.first, 4**f) + over(ONE * self.top * d.rows * self.residual(f), 2 ** (f + 1))
+        return rounding + over(self.carry * d.entries * d.cost_den * self.moved(f) ** 2, ONE * self.rho) + over(self.row_radii(f), d.limit_den)
 
     @property
     def size(self):
         """`error`."""
         d = self.design
-        rounding = self.pull + self.tail + self.squares + ONE * (self.first + self.top * d.rows * self.residual(0))
-        radii = d.cost_den * d.entries * self.moved(0) ** 2 + self.cost_radii(0) + self.column + self.row_radii(0)
+        rounding = self.pull + self.tail + self.squares + ONE * (self.carry * self.first + self.top * d.rows * self.residual(0))
+        radii = self.carry * d.cost_den * d.entries * self.moved(0) ** 2 + self.cost_radii(0) + self.column + self.row_radii(0)
         return self.twice**2 * rounding + radii
 
 
@@ -212,4 +221,5 @@ def greatest_width(design, form, multiplier, step, steps, f, bounds):
         sum(near(v) * plan for v in form.rows[i]) + sum(near(v) * x for v, x in zip(form.state_rows[i], reaches)) + 2**f * near(form.bounds[i])
         for i in range(design.rows)
     ]
-    return max(reaches + [entry, steps * plan] + sums + [clamp + over(v, 2**f) for v in sums])
+    machine = machine_of(design.version)
+    return max(reaches + [entry, machine.total(steps) * plan] + sums + machine.multiplier_sums(clamp, steps, [over(v, 2**f) for v in sums]))

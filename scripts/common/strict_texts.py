@@ -3,6 +3,7 @@ import json
 import re
 
 from .libraries import Refusal
+from .machines import refuse_accelerated
 from .texts import REPORT_LINES, SCALE, Controller, controller_of
 
 NUMBER = re.compile(r"0|-?[1-9][0-9]*")
@@ -51,6 +52,8 @@ def within(*ranges):
 def strict_controller(text):
     """The controller of a text in form; Refusal with the first line that no controller text has there."""
     lines = Lines(text)
+    if text.startswith("mpc-controller 3\n"):
+        refuse_accelerated(3, "C is written of controllers of")
     (version,) = lines.take("mpc-controller", 1, "mpc-controller and the version, 1 or 2", within((1, 2)))
     sizes = SIZES[version]
     n, p, stages, m = lines.take("size", 4, f"size, states up to {sizes[0]}, inputs up to 3, stages up to {sizes[2]} and rows up to {sizes[3]}", within(*[(1, most) for most in sizes]))

@@ -117,8 +117,8 @@ class Drafts(unittest.TestCase):
         self.assertEqual(models.Model("version = 2\n" + DOUBLE.replace("stages = 5", "stages = 30"), plant_alone=True).stages, 30)
         with self.assertRaisesRegex(ValueError, "version 1 has at most 4 states and 20 stages"):
             models.Model(DOUBLE.replace("stages = 5", "stages = 21"))
-        with self.assertRaisesRegex(ValueError, "version is 1 or 2, not 3"):
-            models.Model("version = 3\n" + DOUBLE)
+        with self.assertRaisesRegex(ValueError, "version is 1, 2 or 3, not 4"):
+            models.Model("version = 4\n" + DOUBLE)
 
     def test_growth_of_exact_numbers_and_of_enclosures(self):
         design = self.design("antenna")

@@ -58,7 +58,7 @@ FAULTS = (
     ("input = [1.0]\nbound", "input = [0.0]\nbound", "limit[1]: a factor other than 0 is expected"),
     (PLANT, PLANT + 'states = ["a,b m", "c"]\n', "states[1]: a name of at most 60 characters, without a comma is expected"),
     (PLANT, PLANT + 'states = ["a\\nb m", "c"]\n', "states[1]: a name of at most 60 characters, without a comma is expected"),
-    (PLANT, "version = 3\n" + PLANT, "version: version is 1 or 2, not 3"),
+    (PLANT, "version = 4\n" + PLANT, "version: version is 1, 2 or 3, not 4"),
     (PLANT, PLANT + "x = [\n", "no TOML document: "),
 )
 

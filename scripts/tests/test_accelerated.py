@@ -1,0 +1,323 @@
+"""Designs, reports and controllers of version 3, of the accelerated machine: their numbers against worked rows of another program, what is said of them, and what doesn't take them. Their texts are
+made by the independent model of the program."""
+import functools
+import os
+import re
+import subprocess
+import unittest
+import unittest.mock
+from argparse import Namespace
+from dataclasses import replace
+from fractions import Fraction
+
+from checks.fuzz import model, program
+from scripts.common import c_costs, matching, sizes
+from scripts.common.corners import cost_limit, steps_of
+from scripts.common.design_text import design_of, read_design
+from scripts.common.libraries import PACKAGES, Refusal, missing
+from scripts.common.machines import Accelerated, Plain, accelerated_steps, plain_steps
+from scripts.common.strict_texts import strict_controller
+from scripts.common.texts import controller_of, records_of, report_of
+from scripts.explain import explain
+
+from .worked import EXAMPLES, FIRST, FIRST_LEAN_CONTROLLER, FIRST_POLICY, FIRST_REFERENCE, FIRST_TIGHT, LONG, TOP, as_command, folder_with
+
+LACKING = missing(*PACKAGES)
+if not LACKING:
+    from scripts import design, draft, judge, staying
+    from scripts.common.models import Model
+    from scripts.common.programs import Programs
+    from scripts.report_page import lines_with
+
+LONG_POLICY, LONG_REFERENCE = "100,0,0\n8,-7,0\n", "1,0,0\n5,-3,-1\n"
+# the first design with a violation target of 1: R 1, and K 3 in place of 5
+COARSE = FIRST.replace("violation = 16", "violation = 1")
+MASS = """period = 0.2
+stages = 6
+a = [[0.0, 1.0], [0.0, 0.0]]
+b = [[0.0], [1.0]]
+[[limit]]
+name = "force"
+input = [1.0]
+bound = 1.0
+least = -1.0
+tolerance = 0.1
+[cost]
+input = [1.0]
+rows = [{ state = [1.0, 0.5], weight = 2.0 }]
+[box]
+hi = [1.0, 0.5]
+grid = 8
+"""
+
+
+def third(text: str) -> str:
+    return text.replace("version = 1", "version = 3")
+
+
+@functools.cache
+def made(text: str) -> tuple[str, str, str]:
+    """A design of version 3, its controller and its report, by the model."""
+    texts = {"d": third(text), "p": FIRST_POLICY, "q": FIRST_REFERENCE}
+    said = program.answer(["lean", "d", "p", "q", "c", "r"], lambda name: texts[name].encode(), lambda _: True, model.exact_gains)
+    return texts["d"], said.written["c"].decode(), said.written["r"].decode()
+
+
+def example(name: str, part: int = 1):
+    """An example's design of version 3, with this part of its targets."""
+    found = read_design(os.path.join(EXAMPLES, name, "design.toml"))
+    return replace(found, version=3, target_den=part * found.target_den, gap=part * found.gap)
+
+
+class Numbers(unittest.TestCase):
+    def test_the_fewest_steps(self):
+        for top in [*range(1, 400), 10**6, 10**6 + 1]:
+            times = Fraction(top, 7)
+            k = Accelerated.steps(times)
+            self.assertTrue(k * (k + 3) >= 4 * times and (k == 1 or (k - 1) * (k + 2) < 4 * times), times)
+            # without the fraction
+            self.assertTrue(k <= accelerated_steps(Plain.steps(times)) and Plain.steps(times) <= plain_steps(k))
+        self.assertEqual([accelerated_steps(k) for k in (1, 2, 100, 128, 340)], [1, 2, 19, 22, 36])
+        self.assertEqual([plain_steps(k) for k in (1, 3, 22)], [1, 5, 138])
+
+    def test_weights(self):
+        for steps in range(1, 40):
+            sums = [sum(k + 2 for k in range(count)) for count in range(1, steps + 1)]
+            self.assertEqual((Accelerated.total(steps), Accelerated.carry(steps)), (sums[-1], -(-Fraction(sum(sums), sums[-1]) // 1)))
+        self.assertEqual((Plain.total(9), Plain.carry(9)), (9, 1))
+
+    def test_steps_of_the_examples(self):
+        """As `lean` made them, with the examples' own plans, at their targets and at a quarter and a sixteenth of these."""
+        for name, step, of_parts in (("antenna", 0, ((159, 36), (603, 142), (1993, 521))), ("kiln", 0, ((120, 31), (240, 90), (320, 208))), ("motor", 0, ((4, 5), (15, 22), (44, 77))),
+                                     ("pmsm", 0, ((9, 8), (35, 34), (123, 129))), ("satellite", 0, ((3, 4), (11, 18), (33, 66))), ("wheel", 0, ((1, 2), (2, 7), (3, 19))),
+                                     ("rendezvous", 4, ((2, 16), (8, 65), (29, 251))), ("tracking", 0, ((20, 12), (78, 51), (276, 193)))):
+            for part, (bound, steps) in zip((1, 4, 16), of_parts):
+                self.assertEqual(steps_of(example(name, part), step, bound, True), steps, (name, part))
+
+    def test_errors(self):
+        """How often errors of the gradient count, what these cost, and epsilon at the bits that are the fewest for the targets."""
+        for text, bound, steps, exponents, carry, first, bits, epsilon in ((FIRST, 1, 1, [0, 1, 1], 1, 242, 6, 580357455872), (FIRST_TIGHT, 2, 18, [0, 1, 1], 7, 578, 13, 10535272448),
+                                                                           (COARSE, 1, 3, [0, 1, 1], 2, 242, 9, 66454552576)):
+            made = design_of(third(text))
+            self.assertEqual(steps_of(made, 1, bound, True), steps)
+            errors = sizes.Errors(made, sizes.form_of(made), bound, steps, 1, exponents)
+            self.assertEqual((errors.carry, errors.first, errors.cost(bits)), (carry, first, epsilon))
+            self.assertEqual(next(f for f in range(49) if errors.cost(f) <= cost_limit(made, bound, True)), bits)
+            # where the exponents of rows aren't known, by what they are at least
+            unknown = sizes.Errors(made, sizes.form_of(made), bound, steps, 1)
+            self.assertTrue(unknown.cost(bits) >= epsilon and unknown.size >= errors.size)
+
+    def test_errors_of_enclosures(self):
+        made = design_of(third(LONG.replace("a = [[1048576]]\nb = [[1048576]]", "a = [[1048577]]\nb = [[1048573]]")))
+        form = sizes.form_of(made)
+        once, often = (sizes.Errors(made, form, 2**30, steps, 1, [1] * made.rows) for steps in (1, 12))
+        self.assertEqual((form.fine, once.carry, often.carry), (True, 1, 5))
+        of_radii = made.entries * made.cost_den * once.moved(0) ** 2
+        self.assertEqual(often.size - once.size, 4 * (once.twice**2 * 2**40 * once.first + of_radii))
+        plain = sizes.Errors(replace(made, version=2), form, 2**30)
+        self.assertEqual(plain.carry, 1)
+        self.assertLess(plain.first, once.first)
+
+    def test_sizes(self):
+        """R counts four times, and multipliers and their sums by weights may be the greatest."""
+        made = design_of(third(FIRST))
+        self.assertEqual([sizes.multiplier_size(made, 8), sizes.multiplier_size(design_of(FIRST), 8), sizes.multiplier_size(made, 1, 2**100)], [2**87, 2**85, 2**100])
+        self.assertEqual((Plain.multiplier_sums(100, 3, [7, 0]), Accelerated.multiplier_sums(100, 3, [7, 0])), ([107, 100], [228, 200, 1800]))
+        form = sizes.form_of(made)
+        bounds = sizes.gain_bounds(made, form, 6)[1]
+        few, many = (sizes.greatest_width(made, form, 1, 1, steps, 6, bounds) for steps in (1, 1000))
+        self.assertEqual((many, many > few), (2 * 256 * Accelerated.total(1000), True))
+
+
+class Texts(unittest.TestCase):
+    def test_its_own(self):
+        for text in (FIRST, COARSE, FIRST_TIGHT):
+            found, controller, report = (reader(one) for reader, one in zip((design_of, controller_of, report_of), made(text)))
+            self.assertEqual((found.version, controller.version, report["version"], len(report["violations"]), report["lean"]), (3, 3, 3, 3, True))
+            self.assertIsNone(matching.report_difference(report, found))
+            self.assertIsNone(matching.policy_difference(report, found, records_of(FIRST_POLICY), records_of(FIRST_REFERENCE)))
+            self.assertIsNone(matching.controller_difference(controller, found))
+            self.assertIsNone(matching.made_difference(controller, report))
+
+    def test_others(self):
+        found, controller, report = (reader(one) for reader, one in zip((design_of, controller_of, report_of), made(COARSE)))
+        self.assertEqual(matching.report_difference(report, replace(found, version=2)), "its version is 3, and that of the design 2")
+        self.assertEqual(matching.report_difference(report | {"words": 6}, found), "its number of words is 6, and that of the design 12")
+        self.assertEqual(matching.report_difference(report | {"steps": 5}, found), "its K, at R 1 and step 2^-1, is 5, and that of the design 3")
+        self.assertEqual(matching.controller_difference(controller, replace(found, version=2)), "its version is 3, and that of the design 2")
+
+    def test_no_c(self):
+        with self.assertRaisesRegex(Refusal, "^C is written of controllers of versions 1 and 2: `lean` without faces and `solve` alone know the accelerated machine of version 3$"):
+            strict_controller(made(FIRST)[1])
+
+
+class Explained(unittest.TestCase):
+    def told(self, **files):
+        return list(explain(files))
+
+    def test_report(self):
+        found, controller, report = made(COARSE)
+        told = self.told(report=report, design=found, policy=FIRST_POLICY, reference=FIRST_REFERENCE, controller=controller)
+        for words in (
+            "every run takes K = 3 steps, a step is 2^-1 or more, plans and gains have f = 9 fraction bits",
+            "the machine is accelerated (version 3): the plans count by the weights 2 to 4, together 9, over which the sums of `solve` are averaged",
+            "no product and no partial sum leaves a signed word of 22 bits; 12 words hold all that changes",
+            "K = 3, the least with K (K + 3) at least 2^(s+3) R over 15/16 of the target = 16 * 1 / 0.9375 = 17.07; in version 2 K = 5",
+        ):
+            self.assertIn(words, told)
+        self.assertIn("the plans count by the weight 2, over which", "\n".join(self.told(report=made(FIRST)[2])))
+
+    def test_controller(self):
+        controller = made(COARSE)[1]
+        told = self.told(controller=controller)
+        # multipliers to 2 * 2048 and their sums to 9 times that, means to 2048
+        self.assertIn("multipliers 14, their sums by weights 17, means 13, plan", next(line for line in told if line.startswith("signed words")))
+        # three rows of which two are opposite, of 6 products that share 2
+        cycles = c_costs.accelerated_cycles(controller_of(controller), 3)
+        self.assertEqual(cycles, 3 * (2.5 * 4 + 3 * (9 + 55) + 40))
+        self.assertRegex("\n".join(told), r"on a Cortex-M4 about 730 cycles a run, .*; an estimate, since no C is written yet of this machine: each row takes 55 cycles more")
+        self.assertFalse(any(line.startswith("as C") or "flash" in line for line in told))
+
+    def test_what_the_plain_machine_would_take(self):
+        found, controller, report = made(COARSE)
+        told = lambda **files: [line for line in self.told(**files) if line.startswith("version ")]
+        self.assertEqual(told(report=report, design=found), ["version 2 would take K = 5"])
+        self.assertEqual(told(report=report), ["version 2 would take at most 5 steps"])
+        (line,) = told(report=report, design=found, controller=controller)
+        plain = c_costs.plain_cycles(controller_of(controller), 5)
+        self.assertTrue(line.startswith(f"version 2 would take K = 5, about {c_costs.rounded(plain)} cycles; version 3 takes less from K = "), line)
+        # from there on it does, by as many cycles a step
+        pays, ratio = int(re.findall(r"K = (\d+)", line)[1]), c_costs.accelerated_cycles(controller_of(controller), 3) / 3 / (plain / 5)
+        self.assertTrue(pays > ratio * accelerated_steps(pays) and pays - 1 <= ratio * accelerated_steps(pays - 1))
+
+    def test_what_the_accelerated_machine_would_take(self):
+        """Of a lean controller of many steps; of one of few, or one that `generate` made, nothing is said."""
+        report = lambda text, steps: text.replace("steps 1\n", f"steps {steps}\n").replace("steps 4\n", f"steps {steps}\n")
+        lean = "mpc-report 1\nmargin 8192 65536\nexcess 18432 65536\nmultiplier 1\nstep 1\nsteps 1\nbits 6\nwidth 16\nwords 6\nviolation 1 1099511627776\ngap 1 1099511627776\nundercut 1 1099511627776\nend\n"
+        told = lambda text: [line for line in self.told(report=text) if line.startswith("version ")]
+        self.assertEqual(told(report(lean, 340)), ["version 3 (`lean` without faces) would take at most 36 steps (docs/SPEED.md)"])
+        self.assertEqual((told(report(lean, 100)), told(report(lean.replace("excess 18432 65536", "cost 1"), 340))), ([], []))
+        # R 377 of the tight design, whose K is 16086, and of version 3 exactly
+        tight = report(lean, 16086).replace("multiplier 1\n", "multiplier 377\n")
+        words = self.told(report=tight, design=FIRST_TIGHT)
+        self.assertIn(f"version 3 (`lean` without faces) would take K = {steps_of(design_of(third(FIRST_TIGHT)), 1, 377, True)} (docs/SPEED.md)", words)
+        # of a controller beside it, cycles
+        controller = FIRST_LEAN_CONTROLLER.replace("steps 1\n", "steps 2000\n").replace("bits 6 0 1 16", "bits 6 0 1 30")
+        (line,) = [line for line in self.told(controller=controller) if line.startswith("version ")]
+        self.assertRegex(line, r"^version 3 \(`lean` without faces\) would take at most 88 steps, about 21,000 cycles by an estimate; version 3 takes less from K = \d+ of version 2 on")
+
+
+@unittest.skipIf(LACKING, f"missing: {', '.join(LACKING)}")
+class Made(unittest.TestCase):
+    def test_drafts(self):
+        """By the option, whatever version the model is of, and by the model's own."""
+        _, paths = folder_with(self, plain=MASS, own="version = 3\n" + MASS, bad="version = 4\n" + MASS)
+        run = lambda *words: subprocess.run([*as_command("draft"), *words], capture_output=True, text=True)
+        told = [run(paths["plain"], "--accelerated"), run(paths["own"]), run(paths["plain"], "--lean")]
+        self.assertEqual([got.returncode for got in told], [0, 0, 0])
+        first, second, third_ = (design_of(got.stdout) for got in told)
+        self.assertEqual((first.version, first == second, third_.version), (3, True, 1))
+        # of the step that `--lean` chooses
+        step = draft.lean_step(draft.draft(Model("version = 3\n" + MASS)))
+        self.assertTrue(0.97 < draft.curvature(first) / 2**step <= 1)
+        self.assertIn("version: version is 1, 2 or 3, not 4", run(paths["bad"]).stderr)
+        with self.assertRaisesRegex(ValueError, "version 3 has at most 6 states and 30 stages"):
+            Model("version = 3\n" + MASS.replace("stages = 6", "stages = 31"))
+
+    def test_policies(self):
+        _, paths = folder_with(self, d=third(COARSE))
+        got = subprocess.run([*as_command("policy"), paths["d"], "--lean", paths["d"] + "-reference", "--turns", "0"], capture_output=True, text=True)
+        self.assertEqual(got.returncode, 0, got.stderr)
+        self.assertIn("R 1, curvature", got.stderr)
+        self.assertIn("so step 1 and K about 3\n", got.stderr)
+
+    def test_about_how_many_steps(self):
+        plain, fast = (staying.steps_of(replace(example("antenna"), version=version), False) for version in (2, 3))
+        self.assertEqual(fast, Accelerated.steps(Fraction(plain)))
+        share = lambda version: staying.share_of(replace(example("motor"), version=version), 10, 0.005, 100)
+        # eight rows
+        self.assertAlmostEqual(share(3) - share(2), 10 * (8 * 55 + 40) / (0.005 * 100e6))
+
+    def test_judged(self):
+        """By the denominators of `solve`'s lines: 4608 is 9 times 2^9."""
+        found, controller, _ = made(COARSE)
+        texts = {"c": controller, "s": "1\n0\n"}
+        said = program.answer(["solve", "c", "s"], lambda name: texts[name].encode(), lambda _: True, model.exact_gains)
+        lines = b"".join(said.out).decode().splitlines()
+        self.assertEqual(lines[0], "4608 -2480")
+        (excess, row, *_), (least, *_) = judge.judge(design_of(found), [[1], [0]], lines)
+        # 1 - 2480 / 4608 less 1/4, over the whole bound of the last row
+        self.assertEqual((excess, row, least), (1 - Fraction(2480, 4608) - Fraction(1, 4), 3, Fraction(-1, 4)))
+        self.assertIsNotNone(Programs(design_of(found)).best([1.0]))
+
+
+@unittest.skipIf(LACKING, f"missing: {', '.join(LACKING)}")
+class Refused(unittest.TestCase):
+    """What takes versions 1 and 2 alone says so."""
+
+    def test_commands(self):
+        found, controller, _ = made(FIRST)
+        _, paths = folder_with(self, d=found, c=controller, p=FIRST_POLICY, m="version = 3\n" + MASS, n=MASS, o=MASS + "stay = [0.1, 0.0]\n")
+        out = paths["d"] + "-out"
+        for told, *words in (
+            ("cells are of designs of", "cells", paths["d"], out, out + "-p"),
+            ("cells are of models of", "regions", paths["m"], out, "--cells", out + "-d", out + "-c", out + "-p"),
+            ("faces are of designs of", "faces", paths["d"], paths["p"], out),
+            ("no loop leaves the box by faces, which are of models of", "staying", paths["m"], out),
+            ("`settle` reads controllers of", "settles", paths["d"], paths["c"], out),
+            ("C is written of controllers of", "c_source", paths["c"], "--name", "mpc", "--out", os.path.dirname(out)),
+            ("C is written of controllers of", "nearest", paths["c"], "mpc", os.path.dirname(out)),
+            ("no loop leaves the box by faces, which are of models of", "design", paths["n"], out, "--accelerated", "--stay"),
+            ("no loop leaves the box by faces, which are of models of", "design", paths["o"], out, "--accelerated"),
+            ("`generate` makes controllers of", "design", paths["m"], out, "--generate"),
+        ):
+            got = subprocess.run([*as_command(words[0]), *words[1:]], capture_output=True, text=True)
+            with self.subTest(words=words[0]):
+                self.assertEqual((got.returncode, got.stdout), (1, ""), got.stderr)
+                self.assertIn(f"{told} versions 1 and 2: `lean` without faces and `solve` alone know the accelerated machine of version 3\n", got.stderr)
+        got = subprocess.run([*as_command("design"), paths["n"], out, "--accelerated", "--generate"], capture_output=True, text=True)
+        self.assertIn("not allowed with argument", got.stderr)
+        self.assertEqual(sorted(os.listdir(os.path.dirname(out))), ["c", "d", "m", "n", "o", "p"])
+
+
+@unittest.skipIf(LACKING, f"missing: {', '.join(LACKING)}")
+class WholeWay(unittest.TestCase):
+    def test_what_is_run(self):
+        folder, _ = folder_with(self, **{"design.toml": third(COARSE)})
+        steps, ran = design.Steps(folder), []
+        given = Namespace(generate=False, accelerated=True, gap=0.1)
+        with unittest.mock.patch.object(design.Steps, "run", lambda _, *words, to=None: ran.append([os.path.basename(word) for word in words]) or design.Step(0, "")):
+            design.make(steps, "model.toml", given, False)
+        self.assertEqual(ran, [["draft", "model.toml", "design.toml", "--gap", "0.1", "--accelerated"], ["policy", "design.toml", "policy.csv", "--lean", "reference.csv", "--turns", "0"],
+                               ["lean", "design.toml", "policy.csv", "reference.csv", "controller.txt", "report.txt"]])
+        still = design.kept_still(steps, 3)
+        with open(still, encoding="ascii") as file:
+            self.assertEqual(file.read(), "0\n0\n0\n")
+        self.assertEqual(design.loop_words("d", "c", "s", 3, still), ["disturbed_loop", "d", "c", "s", "3", still])
+        self.assertEqual(design.loop_words("d", "c", "s", 3, None), ["loop", "d", "c", "s", "3"])
+        _, paths = folder_with(self, **{"design.toml": COARSE})
+        self.assertIsNone(design.kept_still(design.Steps(os.path.dirname(paths["design.toml"])), 3))
+
+    def test_page(self):
+        """What the other machine would take stands on the page."""
+        found, controller, report = made(COARSE)
+        told = list(explain({"report": report, "design": found, "controller": controller}))
+        self.assertEqual(len(lines_with(told, "the machine is", "version ")), 2)
+
+    @unittest.skipUnless(os.path.exists(os.path.join(TOP, "crates/mpc_cli/out/mpc_cli")), "the program isn't built")
+    def test_from_a_model_to_a_page(self):
+        folder, paths = folder_with(self, model=MASS)
+        made = os.path.join(folder, "made")
+        words = ["--accelerated", "--as-it-is", "--turns", "20", "--states", "4", "--random", "1"]
+        got = subprocess.run([os.path.join(TOP, "mpc"), "design", paths["model"], made, *words], capture_output=True, text=True)
+        self.assertEqual((got.returncode, got.stderr), (0, ""), got.stdout)
+        self.assertEqual(sorted(os.listdir(made)), sorted({*design.MADE, design.STILL} - {"fitted.toml"}))
+        with open(os.path.join(made, "controller.txt"), encoding="ascii") as file:
+            self.assertEqual(file.readline(), "mpc-controller 3\n")
+        self.assertIn("that loops settle was not asked: `settle` reads controllers of versions 1 and 2\n", got.stdout)
+        with open(os.path.join(made, "judged.txt"), encoding="utf-8") as file:
+            self.assertRegex(file.read(), "at 8 states(.|\n)*of what is printed that is [0-9.]+ % of the violation")
+
+
+if __name__ == "__main__":
+    unittest.main()
