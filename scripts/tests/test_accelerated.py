@@ -27,7 +27,6 @@ if not LACKING:
     from scripts import design, draft, judge, staying
     from scripts.common.models import Model
     from scripts.common.programs import Programs
-    from scripts.report_page import lines_with
 
 LONG_POLICY, LONG_REFERENCE = "100,0,0\n8,-7,0\n", "1,0,0\n5,-3,-1\n"
 # the first design with a violation target of 1: R 1, and K 3 in place of 5
@@ -202,9 +201,17 @@ class Explained(unittest.TestCase):
         words = self.told(report=tight, design=FIRST_TIGHT)
         self.assertIn(f"version 3 (`lean` without faces) would take K = {steps_of(design_of(third(FIRST_TIGHT)), 1, 377, True)} (docs/SPEED.md)", words)
         # of a controller beside it, cycles
-        controller = FIRST_LEAN_CONTROLLER.replace("steps 1\n", "steps 2000\n").replace("bits 6 0 1 16", "bits 6 0 1 30")
+        controller = FIRST_LEAN_CONTROLLER.replace("steps 1\n", "steps 20000\n").replace("bits 6 0 1 16", "bits 6 0 1 30")
         (line,) = [line for line in self.told(controller=controller) if line.startswith("version ")]
-        self.assertRegex(line, r"^version 3 \(`lean` without faces\) would take at most 88 steps, about 21,000 cycles by an estimate; version 3 takes less from K = \d+ of version 2 on")
+        self.assertRegex(line, r"^version 3 \(`lean` without faces\) would take at most 282 steps, about 68,000 cycles by an estimate; version 3 takes less from K = \d+ of version 2 on")
+        # of few steps where it takes fewer cycles
+        few = controller.replace("steps 20000\n", "steps 50\n")
+        saved = lambda told: any(line.startswith("version 3") for line in told)
+        self.assertFalse(saved(self.told(controller=few)))
+        with unittest.mock.patch("scripts.explain.saves", lambda _: True):
+            self.assertTrue(saved(self.told(controller=few)))
+        self.assertTrue(c_costs.saves(controller_of(controller)))
+        self.assertFalse(c_costs.saves(controller_of(few)))
 
 
 @unittest.skipIf(LACKING, f"missing: {', '.join(LACKING)}")
@@ -298,12 +305,6 @@ class WholeWay(unittest.TestCase):
         _, paths = folder_with(self, **{"design.toml": COARSE})
         self.assertIsNone(design.kept_still(design.Steps(os.path.dirname(paths["design.toml"])), 3))
 
-    def test_page(self):
-        """What the other machine would take stands on the page."""
-        found, controller, report = made(COARSE)
-        told = list(explain({"report": report, "design": found, "controller": controller}))
-        self.assertEqual(len(lines_with(told, "the machine is", "version ")), 2)
-
     @unittest.skipUnless(os.path.exists(os.path.join(TOP, "crates/mpc_cli/out/mpc_cli")), "the program isn't built")
     def test_from_a_model_to_a_page(self):
         folder, paths = folder_with(self, model=MASS)
@@ -314,6 +315,9 @@ class WholeWay(unittest.TestCase):
         self.assertEqual(sorted(os.listdir(made)), sorted({*design.MADE, design.STILL} - {"fitted.toml"}))
         with open(os.path.join(made, "controller.txt"), encoding="ascii") as file:
             self.assertEqual(file.readline(), "mpc-controller 3\n")
+        with open(os.path.join(made, "report.html"), encoding="utf-8") as file:
+            page = file.read().split("<pre", 1)[0]
+        self.assertRegex(page, "<li>the machine is accelerated(.|\n)*<li>version 2 would take K = [0-9]+, about")
         self.assertIn("that loops settle was not asked: `settle` reads controllers of versions 1 and 2\n", got.stdout)
         with open(os.path.join(made, "judged.txt"), encoding="utf-8") as file:
             self.assertRegex(file.read(), "at 8 states(.|\n)*of what is printed that is [0-9.]+ % of the violation")
