@@ -156,11 +156,16 @@ def heads(name, c):
     )
 
 
+def refusal(i, low, high):
+    """The line that refuses number i of the state outside the box; with the greatest number of 32 bits it is not compared."""
+    above = "" if high == 2**31 - 1 else f" || state[{i}] > {constant(high)[0]}"
+    return f"    if (state[{i}] < {constant(low)[0]}{above}) {{ return {i + 1}; }}"
+
+
 def source_lines(name, c):
     program, (solve, first_inputs) = Program(c), heads(name, c)
     yield from (f'#include "{name}.h"', "", f"typedef char {name}_shifts_round_down[((-INT64_C(3)) >> 1) == (-INT64_C(2)) ? 1 : -1];", "", solve, "{")
-    for i, (low, high) in enumerate(zip(c.lo, c.hi)):
-        yield f"    if (state[{i}] < {constant(low)[0]} || state[{i}] > {constant(high)[0]}) {{ return {i + 1}; }}"
+    yield from map(refusal, range(c.n), c.lo, c.hi)
     yield from (f"    {line}" for line in program.before())
     yield f"    for (int32_t step = 0; step < {c.steps}; step++) {{"
     yield from (f"        {line}" for line in program.body())

@@ -1,10 +1,12 @@
 -- A whole program never has another's text: no line has a line feed in it, so the text is cut into lines in one way, and each line tells what it is of.
-use Rattle.std.proofs.Common.{◌≡◌, ℕ, zero, suc, ◌^◌, ◌<◌, Bool, true, false, true≢false, if◌then◌else◌, eqb, ℤ, pos, negsuc, List, [], ◌∷◌, ◌++◌, length, map, get_or, drop, unsigned_abs, refl, sym, ap, subst, ◌∙◌, append_assoc, arith, inl, inr}
+use Rattle.std.proofs.Common.{◌≡◌, ℕ, zero, suc, ◌^◌, ◌<◌, Bool, true, false, true≢false, cond, if◌then◌else◌, eqb, ℤ, pos, negsuc, List, [], ◌∷◌, ◌++◌, length, map, get_or, drop, unsigned_abs, refl, sym, ap, subst, ◌∙◌, append_assoc, arith, inl, inr}
 use Rattle.std.specs.Prelude.{All, codes, decimal}
 use Rattle.std.specs.Char.{digit_value}
+use Rattle.std.specs.Ordering.{int_eq}
 use Rattle.std.specs.List.{slice_split}
 use Rattle.std.specs.Str.Parse.{AllDigits}
-use Rattle.std.proofs.lemmas.Bool.{cases_eq, ne_eqb}
+use Rattle.std.proofs.lemmas.Bool.{cases_eq, ne_eqb, cond_both}
+use Rattle.std.proofs.lemmas.Bool.Decides.{Decides-int_eq}
 use Rattle.std.proofs.lemmas.Fmt.{decimal_is_IsNumeral, decimal_injective}
 use Rattle.std.proofs.lemmas.List.{append_cancel_left, append_cancel_right, same_from_push, same_lists, get_or_default}
 use Rattle.std.proofs.lemmas.List.Elements.{All-append}
@@ -16,7 +18,7 @@ use Rattle.c_program.specs.Syntax.Family.{State, Loaded, EntryBase, RowBase, Mul
 use Rattle.c_program.specs.Syntax.Kind.{Narrow, Wide}
 use Rattle.c_program.specs.Syntax.Expression.{Constant, Value, Plus, Minus, Times, Quotient, Remainder, Shifted}
 use Rattle.c_program.specs.Syntax.Statement.{Declare, Assign, AtLeastZero, AtMost}
-use Rattle.c_program.specs.Text.{name_of, variable_text, kind_text, constant_text, enclosed, closed, expression_text, cast_text, statement_text, statement_lines, numbered_lines, refusal_text, refusal_line, output_line, head_text, average_line, average_head_text, shift_line, second_lines, program_lines, HasNoLineFeed}
+use Rattle.c_program.specs.Text.{name_of, variable_text, kind_text, constant_text, enclosed, closed, expression_text, cast_text, statement_text, statement_lines, numbered_lines, comparison_text, above_text, refusal_text, refusal_line, output_line, head_text, average_line, average_head_text, shift_line, second_lines, program_lines, HasNoLineFeed}
 use Rattle.c_program.specs.Terms.{opening_lines, repetition_line}
 use Rattle.c_program.specs.Laws.{HasShortNumbers, HasShortOperands, kind_given, HasShortText, AreOneProgram, ProgramTextLaw}
 use Rattle.c_program.proofs.Reading.{expression_text_law}
@@ -167,33 +169,23 @@ statements_plain kind indent (s ∷ ss) p h =
     let first = join indent (statement_text kind s) p (statement_plain kind s (h 0 s (omega arith))) in
     (first.piece, statements_plain kind indent ss p (λ k e lt. h (suc k) e (omega (arith, lt))))
 
+above_plain : (h : ℤ) (i : ℕ) → unsigned_abs h < 2 ^ 64 → i < 2 ^ 64 → Plain (above_text h i)
+above_plain h i small few =
+    let comparison = glue (codes " || ") (name_of State i ∷ codes " > " ∷ constant_text h ∷ []) (word _ refl) (name_plain State i few, (word _ refl, (constant_plain h small, tt))) in
+    cond_both (int_eq h (pos 2147483647)) [] (comparison_text h i) Plain (λ t. word [] refl) (λ f. comparison)
+
 refusal_plain : (p : CProgram) → HasShortText p → (i : ℕ) → i < length p.low → Plain (refusal_line p i)
 refusal_plain p h i l =
     let small : i < 2 ^ 64 = omega (arith, h.states, l) in
-    let name = name_plain State i small in
-    glue (codes "    if (") (name_of State i ∷ codes " < " ∷ constant_text (at p.low i) ∷ codes " || " ∷ name_of State i ∷ codes " > " ∷ constant_text (at p.high i) ∷ codes ") { return " ∷ decimal (suc i) ∷ codes "; }" ∷ [])
+    let above = above_plain (at p.high i) i (h.high i l) small in
+    glue (codes "    if (") (name_of State i ∷ codes " < " ∷ constant_text (at p.low i) ∷ above_text (at p.high i) i ∷ codes ") { return " ∷ decimal (suc i) ∷ codes "; }" ∷ [])
     (word _ refl) (
-      name,
+      name_plain State i small,
       (
         word _ refl,
         (
           constant_plain (at p.low i) (h.low i l),
-          (
-            word _ refl,
-            (
-              name,
-              (
-                word _ refl,
-                (
-                  constant_plain (at p.high i) (h.high i l),
-                  (
-                    word _ refl,
-                    (decimal_plain (suc i) (omega (arith, h.states, l)), (word _ refl, tt)),
-                  ),
-                ),
-              ),
-            ),
-          ),
+          (above, (word _ refl, (decimal_plain (suc i) (omega (arith, h.states, l)), (word _ refl, tt)))),
         ),
       ),
     )
@@ -334,27 +326,34 @@ two_numbers front more end m n k l a b c d e =
     let second = number_then n l 93 end end b d bracket_value (append_cancel_left more (decimal n ++ (93 ∷ end)) (decimal l ++ (93 ∷ end)) first.1) in
     (first.0, second.0)
 
-refusal_nested : (p l b n c h x d z : List ℕ) → p ++ l ++ b ++ n ++ c ++ h ++ x ++ d ++ z ≡ p ++ (l ++ (b ++ (n ++ (c ++ (h ++ (x ++ (d ++ z)))))))
-refusal_nested p l b n c h x d z = simp append_assoc refl
+-- a line with or without an upper bound tells it
+comparisons_alike : (h k : ℤ) (i : ℕ) (r : List ℕ) → unsigned_abs h < 2 ^ 64 → unsigned_abs k < 2 ^ 64 → comparison_text h i ++ r ≡ comparison_text k i ++ r → h ≡ k
+comparisons_alike h k i r sh sk e =
+    let b = codes " || " ++ name_of State i ++ codes " > " in
+    (constant_then h k r r sh sk (append_cancel_left b (constant_text h ++ r) (constant_text k ++ r) (sym (append_assoc b (constant_text h) r) ∙ e ∙ append_assoc b (constant_text k) r))).0
+
+bounds_alike : (b d : Bool) (h k : ℤ) (i : ℕ) (r : List ℕ) → (b ≡ true → h ≡ pos 2147483647) → (d ≡ true → k ≡ pos 2147483647) → unsigned_abs h < 2 ^ 64 → unsigned_abs k < 2 ^ 64 →
+    cond b [] (comparison_text h i) ++ 41 ∷ r ≡ cond d [] (comparison_text k i) ++ 41 ∷ r → h ≡ k
+bounds_alike true true h k i r f g sh sk e = f refl ∙ sym (g refl)
+bounds_alike true false h k i r f g sh sk e = let c : 41 ≡ 32 = ap (λ (l : List ℕ). get_or l 0 0) e in absurd (omega (arith, c))
+bounds_alike false true h k i r f g sh sk e = let c : 32 ≡ 41 = ap (λ (l : List ℕ). get_or l 0 0) e in absurd (omega (arith, c))
+bounds_alike false false h k i r f g sh sk e = comparisons_alike h k i (41 ∷ r) sh sk e
+
+refusal_nested : (p l a x d z : List ℕ) → p ++ l ++ a ++ x ++ d ++ z ≡ p ++ (l ++ (a ++ (x ++ (d ++ z))))
+refusal_nested p l a x d z = simp append_assoc refl
 
 refusals_alike : (l h m k : ℤ) (i : ℕ) → unsigned_abs l < 2 ^ 64 → unsigned_abs h < 2 ^ 64 → unsigned_abs m < 2 ^ 64 → unsigned_abs k < 2 ^ 64 →
     refusal_text l h i ≡ refusal_text m k i → (l ≡ m) × (h ≡ k)
 refusals_alike l h m k i sl sh sm sk e =
     let p = codes "    if (" ++ name_of State i ++ codes " < " in
-    let b = codes " || " in
-    let n = name_of State i in
-    let c = codes " > " in
-    let x = codes ") { return " in
     let d = decimal (suc i) in
     let z = codes "; }" in
-    let r = λ (t : List ℕ). b ++ (n ++ (c ++ (t ++ (x ++ (d ++ z))))) in
-    let cut = append_cancel_left p (constant_text l ++ r (constant_text h)) (constant_text m ++ r (constant_text k))
-    (sym (refusal_nested p (constant_text l) b n c (constant_text h) x d z) ∙ e ∙ refusal_nested p (constant_text m) b n c (constant_text k) x d z) in
-    let first = constant_then l m (r (constant_text h)) (r (constant_text k)) sl sm cut in
-    let s = λ (t : List ℕ). t ++ (x ++ (d ++ z)) in
-    let inner = append_cancel_left c (s (constant_text h)) (s (constant_text k))
-    (append_cancel_left n (c ++ s (constant_text h)) (c ++ s (constant_text k)) (append_cancel_left b (n ++ (c ++ s (constant_text h))) (n ++ (c ++ s (constant_text k))) first.1)) in
-    (first.0, (constant_then h k (x ++ (d ++ z)) (x ++ (d ++ z)) sh sk inner).0)
+    let r = codes ") { return " ++ (d ++ z) in
+    let cut = append_cancel_left p (constant_text l ++ (above_text h i ++ r)) (constant_text m ++ (above_text k i ++ r))
+    (sym (refusal_nested p (constant_text l) (above_text h i) (codes ") { return ") d z) ∙ e ∙ refusal_nested p (constant_text m) (above_text k i) (codes ") { return ") d z) in
+    let first = constant_then l m (above_text h i ++ r) (above_text k i ++ r) sl sm cut in
+    let top = pos 2147483647 in
+    (first.0, bounds_alike (int_eq h top) (int_eq k top) h k i (drop 1 r) (Decides-int_eq h top).0 (Decides-int_eq k top).0 sh sk first.1)
 
 abbrev variable_given : Expression → Variable
 variable_given (Value v) = v

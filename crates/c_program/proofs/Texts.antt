@@ -178,10 +178,12 @@ pub sum_pieces : (i s n eq k p o c pl u q e l : List ℕ) →
     (i ++ (s ++ n ++ (eq ++ k ++ p ++ (o ++ (c ++ (s ++ n) ++ pl ++ (c ++ (u ++ n))) ++ q) ++ e))) ++ l ++ []
 sum_pieces i s n eq k p o c pl u q e l = simp append_assoc refl
 
-pub refusal_pieces : (i s n b lt low or gt high r next e l : List ℕ) →
-    i ++ (s ++ (n ++ (b ++ (lt ++ (low ++ (or ++ (s ++ (n ++ (b ++ (gt ++ (high ++ (r ++ (next ++ (e ++ (l ++ []))))))))))))))) ≡
-    (i ++ (s ++ n ++ b) ++ lt ++ low ++ or ++ (s ++ n ++ b) ++ gt ++ high ++ r ++ next ++ e) ++ l ++ []
-refusal_pieces i s n b lt low or gt high r next e l = simp append_assoc refl
+pub comparison_pieces : (or s n b gt high : List ℕ) → or ++ (s ++ (n ++ (b ++ (gt ++ (high ++ []))))) ≡ or ++ (s ++ n ++ b) ++ gt ++ high
+comparison_pieces or s n b gt high = simp (append_assoc, append-nil) refl
+
+pub refusal_pieces : (i s n b lt low above r next e l : List ℕ) →
+    i ++ (s ++ (n ++ (b ++ (lt ++ (low ++ (above ++ (r ++ (next ++ (e ++ (l ++ [])))))))))) ≡ (i ++ (s ++ n ++ b) ++ lt ++ low ++ above ++ r ++ next ++ e) ++ l ++ []
+refusal_pieces i s n b lt low above r next e l = simp append_assoc refl
 
 -- ---- three pieces
 pub three_more : (t0 t1 t2 t3 a b d : List ℕ) → t1 ≡ t0 ++ a → t2 ≡ t1 ++ b → t3 ≡ t2 ++ d → t3 ≡ t0 ++ (a ++ b ++ d)

@@ -84,7 +84,7 @@ repeated e body zero = e
 repeated e body (suc k) = all_done (repeated e body k) body
 
 -- ---- programs
--- number i of the state lies outside the box
+-- number i of the state lies outside the box; the text compares it with no upper bound that no int32_t is above
 abbrev pub is_outside : CProgram → List ℤ → ℕ → Bool
 is_outside p state i = int_lt (at state i) (at p.low i) || int_lt (at p.high i) (at state i)
 

@@ -1,5 +1,6 @@
 -- The texts of a program: a C99 source with two functions, one statement a line, and its header.
-use Rattle.std.specs.Prelude.{ℕ, zero, suc, ℤ, pos, negsuc, List, [], ◌∷◌, ◌++◌, length, map, codes, decimal, slice_index_or, All, ◌≢◌}
+use Rattle.std.specs.Prelude.{ℕ, zero, suc, ℤ, pos, negsuc, if◌then◌else◌, List, [], ◌∷◌, ◌++◌, length, map, codes, decimal, slice_index_or, All, ◌≢◌}
+use Rattle.std.specs.Ordering.{int_eq}
 use Rattle.integer_algebra.specs.Sums.{at}
 use Rattle.number_text.specs.Lines.{text_of}
 use Rattle.qp_model.specs.machine.Controller.{Numbers}
@@ -67,11 +68,17 @@ abbrev pub numbered_lines : (ℕ → List ℕ) → ℕ → List (List ℕ)
 numbered_lines line zero = []
 numbered_lines line (suc n) = numbered_lines line n ++ line n ∷ []
 
--- number i of the state is refused outside the box
+-- number i of the state is compared with an upper bound, and not with the greatest int32_t, which none is above
+abbrev pub comparison_text : (high : ℤ) → ℕ → List ℕ
+comparison_text high i = codes " || " ++ name_of State i ++ codes " > " ++ constant_text high
+
+abbrev pub above_text : (high : ℤ) → ℕ → List ℕ
+above_text high i = if int_eq high (pos 2147483647) then [] else comparison_text high i
+
+-- it is refused outside the box
 abbrev pub refusal_text : (low high : ℤ) → ℕ → List ℕ
 refusal_text low high i =
-    codes "    if (" ++ name_of State i ++ codes " < " ++ constant_text low ++ codes " || " ++ name_of State i ++ codes " > " ++ constant_text high
-    ++ codes ") { return " ++ decimal (suc i) ++ codes "; }"
+    codes "    if (" ++ name_of State i ++ codes " < " ++ constant_text low ++ above_text high i ++ codes ") { return " ++ decimal (suc i) ++ codes "; }"
 
 abbrev pub refusal_line : CProgram → ℕ → List ℕ
 refusal_line p i = refusal_text (at p.low i) (at p.high i) i

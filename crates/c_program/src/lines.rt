@@ -1,14 +1,51 @@
 // Single lines.
-ghost use Rattle.std.specs.Prelude.{◌≡◌, ◌<◌, ◌^◌, ◌++◌, [], ◌∷◌, OnOk, string_bytes, unsigned_abs};
+ghost use Rattle.std.specs.Prelude.{◌≡◌, ◌<◌, ◌^◌, ◌++◌, [], ◌∷◌, OnOk, IfOk, string_bytes, unsigned_abs};
 ghost use Rattle.number_text.specs.Lines.{text_of};
 ghost use Rattle.c_program.specs.Syntax.Family.{Sum};
 ghost use Rattle.c_program.specs.Of.{kind_of, sum_statements};
-ghost use Rattle.c_program.specs.Text.{kind_text, refusal_text};
+ghost use Rattle.c_program.specs.Text.{kind_text, comparison_text, above_text, refusal_text};
 ghost use Rattle.c_program.specs.Measured.{controller_in, loop_text};
 
 use crate::measured::Measured;
 use crate::words::{constant_word, push_pieces};
 use std::alloc::{AllocError, Global};
+
+// The greatest number of a state.
+const GREATEST_STATE: i128 = 2147483647;
+
+// The comparison of number `i` of the state with an upper bound, behind another.
+fn comparison_word(alloc: Global, high: i128, i: usize) -> Result<String, AllocError>
+    requires { unsigned_abs high < 2 ^ 127 }
+    ensures { IfOk result (λ word. string_bytes word ≡ comparison_text high i) }
+{
+    let number = i.to_string(alloc)?;
+    let highest = constant_word(alloc, high)?;
+    let mut word = String::new(alloc);
+    push_pieces(
+        &mut word,
+        &[
+            " || ",
+            "state[",
+            number.as_str(),
+            "]",
+            " > ",
+            highest.as_str(),
+        ],
+    )?;
+    Ok(word)
+}
+
+// The same where a number of the state can be above it.
+fn above_word(alloc: Global, high: i128, i: usize) -> Result<String, AllocError>
+    requires { unsigned_abs high < 2 ^ 127 }
+    ensures { IfOk result (λ word. string_bytes word ≡ above_text high i) }
+{
+    if high == GREATEST_STATE {
+        Ok(String::new(alloc))
+    } else {
+        comparison_word(alloc, high, i)
+    }
+}
 
 // The line that refuses number `i` of the state below `low` and above `high`.
 pub fn push_refusal(
@@ -26,7 +63,7 @@ pub fn push_refusal(
     let number = i.to_string(alloc)?;
     let next = (i + 1).to_string(alloc)?;
     let lowest = constant_word(alloc, low)?;
-    let highest = constant_word(alloc, high)?;
+    let above = above_word(alloc, high, i)?;
     push_pieces(
         text,
         &[
@@ -36,12 +73,7 @@ pub fn push_refusal(
             "]",
             " < ",
             lowest.as_str(),
-            " || ",
-            "state[",
-            number.as_str(),
-            "]",
-            " > ",
-            highest.as_str(),
+            above.as_str(),
             ") { return ",
             next.as_str(),
             "; }",
