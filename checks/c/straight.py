@@ -24,11 +24,13 @@ try:
 except ImportError:
     reading = None
 
-WARN = "-Wall -Wextra -Wconversion -Wsign-conversion -Wpedantic -Werror".split()
+WARN = "-Wall -Wextra -Wtype-limits -Wtautological-compare -Wconversion -Wsign-conversion -Wpedantic -Werror".split()
 SANITIZED = ["-std=c99", "-O1", "-fno-sanitize-recover=all"]
 WAYS = [["-std=c99", level] for level in ("-O0", "-O1", "-O2", "-O3")] + [[*SANITIZED, "-fsanitize=undefined,address"], ["-x", "c++", "-std=c++17", "-O2"]]
-# clang's group tells each implicit conversion that changes a value, too; shifts of negative numbers are not in it
-OWN_WAYS = {"gcc": [], "clang": [[*SANITIZED, "-fsanitize=integer"]]}
+# clang's group tells each implicit conversion that changes a value, too; shifts of negative numbers are not in it. Of all warnings that it has two are of other languages than C99: declarations behind statements, and
+# arrays, which the newest call unsafe
+EVERY = "-std=c99 -O2 -Weverything -Wno-declaration-after-statement -Wno-unsafe-buffer-usage -Wno-unknown-warning-option".split()
+OWN_WAYS = {"gcc": [["-std=c99", "-O2", "-Wlogical-op", "-Wduplicated-cond"]], "clang": [[*SANITIZED, "-fsanitize=integer"], EVERY]}
 # runs of the second reader are slow
 READ_STEPS = 64
 BATCH = 20
@@ -116,10 +118,10 @@ def harness(names, controllers, cases):
 # ---- trials
 
 
-def compiled(folder, compiler, way, allowed):
-    """What the programs answer, compiled so, with these warnings allowed."""
+def compiled(folder, compiler, way):
+    """What the programs answer, compiled so."""
     out = os.path.join(folder, "run")
-    command = [compiler, *WARN, *allowed, *way, f"-I{folder}", os.path.join(folder, "main.c"), "-o", out, *(["-lstdc++"] if "c++" in way else [])]
+    command = [compiler, *WARN, *way, f"-I{folder}", os.path.join(folder, "main.c"), "-o", out, *(["-lstdc++"] if "c++" in way else [])]
     for words in (command, [out]):
         told = subprocess.run(words, capture_output=True, text=True)
         if told.returncode:
@@ -147,11 +149,9 @@ def tried(program, controllers, seed):
             subprocess.run([program, "c", path("controller"), name, path(name + ".c"), path(name + ".h")], check=True)
         c_trials.write(folder, "main.c", "\n".join(harness(names, controllers, cases)) + "\n")
         wanted = [[first, *sums, *averages] for its in cases for _, first, sums, averages in its]
-        # no state is above a box that ends at 2^31 - 1, which gcc says of the comparison
-        allowed = ["-Wno-type-limits"] if any(2**31 - 1 in c.hi for c in controllers) else []
         for compiler in filter(shutil.which, OWN_WAYS):
             for way in WAYS + OWN_WAYS[compiler]:
-                if compiled(folder, compiler, way, allowed) != wanted:
+                if compiled(folder, compiler, way) != wanted:
                     raise AssertionError(f"{compiler} {' '.join(way)} answers otherwise")
         for name, c, its in zip(names, controllers, cases):
             if reading and c.steps <= READ_STEPS:
