@@ -1,22 +1,21 @@
 -- What `c` does by its script, and what it leaves.
-use Rattle.std.proofs.Common.{◌≡◌, inl, inr, ℕ, ◌≤◌, ◌<◌, List, Option, Some, None, refl, ap, arith}
+use Rattle.std.proofs.Common.{◌≡◌, inl, inr, ℕ, List, Option, Some, None, refl, ap, arith}
 use Rattle.std.specs.Prelude.{IfSome, IsSomeAnd}
 use Rattle.io_edge.specs.Faults.{Files}
 use Rattle.qp_model.specs.machine.Controller.{Numbers}
 use Rattle.c_program.proofs.ProgramLaw.{program_law}
 use Rattle.command_line.specs.Words.{word_of}
-use Rattle.command_line.specs.Answers.{IsAnswer}
 use Rattle.command_line.specs.Does.{IsTelling}
 use Rattle.command_line.specs.Script.{ends, leaves_at, leaves_of}
-use Rattle.command_line.specs.TwoTexts.{BothStand, Two, IsUnmade}
+use Rattle.command_line.specs.TwoTexts.{BothStand, Two}
 use Rattle.command_line.proofs.Doing.{IsRefusal, done_telling, sort_of, plain_refusal}
 use Rattle.command_line.proofs.Gathering.{whole}
 use Rattle.command_line.proofs.Following.{IsSoundWork, left_told}
-use Rattle.command_line.proofs.TwoTexts.{unmade, some_weaker}
+use Rattle.command_line.proofs.TwoTexts.{some_weaker}
 use Rattle.command_line.specs.declared.status.Status.{Status}
 use Rattle.command_line.specs.declared.status.Status.TheVariants.{Done, TooWideForC}
 use Rattle.command_files.proofs.Stopping.{controllers_refused}
-use Rattle.command_c.specs.Compiled.{program_width, ProgramCalls, AreProgramTexts, compile_act, compile_work, IsCompiled}
+use Rattle.command_c.specs.Compiled.{ProgramCalls, AreProgramTexts, compile_act, compile_work, IsCompiled}
 
 -- ---- what a controller calls for
 wide_refusal : (width : ℕ) (s : Status) → s ≡ TooWideForC width → IsRefusal s
@@ -25,20 +24,6 @@ wide_refusal width s is = plain_refusal s (ap sort_of is)
 program_telling : (c : Numbers) (s : Status) → ProgramCalls c s → IsTelling s
 program_telling c s (inl wide) = (wide_refusal c.width s wide.1).telling
 program_telling c s (inr narrow) = done_telling s narrow.1
-
-pub narrow_answer : (c : Numbers) → c.width ≤ program_width → IsAnswer (ProgramCalls c) Done
-narrow_answer c narrow = record { called = inr (narrow, refl); only = only }
-  where
-    only : (t : Status) → ProgramCalls c t → t ≡ Done
-    only t (inl wide) = absurd (omega (arith, narrow, wide.0))
-    only t (inr it) = it.1
-
-pub wide_unmade : (c : Numbers) → program_width < c.width → IsUnmade (ProgramCalls c) (TooWideForC c.width)
-wide_unmade c wide = unmade (ProgramCalls c) (TooWideForC c.width) (record { called = inl (wide, refl); only = only }) (wide_refusal c.width (TooWideForC c.width) refl)
-  where
-    only : (t : Status) → ProgramCalls c t → t ≡ TooWideForC c.width
-    only t (inl it) = it.1
-    only t (inr narrow) = absurd (omega (arith, wide, narrow.0))
 
 -- ---- its script
 pub compile_sound : IsSoundWork compile_work
