@@ -4,11 +4,9 @@ use Rattle.io_edge.specs.Faults.{Files}
 use Rattle.mat_int.specs.Matrix.{Matrix, row_of}
 use Rattle.qp_model.specs.problem.Design.{Design}
 use Rattle.qp_model.specs.problem.Parts.{design_of}
-use Rattle.qp_model.specs.machine.Controller.{Numbers}
-use Rattle.qp_model.specs.text.ControllerText.{IsControllerText}
 use Rattle.qp_model.specs.bounds.Built.{HasSizesOf}
-use Rattle.qp_model.specs.bounds.Certified.{IsCertified}
-use Rattle.qp_model.specs.bounds.Printed.{Printed}
+use Rattle.qp_model.specs.bounds.Certified.{IsCertifiedAt}
+use Rattle.fast_bounds.specs.FastCertified.{IsFastCertifiedAt}
 use Rattle.controller_file.specs.Laws.{IsSomeControllerText}
 use Rattle.controller_file.specs.AnyText.{any_numbers, IsAnyControllerText}
 use Rattle.controller_file.specs.declared.any_controller.AnyController.{AnyController}
@@ -16,9 +14,9 @@ use Rattle.controller_file.specs.declared.any_controller.AnyController.TheVarian
 use Rattle.controller_file.proofs.AnyText.{one_any, text_safe}
 use Rattle.controller_file.proofs.Uniqueness.{one_any_controller}
 use Rattle.plan_lines.specs.Inside.{AreInside}
-use Rattle.plan_lines.specs.Printing.{IsSolved, lines_of_plans}
+use Rattle.plan_lines.specs.Printing.{Lines, IsSolvedBy, lines_by}
 use Rattle.plan_lines.proofs.Acting.{lines_shown}
-use Rattle.plan_lines.proofs.PlanLines.{no_plan_yet}
+use Rattle.plan_lines.proofs.PlanLines.{no_line_yet}
 use Rattle.plan_lines.proofs.Holding.{all_shown}
 use Rattle.command_line.specs.Words.{word_of}
 use Rattle.command_line.specs.Limit.{file_limit}
@@ -28,13 +26,13 @@ use Rattle.command_line.specs.Script.{calls_of}
 use Rattle.command_line.proofs.Following.{called_told}
 use Rattle.command_line.specs.declared.status.Status.{Status}
 use Rattle.command_line.specs.declared.status.Status.TheVariants.{Done}
-use Rattle.command_files.specs.Texts.{ControllerRight, AnyControllerRight, StatesRight}
+use Rattle.command_files.specs.Texts.{AnyControllerRight, StatesRight}
 use Rattle.command_files.specs.Reading.{any_controller_kind, states_kind}
 use Rattle.command_files.proofs.OneThing.{one_content, one_states}
-use Rattle.command_solve.specs.Solve.{HoldsRuns, solve_act, solve_script}
+use Rattle.command_solve.specs.Solve.{HoldsRuns, any_plan_line, solve_act, solve_script}
 use Rattle.command_solve.specs.Deeds.{solve_work, solve_deeds}
-use Rattle.command_laws.specs.Runs.{HasAnswered, HoldsGridStates, IsSolvedAsCertified}
-use Rattle.command_laws.specs.Laws.{GenerateSolveLaw, LeanSolveLaw}
+use Rattle.command_laws.specs.Runs.{HasAnswered, HoldsGridStates, IsSolvedAs}
+use Rattle.command_laws.specs.Laws.{GenerateSolveLaw, LeanSolveLaw, FastSolveLaw}
 use Rattle.command_laws.proofs.States.{state_long, grid_state_held}
 
 -- ---- what a file holds is one thing
@@ -50,54 +48,66 @@ same_controller content a b x y =
     (one_any_controller x.bytes (any_numbers a) (any_numbers b) (some_text x.bytes a x.right) (some_text x.bytes b other))
 
 -- ---- a run over files that hold a controller and states of its box
-module _ (words : List (List ℕ)) (files : Files) (c : Numbers) (states : Matrix)
-    (holds : HoldsRuns (files (word_of words 1)) (files (word_of words 2)) (Plain c) states) where
+module _ (words : List (List ℕ)) (files : Files) (k : AnyController) (states : Matrix) (holds : HoldsRuns (files (word_of words 1)) (files (word_of words 2)) k states) where
   solve_done : calls_of solve_script (λ at. files (word_of words at)) Done
-  solve_done = inr (Plain c, holds.controller_right, inr (states, holds.states_right, inr (refl, holds.inside)))
+  solve_done = inr (k, holds.controller_right, inr (states, holds.states_right, inr (refl, holds.inside)))
 
   solve_called : IsCalledFor solve_deeds words (Some files) Done
   solve_called = called_told words Done files solve_work solve_done
 
-  is_solved : (s : Status) (before now : Option (List ℕ)) → HasAnswered solve_deeds words (Some files) s before now → IsSolved c states s before now
+  lines : Lines
+  lines = lines_by (any_plan_line k) states
+
+  none : (old new : List ℕ) → new ≡ old → lines.some old new
+  none = no_line_yet (any_plan_line k) states
+
+  is_solved : (s : Status) (before now : Option (List ℕ)) → HasAnswered solve_deeds words (Some files) s before now → IsSolvedBy (any_plan_line k) states s before now
   is_solved s before now run =
-      let did = all_shown any_controller_kind (λ a. states_kind (any_numbers a).states) solve_act words files (Plain c) states
-      (λ a right. same_controller (files (word_of words 1)) a (Plain c) right holds.controller_right)
-      (λ m right. one_states c.states (files (word_of words 2)) m states right holds.states_right) (lines_of_plans c states) (no_plan_yet c states) s
-      (λ old new. lines_shown (lines_of_plans c states) s old new (no_plan_yet c states old new) (AreInside c states (length states.rows))) before now solve_done run.called run.prints in
+      let did = all_shown any_controller_kind (λ a. states_kind (any_numbers a).states) solve_act words files k states
+      (λ a right. same_controller (files (word_of words 1)) a k right holds.controller_right)
+      (λ m right. one_states (any_numbers k).states (files (word_of words 2)) m states right holds.states_right) lines none s
+      (λ old new. lines_shown lines s old new (none old new) (AreInside (any_numbers k) states (length states.rows))) before now solve_done run.called run.prints in
       record { done = did.0; printed = did.1 }
 
--- ---- a controller that is certified for a design, whose box is that of the design
-module _ (d : Design) (c : Numbers) (b : Printed) (sizes : HasSizesOf d c) (certified : IsCertified d c b) where
-  solved_as_certified : (words : List (List ℕ)) (files : Files) (states : Matrix) (s : Status) (before now : Option (List ℕ)) → FileHolds file_limit (ControllerRight c) (files (word_of words 1)) →
-      HoldsGridStates d (files (word_of words 2)) states → HasAnswered solve_deeds words (Some files) s before now → IsSolvedAsCertified words files d c b states s before now
-  solved_as_certified words files states s before now right grid run = record {
-    called = solve_called words files c states holds;
-    solved = is_solved words files c states holds s before now run;
+-- ---- a controller whose box is that of a design, and what is certified at each grid state of it
+module _ (d : Design) (k : AnyController) (P : List ℤ → Type 0) (sizes : HasSizesOf d (any_numbers k)) (certified : (xi : List ℤ) → length xi ≡ d.states → IsGridState d (at xi) → P xi) where
+  solved_as : (words : List (List ℕ)) (files : Files) (states : Matrix) (s : Status) (before now : Option (List ℕ)) → FileHolds file_limit (AnyControllerRight k) (files (word_of words 1)) →
+      HoldsGridStates d (files (word_of words 2)) states → HasAnswered solve_deeds words (Some files) s before now → IsSolvedAs k P words files states s before now
+  solved_as words files states s before now right grid run = record {
+    called = solve_called words files k states holds;
+    solved = is_solved words files k states holds s before now run;
     certified = λ e lt. certified (row_of states e) (long e lt) (grid.inside e lt);
   }
     where
       long : (e : ℕ) → e < length states.rows → length (row_of states e) ≡ d.states
       long = state_long d (files (word_of words 2)) states grid
 
-      holds : HoldsRuns (files (word_of words 1)) (files (word_of words 2)) (Plain c) states
+      holds : HoldsRuns (files (word_of words 1)) (files (word_of words 2)) k states
       holds = record {
         controller_right = right;
         states_right = subst (λ (n : ℕ). FileHolds file_limit (StatesRight n states) (files (word_of words 2))) (sym sizes.states) grid.states_right;
-        inside = λ e lt. grid_state_held d c sizes (row_of states e) (long e lt) (grid.inside e lt);
+        inside = λ e lt. grid_state_held d (any_numbers k) sizes (row_of states e) (long e lt) (grid.inside e lt);
       }
 
 -- a text of a controller that was written under the name that is read
-written : (left : Files) (name other text : List ℕ) (c : Numbers) → IsControllerText text c → length text ≤ file_limit → left name ≡ Some text → other ≡ name → FileHolds file_limit (ControllerRight c) (left other)
-written left name other text c is_text short file same = record { bytes = text; held = ap left same ∙ file; short = short; right = is_text }
+written : (left : Files) (name other text : List ℕ) (k : AnyController) → IsAnyControllerText text k → length text ≤ file_limit → left name ≡ Some text → other ≡ name →
+    FileHolds file_limit (AnyControllerRight k) (left other)
+written left name other text k is_text short file same = record { bytes = text; held = ap left same ∙ file; short = short; right = is_text }
 
 pub generate_solve_law : GenerateSolveLaw
 generate_solve_law words asked files left made states s before now same grid run =
     let from = made.made in
-    solved_as_certified (design_of from.p) made.controller made.bounds from.built.made.made.sizes from.certified asked left states s before now
-    (written left (word_of words 3) (word_of asked 1) made.text made.controller made.is_text made.short made.controller_file same) grid run
+    solved_as (design_of from.p) (Plain made.controller) (IsCertifiedAt (design_of from.p) made.controller made.bounds) from.built.made.made.sizes from.certified asked left states s before now
+    (written left (word_of words 3) (word_of asked 1) made.text (Plain made.controller) made.is_text made.short made.controller_file same) grid run
 
 pub lean_solve_law : LeanSolveLaw
 lean_solve_law words asked files left made states s before now same grid run =
     let from = made.made in
-    solved_as_certified (design_of from.p) made.controller made.bounds from.made.built.made.made.sizes from.made.certified asked left states s before now
-    (written left (word_of words 4) (word_of asked 1) made.text made.controller made.is_text made.short made.controller_file same) grid run
+    solved_as (design_of from.p) (Plain made.controller) (IsCertifiedAt (design_of from.p) made.controller made.bounds) from.made.built.made.made.sizes from.made.certified asked left states s before now
+    (written left (word_of words 4) (word_of asked 1) made.text (Plain made.controller) made.is_text made.short made.controller_file same) grid run
+
+pub fast_solve_law : FastSolveLaw
+fast_solve_law words asked files left made states s before now same grid run =
+    let from = made.made in
+    solved_as (design_of from.p) (Fast made.controller) (IsFastCertifiedAt (design_of from.p) made.controller made.bounds) from.made.built.made.made.sizes from.made.certified asked left states s before now
+    (written left (word_of words 4) (word_of asked 1) made.text (Fast made.controller) made.is_text made.short made.controller_file same) grid run

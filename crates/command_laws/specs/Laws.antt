@@ -9,11 +9,12 @@ use Rattle.command_line.specs.declared.status.Status.{Status}
 use Rattle.command_generate.specs.Generate.{IsGenerated}
 use Rattle.command_solve.specs.Deeds.{solve_deeds}
 use Rattle.command_make.specs.Lean.{IsLeanWritten}
+use Rattle.command_make.specs.Fast.{IsFastWritten}
 use Rattle.command_split.specs.Splitting.Cells.{IsCell}
 use Rattle.command_split.specs.Made.{cell_plans}
 use Rattle.command_split.specs.Split.{IsSplitWritten}
 use Rattle.command_serve.specs.Deeds.{serve_deeds}
-use Rattle.command_laws.specs.Runs.{HasAnswered, HoldsGridStates, IsSolvedAsCertified, IsCovered, IsServedAsCertified}
+use Rattle.command_laws.specs.Runs.{HasAnswered, HoldsGridStates, IsSolvedAsCertified, IsFastSolvedAsCertified, IsCovered, IsServedAsCertified}
 
 -- of the controller of `generate`, which is certified for its design
 abbrev pub GenerateSolveLaw : Type 0
@@ -28,6 +29,13 @@ LeanSolveLaw =
     (words asked : List (List ℕ)) (files left : Files) (made : IsLeanWritten words files left) (states : Matrix) (s : Status) (before now : Option (List ℕ)) →
     word_of asked 1 ≡ word_of words 4 → HoldsGridStates (design_of made.made.p) (left (word_of asked 2)) states → HasAnswered solve_deeds asked (Some left) s before now →
     IsSolvedAsCertified asked left (design_of made.made.p) made.controller made.bounds states s before now
+
+-- of a controller of the accelerated machine, which it makes of a design of version 3
+abbrev pub FastSolveLaw : Type 0
+FastSolveLaw =
+    (words asked : List (List ℕ)) (files left : Files) (made : IsFastWritten words files left) (states : Matrix) (s : Status) (before now : Option (List ℕ)) →
+    word_of asked 1 ≡ word_of words 4 → HoldsGridStates (design_of made.made.p) (left (word_of asked 2)) states → HasAnswered solve_deeds asked (Some left) s before now →
+    IsFastSolvedAsCertified asked left (design_of made.made.p) made.controller made.bounds states s before now
 
 -- of the cells of `split`, at states of cells that have plans
 abbrev pub CoveredServeLaw : Type 0

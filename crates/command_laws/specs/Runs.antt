@@ -9,13 +9,17 @@ use Rattle.qp_model.specs.problem.Policy.{Plans}
 use Rattle.qp_model.specs.machine.Controller.{Numbers}
 use Rattle.qp_model.specs.bounds.Certified.{IsCertifiedAt}
 use Rattle.qp_model.specs.bounds.Printed.{Printed}
+use Rattle.fast_bounds.specs.FastCertified.{IsFastCertifiedAt}
+use Rattle.controller_file.specs.declared.any_controller.AnyController.{AnyController}
+use Rattle.controller_file.specs.declared.any_controller.AnyController.TheVariants.{Plain, Fast}
 use Rattle.command_line.specs.Limit.{file_limit}
 use Rattle.command_line.specs.Answers.{FileHolds, ForContents, IsAnswer, IsCaused}
 use Rattle.command_line.specs.Deeds.{Deeds, IsCalledFor}
 use Rattle.command_line.specs.declared.status.Status.{Status}
 use Rattle.command_line.specs.declared.status.Status.TheVariants.{Done}
 use Rattle.command_files.specs.Texts.{StatesRight}
-use Rattle.plan_lines.specs.Printing.{IsSolved}
+use Rattle.plan_lines.specs.Printing.{IsSolvedBy}
+use Rattle.command_solve.specs.Solve.{any_plan_line}
 use Rattle.command_solve.specs.Deeds.{solve_deeds}
 use Rattle.command_split.specs.Splitting.Cells.{cell_of, IsCell}
 use Rattle.command_split.specs.Made.{cell_plans}
@@ -35,13 +39,20 @@ pub record HoldsGridStates (d : Design) (content : Option (List ℕ)) (states : 
   pub states_right : FileHolds file_limit (StatesRight d.states states) content
   pub inside : (e : ℕ) → e < length states.rows → IsGridState d (at (row_of states e))
 
--- Such states, solved with a controller that keeps what is certified. The files call for `Done`, and so for no fault of a text; all is done, but for want of memory and
--- faults, and the output gets the lines of the controller's averaged plans. From each state the run's values fit, its steps are the printed ones, and the plan that its line
--- says keeps the printed violation, gap and undercut.
-pub record IsSolvedAsCertified (words : List (List ℕ)) (files : Files) (d : Design) (c : Numbers) (b : Printed) (states : Matrix) (s : Status) (before now : Option (List ℕ)) : Type 0 where
+-- Such states, solved with a controller of either machine that keeps what is certified. The files call for `Done`, and so for no fault of a text; all is done, but for want
+-- of memory and faults, and the output gets the lines of the controller's averaged plans. From each state this is certified.
+pub record IsSolvedAs (k : AnyController) (certified : List ℤ → Type 0) (words : List (List ℕ)) (files : Files) (states : Matrix) (s : Status) (before now : Option (List ℕ)) : Type 0 where
   pub called : IsCalledFor solve_deeds words (Some files) Done
-  pub solved : IsSolved c states s before now
-  pub certified : (e : ℕ) → e < length states.rows → IsCertifiedAt d c b (row_of states e)
+  pub solved : IsSolvedBy (any_plan_line k) states s before now
+  pub certified : (e : ℕ) → e < length states.rows → certified (row_of states e)
+
+-- the run's values fit, its steps are the printed ones, and the plan that its line says keeps the printed violation, gap and undercut
+abbrev pub IsSolvedAsCertified : List (List ℕ) → Files → Design → Numbers → Printed → Matrix → Status → (before now : Option (List ℕ)) → Type 0
+IsSolvedAsCertified words files d c b = IsSolvedAs (Plain c) (IsCertifiedAt d c b) words files
+
+-- the same of a run of the accelerated machine
+abbrev pub IsFastSolvedAsCertified : List (List ℕ) → Files → Design → Numbers → Printed → Matrix → Status → (before now : Option (List ℕ)) → Type 0
+IsFastSolvedAsCertified words files d c b = IsSolvedAs (Fast c) (IsFastCertifiedAt d c b) words files
 
 -- One controller has the state in its box, and is certified there with its bounds; the state's line is that of its averaged plan, and no other.
 pub record IsPlannedBy (d : Design) (cells : List Numbers) (bounds : List Printed) (xi : List ℤ) : Type 0 where

@@ -1,7 +1,7 @@
 //! The laws of two commands: what is written is read back, and its plans keep what was printed.
 #![tactic(auto)]
 
-ghost use Rattle.command_laws.specs.Laws.{GenerateSolveLaw, LeanSolveLaw, SplitServeLaw};
+ghost use Rattle.command_laws.specs.Laws.{GenerateSolveLaw, LeanSolveLaw, FastSolveLaw, SplitServeLaw};
 
 /// After `generate` was done, `solve` of its controller and grid states of the design's box refuses nothing: all is done, but for want of memory and faults of files or the output.
 /// Each line is that of a plan that exceeds no constraint by more than the printed violation, and costs at most the printed gap more than any feasible plan.
@@ -9,9 +9,10 @@ pub fn generate_solve_law()
     ensures { GenerateSolveLaw }
 {}
 
-/// The same of `lean` and `solve`.
+/// The same of `lean` and `solve`, for designs of versions 1 and 2, and of version 3.
 pub fn lean_solve_law()
-    ensures { LeanSolveLaw }
+    ensures plain { LeanSolveLaw }
+    ensures fast { FastSolveLaw }
 {}
 
 /// After `split` was done, `serve` of its cells and grid states of cells that have plans refuses nothing, either, and each line is that of such a plan, of the one controller whose cell has

@@ -16,7 +16,7 @@ use Rattle.fixed_kernel.proofs.OneOutside.{one_outside_law}
 use Rattle.plan_lines.specs.Inside.{AreHeld}
 use Rattle.plan_lines.specs.Lines.{first_lines, AreLinesOf}
 use Rattle.plan_lines.specs.Making.{making_by}
-use Rattle.plan_lines.specs.Printing.{AreFirstLines, lines_by}
+use Rattle.plan_lines.specs.Printing.{AreSomeLines, AreFirstLines, lines_by}
 use Rattle.plan_lines.proofs.LineByLine.{longer}
 use Rattle.plan_lines.proofs.Acting.{IsJudged, AreToldAs}
 
@@ -77,5 +77,8 @@ lines_as c line m = record {
     is : (k : ℕ) (text : List ℕ) → k ≤ length m.rows → AreLinesOf (making_by c line).line m k text → text ≡ first_lines line m k
     is = text_is line m (making_by c line).line (λ xi line same. same)
 
+pub no_line_yet : (line : List ℤ → List ℕ) (m : Matrix) (old new : List ℕ) → new ≡ old → AreSomeLines line m old new
+no_line_yet line m old new same = record { count = 0; some = zero-le; printed = same ∙ sym (append-nil old) }
+
 pub no_plan_yet : (c : Numbers) (m : Matrix) (old new : List ℕ) → new ≡ old → AreFirstLines c m old new
-no_plan_yet c m old new same = record { count = 0; some = zero-le; printed = same ∙ sym (append-nil old) }
+no_plan_yet c = no_line_yet (plan_line c)

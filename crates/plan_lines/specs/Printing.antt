@@ -64,6 +64,10 @@ lines_act Held Out states lines =
 -- ---- what is printed where the files hold a controller and states
 -- all is done, but for want of memory and faults, and the output, by what it had and has, gets these lines: all of them, a part that isn't all where a print failed, or
 -- those of some first states
-pub record IsSolved (c : Numbers) (states : Matrix) (s : Status) (before now : Option (List ℕ)) : Type 0 where
+pub record IsSolvedBy (line : List ℤ → List ℕ) (states : Matrix) (s : Status) (before now : Option (List ℕ)) : Type 0 where
   pub done : IsCaused s → s ≡ Done
-  pub printed : IfSome before (λ old. IsSomeAnd now (ArePrinted c states s old))
+  pub printed : IfSome before (λ old. IsSomeAnd now (AreLinesPrinted (lines_by line states) s old))
+
+-- those of the averaged plans
+abbrev pub IsSolved : Numbers → Matrix → Status → (before now : Option (List ℕ)) → Type 0
+IsSolved c = IsSolvedBy (plan_line c)
