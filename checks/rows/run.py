@@ -113,7 +113,8 @@ def version_rows():
     yield "version 2: none", refused(SOLVE, {"c": sub(CONTROLLER, ("mpc-controller 1", "mpc-controller 2")), "s": "1"}, 11, "controller 1 line 7")
     yield "version 1: exponents", refused(SOLVE, {"c": sub(CONTROLLER, ("words 6\n", "words 6\nexps 1 1 1\n")), "s": "1"}, 11, "controller 1 line 7")
     yield "version 2: exponents after the box", refused(SOLVE, {"c": sub(CONTROLLER, ("mpc-controller 1", "mpc-controller 2"), ("hi 1\n", "hi 1\nexps 1 1 1\n")), "s": "1"}, 11, "controller 1 line 7")
-    yield "version 3", refused(SOLVE, {"c": sub(CONTROLLER, ("mpc-controller 1", "mpc-controller 3")), "s": "1"}, 11, "controller 1 line 1")
+    yield "version 3: the words of version 1", refused(SOLVE, {"c": sub(CONTROLLER, ("mpc-controller 1", "mpc-controller 3")), "s": "1"}, 11, "controller 1 line 6")
+    yield "version 4", refused(SOLVE, {"c": sub(CONTROLLER, ("mpc-controller 1", "mpc-controller 4")), "s": "1"}, 11, "controller 1 line 1")
     yield "version 2: a width that its sums pass", refused(SOLVE, {"c": second("1 1 0", ("bits 10 0 1 26", "bits 10 0 1 25")), "s": "1"}, 11, "controller 1 unsafe")
     for version, size, line in ((1, "5 1 1 3", 2), (1, "1 1 21 3", 2), (1, "1 1 1 253", 2), (2, "6 1 1 3", 6), (2, "1 1 30 3", 6), (2, "1 1 1 372", 6), (2, "7 1 1 3", 2), (2, "1 1 31 3", 2),
                                 (2, "1 1 1 373", 2)):
