@@ -1,3 +1,5 @@
 pub mod Reaches
 pub mod Overs
+pub mod Sound
 pub mod Showing
+pub mod Plain

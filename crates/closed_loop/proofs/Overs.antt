@@ -12,9 +12,9 @@ den_is (negsuc n) h = absurd (omega (arith, ints, h.low))
 den_small : (a : ℤ) → IsDenominator a → unsigned_abs a ≤ 2 ^ 20
 den_small a h = omega (arith, ints, h.low, h.high)
 
-pub over_fits : (a s : ℤ) → IsDenominator a → unsigned_abs s < 2 ^ 72 → FitsSigned w128 (a *ℤ s)
+pub over_fits : (a s : ℤ) → IsDenominator a → unsigned_abs s < 2 ^ 81 → FitsSigned w128 (a *ℤ s)
 over_fits a s h l =
-    fits_signed_from_abs w128 _ (omega (arith, unsigned_abs-mul a s, mul-le (unsigned_abs a) (unsigned_abs s) (2 ^ 20) (2 ^ 72) (den_small a h) (omega arith)))
+    fits_signed_from_abs w128 _ (omega (arith, unsigned_abs-mul a s, mul-le (unsigned_abs a) (unsigned_abs s) (2 ^ 20) (2 ^ 81) (den_small a h) (omega arith)))
 
 pub over_is : (a s : ℤ) (k : ℕ) → IsDenominator a → s ≡ pos k → a *ℤ s ≡ pos (unsigned_abs a * k)
 over_is a s k h e = rw (e, den_is a h) refl

@@ -13,16 +13,13 @@ use Rattle.io_edge.specs.Faults.{Rose, GrowsByPart}
 use Rattle.qp_model.specs.problem.Design.{Design}
 use Rattle.qp_model.specs.machine.Controller.{Numbers}
 use Rattle.qp_model.specs.machine.Machine.{IsAdmissible}
-use Rattle.qp_model.specs.machine.Successor.{successor, state_after}
 use Rattle.qp_model.specs.declared.quantity.Quantity.{Quantity}
 use Rattle.qp_model.specs.declared.quantity.Quantity.TheVariants.{Turn}
-use Rattle.qp_model.specs.text.LoopLines.{loop_line, loop_text}
 use Rattle.fixed_kernel.specs.Outside.{IsFirstOutside}
-use Rattle.stay_check.specs.LoopStay.{shifted_successor, state_under}
-use Rattle.stay_check.proofs.LoopLaws.{unshifted}
 use Rattle.mat_int.specs.Matrix.{Matrix, entry_of, zero_matrix}
-use Rattle.closed_loop.specs.Under.{states_under, lines_under}
-use Rattle.closed_loop.specs.Answers.{LieInside, LeavesAmong, MayBegin, GrowsByLines, GrowsByFront, lines_of}
+use Rattle.closed_loop.specs.Looping.{Looping, successor_by, shifted_by, state_by, line_by, lines_of}
+use Rattle.closed_loop.specs.Under.{states_by, lines_by, unshifted_by, unshifted_lines_by}
+use Rattle.closed_loop.specs.Answers.{LieInside, LeavesAmong, MayBegin, GrowsByLines, GrowsByFront}
 use Rattle.closed_loop.specs.Shows.{TurnShows, LoopShows, LoopEnds}
 use Rattle.closed_loop.specs.declared.fault.LoopFault.{LoopFault}
 use Rattle.closed_loop.specs.declared.fault.LoopFault.TheVariants.{Memory, TooWide, OutsideBox, WriteFault}
@@ -46,59 +43,40 @@ pub unadded : (z s : ℤ) → s ≡ pos 0 → z ≡ z +ℤ s
 unadded z s is = rw is (omega (arith, ints))
 
 -- ---- states and lines, one turn more
-pub state_zero : (d : Design) (c : Numbers) (start : List ℤ) (shifts : ℕ → ℕ → ℤ) → state_under d c start shifts 0 ≡ start
-unfolding state_under
+pub state_zero : (d : Design) (c : Looping) (start : List ℤ) (shifts : ℕ → ℕ → ℤ) → state_by d c start shifts 0 ≡ start
+unfolding state_by
 state_zero d c start shifts = refl
 
-pub state_more : (d : Design) (c : Numbers) (start : List ℤ) (shifts : ℕ → ℕ → ℤ) (k : ℕ) →
-    state_under d c start shifts (k + 1) ≡ shifted_successor d c (state_under d c start shifts k) (shifts k)
-unfolding state_under
+pub state_more : (d : Design) (c : Looping) (start : List ℤ) (shifts : ℕ → ℕ → ℤ) (k : ℕ) →
+    state_by d c start shifts (k + 1) ≡ shifted_by d c (state_by d c start shifts k) (shifts k)
+unfolding state_by
 state_more d c start shifts k = rw add-one refl
 
 -- in the words of what adds a row to a state
-pub shifted_more : (d : Design) (c : Numbers) (start : List ℤ) (shifts : Matrix) (k : ℕ) (next new : List ℤ) → next ≡ successor d c (state_under d c start (entry_of shifts) k) →
-    new ≡ map (λ i. at next i +ℤ entry_of shifts k i) (range_with_len 0 (length next)) → new ≡ state_under d c start (entry_of shifts) (k + 1)
+pub shifted_more : (d : Design) (c : Looping) (start : List ℤ) (shifts : Matrix) (k : ℕ) (next new : List ℤ) → next ≡ successor_by d c (state_by d c start (entry_of shifts) k) →
+    new ≡ map (λ i. at next i +ℤ entry_of shifts k i) (range_with_len 0 (length next)) → new ≡ state_by d c start (entry_of shifts) (k + 1)
 shifted_more d c start shifts k next new came is =
     is ∙ ap (λ (xs : List ℤ). map (λ i. at xs i +ℤ entry_of shifts k i) (range_with_len 0 (length xs))) came ∙
-    ap (λ (n : ℕ). map (λ i. at (successor d c (state_under d c start (entry_of shifts) k)) i +ℤ entry_of shifts k i) (range_with_len 0 n)) (length-map-range_with_len _ 0 d.states) ∙
+    ap (λ (n : ℕ). map (λ i. at (successor_by d c (state_by d c start (entry_of shifts) k)) i +ℤ entry_of shifts k i) (range_with_len 0 n)) (length-map-range_with_len _ 0 d.states) ∙
     sym (state_more d c start (entry_of shifts) k)
 
-pub shifted_long : (d : Design) (c : Numbers) (start : List ℤ) (shifts : Matrix) (k : ℕ) → length (state_under d c start (entry_of shifts) (k + 1)) ≡ d.states
+pub shifted_long : (d : Design) (c : Looping) (start : List ℤ) (shifts : Matrix) (k : ℕ) → length (state_by d c start (entry_of shifts) (k + 1)) ≡ d.states
 shifted_long d c start shifts k = ap (λ (xs : List ℤ). length xs) (state_more d c start (entry_of shifts) k) ∙ length-map-range_with_len _ 0 d.states
 
-text_zero : (c : Numbers) (entry : ℕ) (states : ℕ → List ℤ) → lines_of c entry states 0 ≡ []
+text_zero : (c : Looping) (entry : ℕ) (states : ℕ → List ℤ) → lines_of c entry states 0 ≡ []
 unfolding lines_of
 text_zero c entry states = refl
 
-text_more : (c : Numbers) (entry : ℕ) (states : ℕ → List ℤ) (k : ℕ) → lines_of c entry states (k + 1) ≡ lines_of c entry states k ++ loop_line c entry (k + 1) (states k)
+text_more : (c : Looping) (entry : ℕ) (states : ℕ → List ℤ) (k : ℕ) → lines_of c entry states (k + 1) ≡ lines_of c entry states k ++ line_by c entry (k + 1) (states k)
 unfolding lines_of
 text_more c entry states k = rw add-one refl
 
--- the lines of a loop without shifts
-pub plain_lines : (d : Design) (c : Numbers) (entry : ℕ) (start : List ℤ) (k : ℕ) → lines_of c entry (state_after d c start) k ≡ loop_text d c entry start k
-unfolding lines_of loop_text
-plain_lines d c entry start zero = refl
-plain_lines d c entry start (suc k) = ap (λ (t : List ℕ). t ++ loop_line c entry (k + 1) (state_after d c start k)) (plain_lines d c entry start k)
-
--- what holds of the states and the lines of a loop whose shifts are all 0 holds of those of the loop without
-pub unshifted_loop : (d : Design) (c : Numbers) (entry : ℕ) (start : List ℤ) (P : (ℕ → List ℤ) → (ℕ → List ℕ) → Type 0) →
-    P (state_under d c start (λ k. none)) (lines_of c entry (state_under d c start (λ k. none))) → P (state_after d c start) (loop_text d c entry start)
-unshifted_loop d c entry start P h =
-    subst (P (state_after d c start)) lines (subst (λ (states : ℕ → List ℤ). P states (lines_of c entry states)) states h)
-  where
-    states : state_under d c start (λ k. none) ≡ state_after d c start
-    states = λ t k. unshifted d c start k t
-
-    lines : lines_of c entry (state_after d c start) ≡ loop_text d c entry start
-    lines = λ t k. plain_lines d c entry start k t
-
--- so where there is no row
-pub unshifted_matrix : (d : Design) (c : Numbers) (entry : ℕ) (start : List ℤ) (m : Matrix) (n : ℕ) → m ≡ zero_matrix 0 n → (P : (ℕ → List ℤ) → (ℕ → List ℕ) → Type 0) →
-    P (states_under d c start m) (lines_under d c entry start m) → P (state_after d c start) (loop_text d c entry start)
+-- a loop whose shifts have no row is the loop without
+pub unshifted_matrix : (d : Design) (c : Looping) (entry : ℕ) (start : List ℤ) (m : Matrix) (n : ℕ) → m ≡ zero_matrix 0 n → (P : (ℕ → List ℤ) → (ℕ → List ℕ) → Type 0) →
+    P (states_by d c start m) (lines_by d c entry start m) → P (unshifted_by d c start) (unshifted_lines_by d c entry start)
 unshifted_matrix d c entry start m n is P h =
-    unshifted_loop d c entry start P
-    (subst (λ (f : ℕ → ℕ → ℤ). P (state_under d c start f) (lines_of c entry (state_under d c start f))) zeros
-    (subst (λ (m : Matrix). P (states_under d c start m) (lines_under d c entry start m)) is h))
+    subst (λ (f : ℕ → ℕ → ℤ). P (state_by d c start f) (lines_of c entry (state_by d c start f))) zeros
+    (subst (λ (m : Matrix). P (states_by d c start m) (lines_by d c entry start m)) is h)
   where
     zeros : entry_of (zero_matrix 0 n) ≡ (λ k. none)
     zeros = λ t k i. zero_entry n k i t
@@ -116,16 +94,16 @@ inside_more c states k s g = record {
 }
 
 -- ---- what was put so far
-pub put_none : (c : Numbers) (entry : ℕ) (states : ℕ → List ℤ) (first : Option (List ℕ)) → first ≡ option_map (λ o. o ++ lines_of c entry states 0) first
+pub put_none : (c : Looping) (entry : ℕ) (states : ℕ → List ℤ) (first : Option (List ℕ)) → first ≡ option_map (λ o. o ++ lines_of c entry states 0) first
 put_none c entry states None = refl
 put_none c entry states (Some o) = rw (text_zero, append-nil) refl
 
-pub put_more : (c : Numbers) (entry : ℕ) (states : ℕ → List ℤ) (k : ℕ) (first mid new : Option (List ℕ)) → mid ≡ option_map (λ o. o ++ lines_of c entry states k) first →
-    new ≡ option_map (λ o. o ++ loop_line c entry (k + 1) (states k)) mid → new ≡ option_map (λ o. o ++ lines_of c entry states (k + 1)) first
-put_more c entry states k None mid new e h = h ∙ ap (option_map (λ o. o ++ loop_line c entry (k + 1) (states k))) e
+pub put_more : (c : Looping) (entry : ℕ) (states : ℕ → List ℤ) (k : ℕ) (first mid new : Option (List ℕ)) → mid ≡ option_map (λ o. o ++ lines_of c entry states k) first →
+    new ≡ option_map (λ o. o ++ line_by c entry (k + 1) (states k)) mid → new ≡ option_map (λ o. o ++ lines_of c entry states (k + 1)) first
+put_more c entry states k None mid new e h = h ∙ ap (option_map (λ o. o ++ line_by c entry (k + 1) (states k))) e
 put_more c entry states k (Some o) mid new e h =
-    h ∙ ap (option_map (λ o. o ++ loop_line c entry (k + 1) (states k))) e
-    ∙ ap Some (append_assoc o (lines_of c entry states k) (loop_line c entry (k + 1) (states k)) ∙ ap (λ (t : List ℕ). o ++ t) (sym (text_more c entry states k)))
+    h ∙ ap (option_map (λ o. o ++ line_by c entry (k + 1) (states k))) e
+    ∙ ap Some (append_assoc o (lines_of c entry states k) (line_by c entry (k + 1) (states k)) ∙ ap (λ (t : List ℕ). o ++ t) (sym (text_more c entry states k)))
 
 -- ---- refusals
 pub given : (r : Result (Unit {0}) LoopFault) (p : LoopFault → Type 0) (fault : LoopFault) → IsErrAnd r (λ e. e ≡ fault) → p fault → IfErr r p
@@ -158,20 +136,20 @@ rose_from first mid new h l r = elim r.rise [
   ]
 ]
 
-pub grows_by_turns : (c : Numbers) (entry : ℕ) (states : ℕ → List ℤ) (turns k : ℕ) (first new : Option (List ℕ)) → k ≤ turns → LieInside c states k →
-    new ≡ option_map (λ o. o ++ lines_of c entry states k) first → IfSome first (λ o. IsSomeAnd new (GrowsByLines c states (lines_of c entry states) turns o))
+pub grows_by_turns : (c : Looping) (entry : ℕ) (states : ℕ → List ℤ) (turns k : ℕ) (first new : Option (List ℕ)) → k ≤ turns → LieInside c.controller states k →
+    new ≡ option_map (λ o. o ++ lines_of c entry states k) first → IfSome first (λ o. IsSomeAnd new (GrowsByLines c.controller states (lines_of c entry states) turns o))
 grows_by_turns c entry states turns k None new h s e = tt
 grows_by_turns c entry states turns k (Some o) new h s e =
-    subst (λ (n : Option (List ℕ)). IsSomeAnd n (GrowsByLines c states (lines_of c entry states) turns o)) (sym e) (record { done = k; within = h; inside = s; grown = refl })
+    subst (λ (n : Option (List ℕ)). IsSomeAnd n (GrowsByLines c.controller states (lines_of c entry states) turns o)) (sym e) (record { done = k; within = h; inside = s; grown = refl })
 
 -- memory that runs out before the first turn
-pub out_before : (c : Numbers) (entry : ℕ) (states : ℕ → List ℤ) (turns : ℕ) (got : Option (List ℕ)) (faults : ℕ) (r : Result (Unit {0}) LoopFault) → IsErrAnd r (λ e. e ≡ Memory) →
-    IfErr r (LoopShows c states (lines_of c entry states) turns got got faults faults)
-out_before c entry states turns got faults r is = given r (LoopShows c states (lines_of c entry states) turns got got faults faults) Memory is
-    (grows_by_turns c entry states turns 0 got got zero-le (inside_none c states) (put_none c entry states got))
+pub out_before : (c : Looping) (entry : ℕ) (states : ℕ → List ℤ) (turns : ℕ) (got : Option (List ℕ)) (faults : ℕ) (r : Result (Unit {0}) LoopFault) → IsErrAnd r (λ e. e ≡ Memory) →
+    IfErr r (LoopShows c.controller states (lines_of c entry states) turns got got faults faults)
+out_before c entry states turns got faults r is = given r (LoopShows c.controller states (lines_of c entry states) turns got got faults faults) Memory is
+    (grows_by_turns c entry states turns 0 got got zero-le (inside_none c.controller states) (put_none c entry states got))
 
 -- a line has its line feed
-line_there : (c : Numbers) (entry turn : ℕ) (xi : List ℤ) → 0 < length (loop_line c entry turn xi)
+line_there : (c : Looping) (entry turn : ℕ) (xi : List ℤ) → 0 < length (line_by c entry turn xi)
 line_there c entry turn xi = ended _
   where
     ended : (xs : List ℕ) → 0 < length (xs ++ 10 ∷ [])
@@ -182,8 +160,8 @@ left_over : (bytes rest : List ℕ) → 0 < length bytes → (length bytes ≡ 0
 left_over bytes rest some (inl none) = absurd (omega (arith, some, none))
 left_over bytes rest some (inr left) = left
 
-front_of : (c : Numbers) (entry : ℕ) (states : ℕ → List ℤ) (turns k : ℕ) (o : List ℕ) (new : Option (List ℕ)) → k < turns → LieInside c states (k + 1) →
-    IsSomeAnd new (λ n. GrowsByPart (o ++ lines_of c entry states k) n (loop_line c entry (k + 1) (states k))) → IsSomeAnd new (GrowsByFront c states (lines_of c entry states) turns o)
+front_of : (c : Looping) (entry : ℕ) (states : ℕ → List ℤ) (turns k : ℕ) (o : List ℕ) (new : Option (List ℕ)) → k < turns → LieInside c.controller states (k + 1) →
+    IsSomeAnd new (λ n. GrowsByPart (o ++ lines_of c entry states k) n (line_by c entry (k + 1) (states k))) → IsSomeAnd new (GrowsByFront c.controller states (lines_of c entry states) turns o)
 front_of c entry states turns k o None h s g = absurd g
 front_of c entry states turns k o (Some n) h s g = record {
   done = k + 1;
@@ -193,26 +171,26 @@ front_of c entry states turns k o (Some n) h s g = record {
   proper = record {
     rest = g.rest;
     is = text_more c entry states k ∙ ap (λ (t : List ℕ). lines_of c entry states k ++ t) g.is ∙ sym (append_assoc (lines_of c entry states k) g.part g.rest);
-    proper = left_over (loop_line c entry (k + 1) (states k)) g.rest (line_there c entry (k + 1) (states k)) g.proper;
+    proper = left_over (line_by c entry (k + 1) (states k)) g.rest (line_there c entry (k + 1) (states k)) g.proper;
   };
   grown = g.grown ∙ append_assoc o (lines_of c entry states k) g.part;
 }
 
-grows_by_front : (c : Numbers) (entry : ℕ) (states : ℕ → List ℤ) (turns k : ℕ) (first mid new : Option (List ℕ)) → k < turns → LieInside c states (k + 1) →
-    mid ≡ option_map (λ o. o ++ lines_of c entry states k) first → IfSome mid (λ o. IsSomeAnd new (λ n. GrowsByPart o n (loop_line c entry (k + 1) (states k)))) →
-    IfSome first (λ o. IsSomeAnd new (GrowsByFront c states (lines_of c entry states) turns o))
+grows_by_front : (c : Looping) (entry : ℕ) (states : ℕ → List ℤ) (turns k : ℕ) (first mid new : Option (List ℕ)) → k < turns → LieInside c.controller states (k + 1) →
+    mid ≡ option_map (λ o. o ++ lines_of c entry states k) first → IfSome mid (λ o. IsSomeAnd new (λ n. GrowsByPart o n (line_by c entry (k + 1) (states k)))) →
+    IfSome first (λ o. IsSomeAnd new (GrowsByFront c.controller states (lines_of c entry states) turns o))
 grows_by_front c entry states turns k None mid new h s e g = tt
 grows_by_front c entry states turns k (Some o) mid new h s e g =
-    front_of c entry states turns k o new h s (subst (λ (m : Option (List ℕ)). IfSome m (λ o. IsSomeAnd new (λ n. GrowsByPart o n (loop_line c entry (k + 1) (states k))))) e g)
+    front_of c entry states turns k o new h s (subst (λ (m : Option (List ℕ)). IfSome m (λ o. IsSomeAnd new (λ n. GrowsByPart o n (line_by c entry (k + 1) (states k))))) e g)
 
 -- a turn that was made is one, and the first was made too
 begun_by : (c : Numbers) (states : ℕ → List ℤ) (turns k : ℕ) → k < turns → LieInside c states (k + 1) → MayBegin c states turns
 begun_by c states turns k h s = record { some = omega (arith, h); inside = record { each = λ j l. s.each j (omega (arith, l)) } }
 
 -- what a turn shows, a loop shows that came to it
-pub turn_shows : (c : Numbers) (entry : ℕ) (states : ℕ → List ℤ) (turns k : ℕ) (first mid new : Option (List ℕ)) (before between now : ℕ) (fault : LoopFault) → k < turns →
-    LieInside c states k → mid ≡ option_map (λ o. o ++ lines_of c entry states k) first → before ≤ between → between ≤ now →
-    TurnShows c entry (k + 1) (states k) mid new between now fault → LoopShows c states (lines_of c entry states) turns first new before now fault
+pub turn_shows : (c : Looping) (entry : ℕ) (states : ℕ → List ℤ) (turns k : ℕ) (first mid new : Option (List ℕ)) (before between now : ℕ) (fault : LoopFault) → k < turns →
+    LieInside c.controller states k → mid ≡ option_map (λ o. o ++ lines_of c entry states k) first → before ≤ between → between ≤ now →
+    TurnShows c entry (k + 1) (states k) mid new between now fault → LoopShows c.controller states (lines_of c entry states) turns first new before now fault
 turn_shows c entry states turns k first mid new before between now Memory h s e l m t = grows_by_turns c entry states turns k first new (omega (arith, h)) s (t.1 ∙ e)
 turn_shows c entry states turns k first mid new before between now (TooWide quantity) h s e l m t = absurd t
 turn_shows c entry states turns k first mid new before between now (OutsideBox turn coordinate) h s e l m t =
@@ -221,8 +199,8 @@ turn_shows c entry states turns k first mid new before between now (OutsideBox t
       t.2 ∙ e ∙ ap (λ (j : ℕ). option_map (λ o. o ++ lines_of c entry states j) first) gone,
     )
 turn_shows c entry states turns k first mid new before between now WriteFault h s e l m t =
-    let inside = inside_more c states k s t.0 in
-    (grows_by_front c entry states turns k first mid new h inside e t.1, rose_from before between now l m t.2, begun_by c states turns k h inside)
+    let inside = inside_more c.controller states k s t.0 in
+    (grows_by_front c entry states turns k first mid new h inside e t.1, rose_from before between now l m t.2, begun_by c.controller states turns k h inside)
 
 -- ---- the first state outside the box is one
 not_inside : (c : Numbers) (xi : List ℤ) (k : ℕ) → IsFirstOutside c xi k → IsAdmissible c xi → ⊥

@@ -1,10 +1,9 @@
 -- What a closed loop meets and puts, by its states turn by turn and the lines of its first turns.
-use Rattle.std.specs.Prelude.{◌≡◌, ℕ, zero, suc, ◌+◌, ◌≤◌, ◌<◌, ℤ, List, [], ◌++◌}
+use Rattle.std.specs.Prelude.{◌≡◌, ℕ, ◌+◌, ◌≤◌, ◌<◌, ℤ, List, ◌++◌}
 use Rattle.io_edge.specs.Faults.{IsProperPrefix}
 use Rattle.qp_model.specs.machine.Controller.{Numbers}
 use Rattle.qp_model.specs.machine.Machine.{IsAdmissible}
 use Rattle.fixed_kernel.specs.Outside.{IsFirstOutside}
-use Rattle.qp_model.specs.text.LoopLines.{loop_line}
 
 -- those of the first turns lie in the box
 pub record LieInside (c : Numbers) (states : ℕ → List ℤ) (turns : ℕ) : Type 0 where
@@ -38,8 +37,3 @@ pub record GrowsByFront (c : Numbers) (states : ℕ → List ℤ) (lines : ℕ �
   pub part : List ℕ
   pub proper : IsProperPrefix (lines done) part
   pub grown : new ≡ old ++ part
-
--- the lines of the first turns
-unfoldable pub lines_of : Numbers → (entry : ℕ) → (states : ℕ → List ℤ) → ℕ → List ℕ
-lines_of c entry states zero = []
-lines_of c entry states (suc k) = lines_of c entry states k ++ loop_line c entry (k + 1) (states k)

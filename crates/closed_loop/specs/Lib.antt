@@ -1,3 +1,4 @@
+pub mod Looping
 pub mod Answers
 pub mod Shows
 pub mod Under

@@ -5,19 +5,19 @@ use Rattle.qp_model.specs.declared.quantity.Quantity.{Quantity}
 use Rattle.qp_model.specs.declared.quantity.Quantity.TheVariants.{Turn}
 use Rattle.qp_model.specs.machine.Controller.{Numbers}
 use Rattle.qp_model.specs.machine.Machine.{IsAdmissible}
-use Rattle.qp_model.specs.text.LoopLines.{loop_line}
 use Rattle.fixed_kernel.specs.Outside.{IsFirstOutside}
+use Rattle.closed_loop.specs.Looping.{Looping, line_by}
 use Rattle.closed_loop.specs.Answers.{LieInside, LeavesAmong, MayBegin, GrowsByLines, GrowsByFront}
 use Rattle.closed_loop.specs.declared.fault.LoopFault.{LoopFault}
 use Rattle.closed_loop.specs.declared.fault.LoopFault.TheVariants.{Memory, TooWide, OutsideBox, WriteFault}
 
 -- of a turn at a state: what the sink had and has, and its counts of faults
-abbrev pub TurnShows : Numbers → (entry turn : ℕ) → List ℤ → (old new : Option (List ℕ)) → (before now : ℕ) → LoopFault → Type 0
-TurnShows c entry turn xi old new before now Memory = IsAdmissible c xi × (new ≡ old)
-TurnShows c entry turn xi old new before now (TooWide quantity) = ⊥
-TurnShows c entry turn xi old new before now (OutsideBox at coordinate) = (at ≡ turn) × IsFirstOutside c xi coordinate × (new ≡ old)
-TurnShows c entry turn xi old new before now WriteFault =
-    IsAdmissible c xi × IfSome old (λ o. IsSomeAnd new (λ n. GrowsByPart o n (loop_line c entry turn xi))) × Rose before now
+abbrev pub TurnShows : Looping → (entry turn : ℕ) → List ℤ → (old new : Option (List ℕ)) → (before now : ℕ) → LoopFault → Type 0
+TurnShows l entry turn xi old new before now Memory = IsAdmissible l.controller xi × (new ≡ old)
+TurnShows l entry turn xi old new before now (TooWide quantity) = ⊥
+TurnShows l entry turn xi old new before now (OutsideBox at coordinate) = (at ≡ turn) × IsFirstOutside l.controller xi coordinate × (new ≡ old)
+TurnShows l entry turn xi old new before now WriteFault =
+    IsAdmissible l.controller xi × IfSome old (λ o. IsSomeAnd new (λ n. GrowsByPart o n (line_by l entry turn xi))) × Rose before now
 
 -- of a loop with these states and lines: after out of memory the lines of some first turns were printed, at a state outside the box those of all turns
 -- before it, and after a fault of the sink a part of the lines that isn't all of them, of which there may be one

@@ -4,86 +4,101 @@ ghost use Rattle.std.specs.List.{range_with_len};
 ghost use Rattle.mat_int.specs.Matrix.{entry_of};
 ghost use Rattle.integer_algebra.specs.Sums.{at, image};
 ghost use Rattle.integer_algebra.specs.Division.{round_of, IsNearest};
-ghost use Rattle.qp_model.specs.machine.AbsoluteSums.{IsController};
-ghost use Rattle.qp_model.specs.machine.Machine.{IsAdmissible, averaged_plan};
+ghost use Rattle.qp_model.specs.machine.Machine.{IsAdmissible};
 ghost use Rattle.qp_model.specs.problem.Parts.{IsDesign, design_of};
-ghost use Rattle.qp_model.specs.machine.Successor.{IsFor, next_sum, next_over, successor};
-ghost use Rattle.qp_model.specs.machine.LoopSize.{turn_size};
+ghost use Rattle.qp_model.specs.machine.Successor.{IsFor};
+ghost use Rattle.closed_loop.specs.Looping.{IsLooping, next_sum_by, next_over_by, successor_by, turn_size_by};
 ghost use Rattle.closed_loop.specs.Under.{AreSmallShifts};
 
+use crate::machine::ControlMachine;
 use crate::size::{grid_scale, next_over};
-use fixed_kernel::Kernel;
 use frac_scaled::round_div;
 use mat_int::dot;
 use packed_rows::RowWalk;
-use primal_average::first_input;
 use qp_model::{Design, DesignParts};
 
-// Row `i` of the plant's inputs, at the first inputs' sums.
-fn input_sum(design: &DesignParts, k: &Kernel, i: usize) -> i128
+// Row `i` of the plant's inputs, at the first inputs' sums from this state.
+fn input_sum<M: ControlMachine>(design: &DesignParts, machine: &M, state: &[i128], i: usize) -> i128
+    requires sound { IsLooping (M.looping machine.now) }
+    requires done { M.done machine.now }
+    requires state { M.runs_from machine.now state.now }
+    requires inside { IsAdmissible (M.looping machine.now).controller state.now }
+    requires matched { IsFor (M.looping machine.now).controller (design_of design.now) }
+    requires narrow { turn_size_by (design_of design.now) (M.looping machine.now) ≤ 2 ^ 126 }
     requires design { IsDesign design.now }
-    requires sound { IsController k.now.controller }
-    requires inside { IsAdmissible k.now.controller k.now.state }
-    requires made { k.now.made ≡ k.now.controller.steps }
-    requires matched { IsFor k.now.controller (design_of design.now) }
-    requires narrow { turn_size (design_of design.now) k.now.controller ≤ 2 ^ 126 }
     requires in_range { i < design.now.states }
-    ensures { result ≡ image design.now.inputs (design_of design.now).plant_b (at (averaged_plan k.now.controller k.now.state)) i }
+    ensures { result ≡ image design.now.inputs (design_of design.now).plant_b (at ((M.looping machine.now).plan state.now)) i }
 {
     let mut sum = 0;
     for l in 0..design.inputs {
-        sum += design.b.at(i, l) * first_input(k, l);
+        sum += design.b.at(i, l) * machine.first_input(l);
     }
     sum
 }
 
 // Coordinate `i` of the next state over `2^g`, as a numerator over `next_over`.
-fn next_sum(design: &DesignParts, k: &Kernel, state: &[i128], i: usize) -> i128
+fn next_sum<M: ControlMachine>(design: &DesignParts, machine: &M, state: &[i128], i: usize) -> i128
     requires design { IsDesign design.now }
-    requires made { k.now.made ≡ k.now.controller.steps }
-    requires state { k.now.state ≡ state.now }
-    requires matched { IsFor k.now.controller (design_of design.now) }
-    requires narrow { turn_size (design_of design.now) k.now.controller ≤ 2 ^ 126 }
+    requires done { M.done machine.now }
+    requires state { M.runs_from machine.now state.now }
+    requires inside { IsAdmissible (M.looping machine.now).controller state.now }
+    requires matched { IsFor (M.looping machine.now).controller (design_of design.now) }
+    requires narrow { turn_size_by (design_of design.now) (M.looping machine.now) ≤ 2 ^ 126 }
     requires in_range { i < design.now.states }
-    ensures { result ≡ next_sum (design_of design.now) k.now.controller state.now i }
+    ensures { result ≡ next_sum_by (design_of design.now) (M.looping machine.now) state.now i }
 {
-    let c = k.controller().parts();
-    let own = dot(design.a.row(i), state) * grid_scale(c);
-    own + input_sum(design, k, i)
+    let scale = grid_scale(machine);
+    let own = dot(design.a.row(i), state) * scale;
+    own + input_sum(design, machine, state, i)
 }
 
 // Coordinate `i` of the next state, over `2^g`.
-fn next_coordinate(design: &DesignParts, k: &Kernel, state: &[i128], i: usize) -> i128
+fn next_coordinate<M: ControlMachine>(
+    design: &DesignParts,
+    machine: &M,
+    state: &[i128],
+    i: usize,
+) -> i128
     requires design { IsDesign design.now }
-    requires made { k.now.made ≡ k.now.controller.steps }
-    requires state { k.now.state ≡ state.now }
-    requires matched { IsFor k.now.controller (design_of design.now) }
-    requires narrow { turn_size (design_of design.now) k.now.controller ≤ 2 ^ 126 }
+    requires done { M.done machine.now }
+    requires state { M.runs_from machine.now state.now }
+    requires inside { IsAdmissible (M.looping machine.now).controller state.now }
+    requires matched { IsFor (M.looping machine.now).controller (design_of design.now) }
+    requires narrow { turn_size_by (design_of design.now) (M.looping machine.now) ≤ 2 ^ 126 }
     requires in_range { i < design.now.states }
-    ensures value { result ≡ round_of (next_sum (design_of design.now) k.now.controller state.now i) (next_over (design_of design.now) k.now.controller) }
-    ensures nearest { IsNearest (next_sum (design_of design.now) k.now.controller state.now i) (next_over (design_of design.now) k.now.controller) result }
+    ensures value { result ≡ round_of (next_sum_by (design_of design.now) (M.looping machine.now) state.now i)
+        (next_over_by (design_of design.now) (M.looping machine.now)) }
+    ensures nearest { IsNearest (next_sum_by (design_of design.now) (M.looping machine.now) state.now i)
+        (next_over_by (design_of design.now) (M.looping machine.now)) result }
     ensures small { unsigned_abs result ≤ 2 ^ 126 }
 {
-    let over = next_over(design, k.controller().parts());
-    round_div(next_sum(design, k, state, i), over)
+    let over = next_over(design, machine);
+    round_div(next_sum(design, machine, state, i), over)
 }
 
 /// The state of the plant, over `2^g`, after the state that all steps were made from: under the first inputs of the averaged
 /// plan, to the nearest whole numbers, and a tie upward.
-pub fn next_state(design: &Design, k: &Kernel, state: &[i128], next: &mut [i128])
-    requires made { k.now.made ≡ k.now.controller.steps }
-    requires state { k.now.state ≡ state.now }
-    requires matched { IsFor k.now.controller (design_of design.now) }
-    requires narrow { turn_size (design_of design.now) k.now.controller ≤ 2 ^ 126 }
-    requires next { length next.old ≡ k.now.controller.states }
-    ensures value { next.new ≡ successor (design_of design.now) k.now.controller state.now }
-    ensures nearest { (i : ℕ) → i < k.now.controller.states →
-        IsNearest (next_sum (design_of design.now) k.now.controller state.now i) (next_over (design_of design.now) k.now.controller) (at next.new i) }
-    ensures small { (i : ℕ) → i < k.now.controller.states → unsigned_abs (at next.new i) ≤ 2 ^ 126 }
+pub fn next_state<M: ControlMachine>(
+    design: &Design,
+    machine: &M,
+    state: &[i128],
+    next: &mut [i128],
+)
+    requires done { M.done machine.now }
+    requires state { M.runs_from machine.now state.now }
+    requires inside { IsAdmissible (M.looping machine.now).controller state.now }
+    requires matched { IsFor (M.looping machine.now).controller (design_of design.now) }
+    requires narrow { turn_size_by (design_of design.now) (M.looping machine.now) ≤ 2 ^ 126 }
+    requires next { length next.old ≡ (M.looping machine.now).controller.states }
+    ensures value { next.new ≡ successor_by (design_of design.now) (M.looping machine.now) state.now }
+    ensures nearest { (i : ℕ) → i < (M.looping machine.now).controller.states →
+        IsNearest (next_sum_by (design_of design.now) (M.looping machine.now) state.now i)
+        (next_over_by (design_of design.now) (M.looping machine.now)) (at next.new i) }
+    ensures small { (i : ℕ) → i < (M.looping machine.now).controller.states → unsigned_abs (at next.new i) ≤ 2 ^ 126 }
 {
     let parts = design.parts();
     for i in 0..next.len() {
-        next[i] = next_coordinate(parts, k, state, i);
+        next[i] = next_coordinate(parts, machine, state, i);
     }
 }
 
