@@ -283,7 +283,7 @@ def plan_line(c, state, run=run):
 def turn_size(design, c):
     """The quantity `turn`: what the next state's numerator and denominator can come to."""
     over = c.total * 2 ** (c.f - c.g)
-    greatest_inputs = absolute_sums(c)[2]
+    greatest_inputs = c.machine.turn_entries(absolute_sums(c)[2])
     dot = lambda xs, ys: sum(abs(x) * y for x, y in zip(xs, ys))
     box = [max(abs(low), abs(high)) * over for low, high in zip(c.lo, c.hi)]
     rows = [dot(design.a[i], box) + dot(design.b[i], [c.total * v for v in greatest_inputs]) for i in range(c.n)]

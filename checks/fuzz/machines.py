@@ -45,6 +45,11 @@ class Plain:
         return [clamp + v for v in residuals]
 
     @staticmethod
+    def turn_entries(plan):
+        """By what each entry of a plan counts in the size of a turn, by how far they lie from 0 at most."""
+        return plan
+
+    @staticmethod
     def run(c, plan_at, residuals_at):
         """The sums of all plans: `plan_at` is of multipliers, and `residuals_at` of a plan, rounded down."""
         tops, multipliers, sums = [c.clamp >> c.s - exponent for exponent in c.exps], [0] * c.m, [0] * c.nu
@@ -105,6 +110,10 @@ class Accelerated:
         return [2 * clamp + (steps + 1) * v for v in residuals] + [2 * clamp * Accelerated.total(steps)]
 
     @staticmethod
+    def turn_entries(plan):
+        return [max(plan)] * len(plan)
+
+    @staticmethod
     def run(c, plan_at, residuals_at):
         return Accelerated.traced(c, plan_at, residuals_at, lambda v: v)
 
@@ -136,5 +145,5 @@ ALL_VERSIONS = tuple(MACHINES)
 
 
 def versions_of(words):
-    """Those of the designs and controllers that a command takes: of all `lean` without faces, and `solve`."""
-    return ALL_VERSIONS if words[:1] == ["solve"] or words[:1] == ["lean"] and len(words) == 6 else VERSIONS
+    """Those of the designs and controllers that a command takes: of all `lean` without faces, `solve` and `loop`."""
+    return ALL_VERSIONS if words[:1] in (["solve"], ["loop"]) or words[:1] == ["lean"] and len(words) == 6 else VERSIONS

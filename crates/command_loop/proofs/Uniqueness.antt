@@ -52,7 +52,7 @@ module _ (c : Numbers) (states : ℕ → List ℤ) (turns : ℕ) where
 one : (i j : ℕ) → (i < j → ⊥) → (j < i → ⊥) → i ≡ j
 one i j below above = elim (cases_lt i j) [ inl lt ↦ absurd (below lt) | inr ge ↦ elim (cases_lt j i) [ inl lt ↦ absurd (above lt) | inr le ↦ omega arith ] ]
 
-module _ (d : Design) (c : Numbers) (l : Course) (m : Matrix) (turns : ℕ) where
+module _ (size : ℕ) (c : Numbers) (l : Course) (m : Matrix) (turns : ℕ) where
   not_stay : (s : Status) (k : ℕ) (out : IsFirstLeaving c l m turns s) → out.index < k → AllStay c l m turns k → ⊥
   not_stay s k out lt stay = never_leaves c (l.states (row_of m out.index)) turns out.turn out.coordinate (stay out.index lt) out.here
 
@@ -64,11 +64,11 @@ module _ (d : Design) (c : Numbers) (l : Course) (m : Matrix) (turns : ℕ) wher
       out.is ∙ ap (λ (i : ℕ). OutsideBox (i + 1) out.turn out.coordinate) same ∙ ap (λ (k : ℕ). OutsideBox (other.index + 1) k out.coordinate) there.0
       ∙ ap (λ (k : ℕ). OutsideBox (other.index + 1) other.turn k) there.1 ∙ sym other.is
 
-  not_wide : (s : Status) → IsTurnWide d c m s → FitsTurn d c m → ⊥
+  not_wide : (s : Status) → IsTurnWide size m s → FitsTurn size m → ⊥
   not_wide s w (inl none) = omega (arith, none, w.record_there)
   not_wide s w (inr fits) = omega (arith, fits, w.wide)
 
-  pub one_call : (s t : Status) → LoopsCall d c l turns m s → LoopsCall d c l turns m t → t ≡ s
+  pub one_call : (s t : Status) → LoopsCall size c l turns m s → LoopsCall size c l turns m t → t ≡ s
   one_call s t (inl w) (inl v) = v.is ∙ sym w.is
   one_call s t (inl w) (inr (inl v)) = absurd (not_wide s w v.0)
   one_call s t (inl w) (inr (inr v)) = absurd (not_wide s w v.1)

@@ -9,11 +9,15 @@ use Rattle.qp_model.specs.machine.Successor.{IsFor, state_after}
 use Rattle.qp_model.specs.machine.LoopSize.{turn_size}
 use Rattle.qp_model.specs.text.LoopLines.{loop_text}
 use Rattle.qp_model.specs.declared.quantity.Quantity.TheVariants.{Turn}
+use Rattle.controller_file.specs.AnyText.{any_numbers}
+use Rattle.controller_file.specs.declared.any_controller.AnyController.{AnyController}
+use Rattle.controller_file.specs.declared.any_controller.AnyController.TheVariants.{Plain, Fast}
+use Rattle.closed_loop.specs.Looping.{Looping, looping_of_fast, turn_size_by}
 use Rattle.closed_loop.specs.Answers.{LieInside, LeavesAmong}
-use Rattle.closed_loop.specs.Under.{states_under, lines_under}
+use Rattle.closed_loop.specs.Under.{states_under, lines_under, states_by, lines_by, unshifted_by, unshifted_lines_by}
 use Rattle.command_line.specs.Script.{Act, Script, ends, reads, tests, printing_act}
-use Rattle.command_design_files.specs.Reading.{design_kind}
-use Rattle.command_files.specs.Reading.{controller_kind, states_kind, shifts_kind}
+use Rattle.command_design_files.specs.Reading.{asked_kind}
+use Rattle.command_files.specs.Reading.{any_controller_kind, states_kind, shifts_kind}
 use Rattle.command_line.specs.declared.status.Field.TheVariants.{States, Inputs, Grid}
 use Rattle.command_line.specs.declared.status.Status.{Status}
 use Rattle.command_line.specs.declared.status.Status.TheVariants.{Done, Memory, WriteFault, Refused, OutsideBox, Mismatch}
@@ -33,10 +37,25 @@ pub record Course : Type 0 where
   pub states : (start : List ℤ) → ℕ → List ℤ
   pub lines : (entry : ℕ) → (start : List ℤ) → ℕ → List ℕ
 
--- that of a design's plant under a controller: where there are shifts, the state after each turn is shifted by their row of the turn
+-- that of a design's plant under a controller of the plain machine: where there are shifts, the state after each turn is shifted by their row of the turn
 abbrev pub course_of : Design → Numbers → (shifts : Option Matrix) → Course
 course_of d c None = record { states = state_after d c; lines = loop_text d c }
 course_of d c (Some shifts) = record { states = λ start. states_under d c start shifts; lines = λ entry start. lines_under d c entry start shifts }
+
+-- the same under a controller of any machine
+abbrev pub course_by : Design → Looping → (shifts : Option Matrix) → Course
+course_by d l None = record { states = unshifted_by d l; lines = unshifted_lines_by d l }
+course_by d l (Some shifts) = record { states = λ start. states_by d l start shifts; lines = λ entry start. lines_by d l entry start shifts }
+
+-- under that of a file
+abbrev pub course_of_any : Design → AnyController → (shifts : Option Matrix) → Course
+course_of_any d (Plain c) = course_of d c
+course_of_any d (Fast c) = course_by d (looping_of_fast c)
+
+-- the quantity `turn`
+abbrev pub turn_size_of : Design → AnyController → ℕ
+turn_size_of d (Plain c) = turn_size d c
+turn_size_of d (Fast c) = turn_size_by d (looping_of_fast c)
 
 -- ---- the loops of all records
 -- the loops of the first records stay in the box for all turns
@@ -54,25 +73,25 @@ pub record IsFirstLeaving (c : Numbers) (l : Course) (m : Matrix) (turns : ℕ) 
   pub is : s ≡ OutsideBox (index + 1) turn coordinate
 
 -- the quantity `turn` is above its limit, and there is a record
-pub record IsTurnWide (d : Design) (c : Numbers) (m : Matrix) (s : Status) : Type 0 where
+pub record IsTurnWide (size : ℕ) (m : Matrix) (s : Status) : Type 0 where
   pub record_there : 0 < length m.rows
-  pub wide : 2 ^ 126 < turn_size d c
+  pub wide : 2 ^ 126 < size
   pub is : s ≡ Refused (TooWide Turn)
 
 -- there is no record, or the quantity `turn` is within its limit
-abbrev pub FitsTurn : Design → Numbers → Matrix → Type 0
-FitsTurn d c m = (length m.rows ≡ 0) ⊎ (turn_size d c ≤ 2 ^ 126)
+abbrev pub FitsTurn : (size : ℕ) → Matrix → Type 0
+FitsTurn size m = (length m.rows ≡ 0) ⊎ (size ≤ 2 ^ 126)
 
--- what a design, a controller for it and states call for
-abbrev pub LoopsCall : Design → Numbers → Course → (turns : ℕ) → Matrix → Status → Type 0
-LoopsCall d c l turns m s =
-    IsTurnWide d c m s ⊎ ((FitsTurn d c m × IsFirstLeaving c l m turns s) ⊎ ((s ≡ Done) × FitsTurn d c m × AllStay c l m turns (length m.rows)))
+-- what a controller and states call for, where the quantity `turn` is of this size
+abbrev pub LoopsCall : (size : ℕ) → Numbers → Course → (turns : ℕ) → Matrix → Status → Type 0
+LoopsCall size c l turns m s =
+    IsTurnWide size m s ⊎ ((FitsTurn size m × IsFirstLeaving c l m turns s) ⊎ ((s ≡ Done) × FitsTurn size m × AllStay c l m turns (length m.rows)))
 
 -- a line may be printed: there is a record and a turn, the quantity `turn` is within its limit, and the first record's state lies in the box
-pub record MayPrintLine (d : Design) (c : Numbers) (l : Course) (turns : ℕ) (m : Matrix) : Type 0 where
+pub record MayPrintLine (size : ℕ) (c : Numbers) (l : Course) (turns : ℕ) (m : Matrix) : Type 0 where
   pub record_there : 0 < length m.rows
   pub turn_there : 0 < turns
-  pub narrow : turn_size d c ≤ 2 ^ 126
+  pub narrow : size ≤ 2 ^ 126
   pub inside : LieInside c (l.states (row_of m 0)) 1
 
 -- ---- what is printed
@@ -86,18 +105,18 @@ abbrev pub lines_to : Course → Matrix → (turns records some : ℕ) → List 
 lines_to l m turns records some = record_lines l m turns records ++ l.lines (records + 1) (row_of m records) some
 
 -- all lines
-pub record AreAll (d : Design) (c : Numbers) (l : Course) (turns : ℕ) (m : Matrix) (old new : List ℕ) : Type 0 where
+pub record AreAll (c : Numbers) (l : Course) (turns : ℕ) (m : Matrix) (old new : List ℕ) : Type 0 where
   pub stays : AllStay c l m turns (length m.rows)
   pub printed : new ≡ old ++ record_lines l m turns (length m.rows)
 
 -- the lines of the records before the one that leaves the box, and of its turns before that
-pub record AreToLeaving (d : Design) (c : Numbers) (l : Course) (turns : ℕ) (m : Matrix) (s : Status) (old new : List ℕ) : Type 0 where
+pub record AreToLeaving (c : Numbers) (l : Course) (turns : ℕ) (m : Matrix) (s : Status) (old new : List ℕ) : Type 0 where
   pub leaving : IsFirstLeaving c l m turns s
   pub printed : new ≡ old ++ lines_to l m turns leaving.index (leaving.turn - 1)
 
 -- the lines of the first records, and of some first turns of the next one, all of whose states lie in the box
-pub record AreTurns (d : Design) (c : Numbers) (l : Course) (turns : ℕ) (m : Matrix) (old new : List ℕ) : Type 0 where
-  pub fits : FitsTurn d c m
+pub record AreTurns (size : ℕ) (c : Numbers) (l : Course) (turns : ℕ) (m : Matrix) (old new : List ℕ) : Type 0 where
+  pub fits : FitsTurn size m
   pub index : ℕ
   pub there : index < length m.rows
   pub before : AllStay c l m turns index
@@ -107,8 +126,8 @@ pub record AreTurns (d : Design) (c : Numbers) (l : Course) (turns : ℕ) (m : M
   pub printed : new ≡ old ++ lines_to l m turns index some
 
 -- the same, where the last line is cut off: a part of these lines, and not all of them
-pub record ArePrefix (d : Design) (c : Numbers) (l : Course) (turns : ℕ) (m : Matrix) (old new : List ℕ) : Type 0 where
-  pub fits : FitsTurn d c m
+pub record ArePrefix (size : ℕ) (c : Numbers) (l : Course) (turns : ℕ) (m : Matrix) (old new : List ℕ) : Type 0 where
+  pub fits : FitsTurn size m
   pub index : ℕ
   pub there : index < length m.rows
   pub before : AllStay c l m turns index
@@ -128,31 +147,35 @@ abbrev pub TellsLeavingLater : Status → Type 0
 TellsLeavingLater s = (entry : ℕ) × (turn : ℕ) × (coordinate : ℕ) × (s ≡ OutsideBox entry turn coordinate) × ((1 < entry) ⊎ (1 < turn))
 
 -- what the output got, by the answer
-pub record LoopsPrint (d : Design) (c : Numbers) (l : Course) (turns : ℕ) (m : Matrix) (s : Status) (old new : List ℕ) : Type 0 where
-  pub done : s ≡ Done → AreAll d c l turns m old new
-  pub outside : TellsLeaving s → AreToLeaving d c l turns m s old new
-  pub fault : s ≡ WriteFault 0 → ArePrefix d c l turns m old new
-  pub memory : s ≡ Memory → (new ≡ old) ⊎ AreTurns d c l turns m old new
+pub record LoopsPrint (size : ℕ) (c : Numbers) (l : Course) (turns : ℕ) (m : Matrix) (s : Status) (old new : List ℕ) : Type 0 where
+  pub done : s ≡ Done → AreAll c l turns m old new
+  pub outside : TellsLeaving s → AreToLeaving c l turns m s old new
+  pub fault : s ≡ WriteFault 0 → ArePrefix size c l turns m old new
+  pub memory : s ≡ Memory → (new ≡ old) ⊎ AreTurns size c l turns m old new
   pub other : s ≢ Done → (TellsLeaving s → ⊥) → s ≢ WriteFault 0 → s ≢ Memory → new ≡ old
 
 -- ---- the files, one after the other
-abbrev pub loop_act : (turns : ℕ) → Design → Numbers → (shifts : Option Matrix) → Matrix → Act
-loop_act turns d c v m = printing_act (LoopsCall d c (course_of d c v) turns m) (MayPrintLine d c (course_of d c v) turns m) (LoopsPrint d c (course_of d c v) turns m)
+abbrev pub loop_act : (turns : ℕ) → Design → AnyController → (shifts : Option Matrix) → Matrix → Act
+loop_act turns d k v m =
+    let size = turn_size_of d k in
+    let c = any_numbers k in
+    let l = course_of_any d k v in
+    printing_act (LoopsCall size c l turns m) (MayPrintLine size c l turns m) (LoopsPrint size c l turns m)
 
 -- the fifth has the shifts where there are disturbances
-abbrev pub loop_shifts : (turns : ℕ) (disturbed : Bool) → Design → Numbers → Matrix → Script
-loop_shifts turns true d c m = reads 5 (shifts_kind c.states turns) (λ v. ends (loop_act turns d c (Some v) m))
-loop_shifts turns false d c m = ends (loop_act turns d c None m)
+abbrev pub loop_shifts : (turns : ℕ) (disturbed : Bool) → Design → AnyController → Matrix → Script
+loop_shifts turns true d k m = reads 5 (shifts_kind (any_numbers k).states turns) (λ v. ends (loop_act turns d k (Some v) m))
+loop_shifts turns false d k m = ends (loop_act turns d k None m)
 
-abbrev pub loop_states : (turns : ℕ) (disturbed : Bool) → Design → Numbers → Script
-loop_states turns disturbed d c = reads 3 (states_kind c.states) (loop_shifts turns disturbed d c)
+abbrev pub loop_states : (turns : ℕ) (disturbed : Bool) → Design → AnyController → Script
+loop_states turns disturbed d k = reads 3 (states_kind (any_numbers k).states) (loop_shifts turns disturbed d k)
 
--- the second has a controller, which is for the design
-abbrev pub loop_controller : (turns : ℕ) (disturbed : Bool) → Design → Numbers → Script
-loop_controller turns disturbed d c = tests (IsMismatch d c) (IsFor c d) (loop_states turns disturbed d c)
+-- the second has a controller, of either machine, which is for the design
+abbrev pub loop_controller : (turns : ℕ) (disturbed : Bool) → Design → AnyController → Script
+loop_controller turns disturbed d k = tests (IsMismatch d (any_numbers k)) (IsFor (any_numbers k) d) (loop_states turns disturbed d k)
 
 abbrev pub loop_design : (turns : ℕ) (disturbed : Bool) → Design → Script
-loop_design turns disturbed d = reads 2 controller_kind (loop_controller turns disturbed d)
+loop_design turns disturbed d = reads 2 any_controller_kind (loop_controller turns disturbed d)
 
 abbrev pub loop_script : (turns : ℕ) (disturbed : Bool) → Script
-loop_script turns disturbed = reads 1 design_kind (λ p. loop_design turns disturbed (design_of p))
+loop_script turns disturbed = reads 1 asked_kind (λ a. loop_design turns disturbed (design_of a.design))

@@ -4,14 +4,14 @@ ghost use Rattle.command_line.specs.Does.{Does};
 ghost use Rattle.command_loop.specs.Deeds.{loop_deeds};
 
 use crate::files::run_design;
-use command_design_files::read_design_file;
+use command_design_files::read_asked_file;
 use command_line::Status;
 use io_edge::{Sink, Store, Words};
 use std::alloc::Global;
 
 /// Prints the lines of a closed loop of `turns` turns for each state of the third file: the plant of the design in the first file, controlled by the
-/// controller in the second. Where there are disturbances, the fifth file has a record of them for each turn, which is added to the state after the turn,
-/// in every loop. A record whose state leaves the box ends it, with the lines of the turns before that printed.
+/// controller in the second, both of any version. Where there are disturbances, the fifth file has a record of them for each turn, which is added to the state
+/// after the turn, in every loop. A record whose state leaves the box ends it, with the lines of the turns before that printed.
 pub fn run_loops<S: Store, O: Sink>(
     alloc: Global,
     words: &Words,
@@ -23,8 +23,8 @@ pub fn run_loops<S: Store, O: Sink>(
     requires { IsLoop words.now turns disturbed }
     ensures { Does S.Store O.Sink words.now (loop_deeds turns disturbed) store.old store.new out.old out.new result }
 {
-    match read_design_file(alloc, 1, words.at(1), store) {
-        Ok(design) => run_design(alloc, words, turns, disturbed, &design, store, out),
+    match read_asked_file(alloc, 1, words.at(1), store) {
+        Ok(asked) => run_design(alloc, words, turns, disturbed, &asked.design, store, out),
         Err(status) => status,
     }
 }

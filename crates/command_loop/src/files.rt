@@ -1,21 +1,33 @@
 // The files of a loop, one after the other.
 ghost use Rattle.std.specs.Prelude.{◌≡◌, ◌<◌, ◌^◌, length};
 ghost use Rattle.qp_model.specs.problem.Parts.{design_of};
+ghost use Rattle.qp_model.specs.machine.Controller.{numbers};
 ghost use Rattle.qp_model.specs.machine.Successor.{IsFor};
+ghost use Rattle.controller_file.specs.AnyText.{any_numbers};
 ghost use Rattle.command_line.specs.Words.{IsLoop};
 ghost use Rattle.command_line.specs.Running.{Runs};
 ghost use Rattle.command_loop.specs.Loop.{loop_shifts, loop_states, loop_design};
 ghost use Rattle.command_loop.specs.Deeds.{loop_deeds};
 
-use crate::mismatch::mismatch_of;
+use crate::mismatch::mismatch_with;
 use crate::records::print_loops;
-use command_files::{read_controller_file, read_shifts_file, read_states_file};
+use command_files::{read_any_controller_file, read_shifts_file, read_states_file};
 use command_line::Status;
+use controller_file::AnyController;
 use io_edge::{Sink, Store, Words};
-use overflow_check::Controller;
 use packed_rows::PackedRows;
-use qp_model::Design;
+use qp_model::{ControllerParts, Design};
 use std::alloc::Global;
+
+// The numbers of a controller of either machine.
+fn parts_of(controller: &AnyController) -> &ControllerParts
+    ensures { numbers result.now ≡ any_numbers controller.now }
+{
+    match controller {
+        AnyController::Plain(controller) => controller.parts(),
+        AnyController::Fast(controller) => controller.parts(),
+    }
+}
 
 // The shifts, where there are disturbances, and the loops.
 fn run_states<S: Store, O: Sink>(
@@ -24,20 +36,20 @@ fn run_states<S: Store, O: Sink>(
     turns: u32,
     disturbed: bool,
     design: &Design,
-    controller: &Controller,
+    controller: &AnyController,
     states: &PackedRows,
     store: &mut S,
     out: &mut O,
 ) -> Status
     requires words { IsLoop words.now turns disturbed }
-    requires matched { IsFor controller.now (design_of design.now) }
-    requires width { states.now.cols ≡ controller.now.states }
+    requires matched { IsFor (any_numbers controller.now) (design_of design.now) }
+    requires width { states.now.cols ≡ (any_numbers controller.now).states }
     requires count { length states.now.rows < 2 ^ 32 }
     ensures { Runs S.Store O.Sink words.now (loop_deeds turns disturbed) store.old store.new out.old out.new result
         (loop_shifts turns disturbed (design_of design.now) controller.now states.now) }
 {
     if disturbed {
-        let n = controller.parts().n;
+        let n = parts_of(controller).n;
         match read_shifts_file(alloc, 5, words.at(5), n, turns as usize, store) {
             Ok(shifts) => print_loops(alloc, design, controller, states, &Some(shifts), turns, out),
             Err(status) => status,
@@ -54,16 +66,16 @@ fn run_controller<S: Store, O: Sink>(
     turns: u32,
     disturbed: bool,
     design: &Design,
-    controller: &Controller,
+    controller: &AnyController,
     store: &mut S,
     out: &mut O,
 ) -> Status
     requires words { IsLoop words.now turns disturbed }
-    requires matched { IsFor controller.now (design_of design.now) }
+    requires matched { IsFor (any_numbers controller.now) (design_of design.now) }
     ensures { Runs S.Store O.Sink words.now (loop_deeds turns disturbed) store.old store.new out.old out.new result
         (loop_states turns disturbed (design_of design.now) controller.now) }
 {
-    match read_states_file(alloc, 3, words.at(3), controller.parts().n, store) {
+    match read_states_file(alloc, 3, words.at(3), parts_of(controller).n, store) {
         Ok(states) => {
             run_states(
                 alloc, words, turns, disturbed, design, controller, &states, store, out,
@@ -87,11 +99,11 @@ pub fn run_design<S: Store, O: Sink>(
     ensures { Runs S.Store O.Sink words.now (loop_deeds turns disturbed) store.old store.new out.old out.new result
         (loop_design turns disturbed (design_of design.now)) }
 {
-    let controller = match read_controller_file(alloc, 2, words.at(2), store) {
+    let controller = match read_any_controller_file(alloc, 2, words.at(2), store) {
         Ok(controller) => controller,
         Err(ended) => return ended,
     };
-    match mismatch_of(design, &controller) {
+    match mismatch_with(design, parts_of(&controller)) {
         Some(status) => status,
         None => run_controller(
             alloc,

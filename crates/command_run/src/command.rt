@@ -66,8 +66,8 @@ fn answer<S: Store, O: Sink>(
 ///
 /// `generate`, a design file, a policy file, a controller file and a report file: makes a controller of the design, and writes its text and the
 /// report of its bounds, as JSON where the report's name ends in `.json`. `solve`, a controller file, of any version, and a states file: prints a line for
-/// each state, the averaged plan of the controller from it. `loop`, a design file, a controller file, a states file and a number of turns: prints a line for each
-/// turn of the closed loop from each state; with a file of disturbances the state after each turn is shifted by the turn's record. `demo` and a number:
+/// each state, the averaged plan of the controller from it. `loop`, a design file and a controller file, of any version, a states file and a number of turns: prints
+/// a line for each turn of the closed loop from each state; with a file of disturbances the state after each turn is shifted by the turn's record. `demo` and a number:
 /// prints the report and four plans of a made design. `list`, a controller file and a listing file: writes the listing of the controller's step.
 /// `play`, a listing file and a states file: prints a line for each state, what the listing's machine puts out from it. `stay`, the files of `generate`,
 /// a file of faces of the box, and one of a range of disturbances or none: does what `generate` does, where the faces show that the closed loop stays

@@ -33,8 +33,9 @@ end
 ";
 
 // Further files, most with a fault, or that no controller is made of: a name, and a text with this part in that one's place.
-static FILES: [(&str, &str, &str, &str); 25] = [
+static FILES: [(&str, &str, &str, &str); 26] = [
     ("toml", DESIGN, "version = 1", "x ="),
+    ("third", DESIGN, "version = 1", "version = 3"),
     ("halves", DESIGN, "grid = 0", "grid = 1"),
     ("triples", DESIGN, "a = [[1]]", "a = [[3]]"),
     (
@@ -92,6 +93,8 @@ solve two pairs: 1792 0 329,1792 -7 -462
 solve fast s: 4608 0,4608 -2480
 solve once turned: 128 -64,128 0
 loop d c turned 2: 1 1 1 4096 -2224,1 2 0 4096 0,2 1 0 4096 0,2 2 0 4096 0
+loop third fast turned 2: 1 1 1 4608 -2480,1 2 0 4608 0,2 1 0 4608 0,2 2 0 4608 0
+loop d fast s 1: 1 1 0 4608 0,2 1 1 4608 -2480
 solve c: error 2 usage
 demo 07: error 2 usage
 loop d c s 1000001: error 2 usage
@@ -121,12 +124,13 @@ solve unsafe s: error 11 controller 1 unsafe
 solve endless s: error 11 controller 1 line 4
 solve few s: error 11 controller 1 line 6
 solve narrow s: error 11 controller 1 unsafe
-loop d fast s 1: error 11 controller 2 line 1
+loop d endless s 1: error 11 controller 2 line 4
 loop d cut s 1: error 11 controller 2 line 19
 loop d unsafe s 1: error 11 controller 2 unsafe
 solve c outside: error 12 outside-box 2 0 1
 solve fast outside: error 12 outside-box 2 0 1
 loop d c outside 1: error 12 outside-box 2 1 1,1 1 1 4096 -2224
+loop triples fast turned 2: error 12 outside-box 1 2 1,1 1 1 4608 -2480
 loop triples c s 2: error 12 outside-box 2 2 1,1 1 0 4096 0,1 2 0 4096 0,2 1 1 4096 -2224
 generate large p out r: error 13 long 1
 generate d large out r: error 13 long 2

@@ -10,11 +10,10 @@ returns-in-Ok g c =
     let kept = c.in-Ok.ensures in
     let did = c.print_loops.ensures in
     rw c.if-disturbed.true
-    (went_on kept.passes (rw (ap (λ (n : Numbers). n.states) c.parts.ensures.value, c.at.ensures) at kept.right)
+    (went_on kept.passes (rw (ap (λ (n : Numbers). n.states) c.parts_of.ensures, c.at.ensures) at kept.right)
     (acted
     (printed tt
-    (loops_printed (design_of c.args.design.now) c.args.controller.now (Some c.in-Ok.shifts) c.args.turns c.args.states.now c.print_loops.result g.O.Sink true c.args.out.now c.print_loops.new.out
-    did.ends did.printed did.quiet did.failed did.no_fewer)
+    (loops_printed (design_of c.args.design.now) c.args.controller.now (Some c.in-Ok.shifts) c.args.turns c.args.states.now c.print_loops.result g.O.Sink true c.args.out.now c.print_loops.new.out did)
     refl)))
 
 pub returns-else-disturbed : goal.returns-else-disturbed
@@ -23,6 +22,5 @@ returns-else-disturbed g c =
     rw c.if-disturbed.false
     (acted
     (printed tt
-    (loops_printed (design_of c.args.design.now) c.args.controller.now None c.args.turns c.args.states.now c.print_loops-else-disturbed.result g.O.Sink false c.args.out.now c.print_loops-else-disturbed.new.out
-    did.ends did.printed did.quiet did.failed did.no_fewer)
+    (loops_printed (design_of c.args.design.now) c.args.controller.now None c.args.turns c.args.states.now c.print_loops-else-disturbed.result g.O.Sink false c.args.out.now c.print_loops-else-disturbed.new.out did)
     refl))

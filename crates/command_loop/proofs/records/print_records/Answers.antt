@@ -1,8 +1,9 @@
 use Rattle.std.proofs.Common.{◌≡◌, ◌+◌, ◌++◌, ◌∙◌, refl, le_refl, below_more, arith, ℕ, option_map}
 use Rattle.mat_int.specs.Matrix.{row_of}
 use Rattle.qp_model.specs.problem.Parts.{design_of}
+use Rattle.closed_loop.specs.Looping.{turn_size_by}
 use Rattle.closed_loop.specs.Answers.{LieInside}
-use Rattle.command_loop.specs.Loop.{course_of}
+use Rattle.command_loop.specs.Loop.{course_by}
 use Rattle.command_loop.specs.Printing.{RecordShows, rows_along}
 use Rattle.command_loop.proofs.Looping.{said_along, put_none, put_more, ends, printed, quiet}
 use Rattle.command_loop.proofs.records.print_records.Goals as goal
@@ -12,10 +13,10 @@ loop-i-init g c = record {
   rows = c.in-Ok.ensures.rows;
   next = c.in-Ok.ensures.next;
   shifts = refl;
-  controller = refl;
+  same = refl;
   narrow = λ h. absurd (omega (arith, h));
   stays = λ e h. absurd (omega (arith, h));
-  got = put_none (design_of c.args.design.now) c.args.kernel.now.controller (course_of (design_of c.args.design.now) c.args.kernel.now.controller (rows_along c.args.shifts.now)) c.args.states.now c.args.turns
+  got = put_none 0 (g.M.ControlMachine.looping c.args.machine.now).controller (course_by (design_of c.args.design.now) (g.M.ControlMachine.looping c.args.machine.now) (rows_along c.args.shifts.now)) c.args.states.now c.args.turns
       (g.O.Sink.got c.args.out.now);
   first = λ e. refl;
   faults = le_refl (g.O.Sink.faults c.args.out.now);
@@ -24,69 +25,77 @@ loop-i-init g c = record {
 pub returns-in-Err-clause-ends : goal.returns-in-Err-clause-ends
 returns-in-Err-clause-ends g c =
     let d = design_of c.args.design.now in
-    let n = c.args.kernel.now.controller in
+    let a = g.M.ControlMachine.looping c.args.machine.now in
+    let size = turn_size_by d a in
+    let n = a.controller in
     let m = c.args.states.now in
     let v = rows_along c.args.shifts.now in
     let got = g.O.Sink.got in
     let i = c.loop-i.i in
     let there : c.row.result.now ≡ row_of m i = c.row.ensures.value ∙ rw (c.loop-i.invariant.rows, c.loop-i.invariant.next) at c.step.ensures.row in
-    ends d n (course_of d n v) m c.args.turns i c.in-Err.fault c.loop_status.result (got c.loop-i.out) (got c.run_record.new.out) c.loop_status.ensures (omega arith) c.loop-i.invariant.stays
-    (said_along (λ k s w. RecordShows d k (course_of d k w) (i + 1) s c.args.turns (got c.loop-i.out) (got c.run_record.new.out) c.in-Err.fault) c.loop-i.kernel.controller n c.row.result.now (row_of m i)
-    (rows_along c.loop-i.shifts) v c.loop-i.invariant.controller there c.loop-i.invariant.shifts c.in-Err.ensures.shows)
+    ends size n (course_by d a v) m c.args.turns i c.in-Err.fault c.loop_status.result (got c.loop-i.out) (got c.run_record.new.out) c.loop_status.ensures (omega arith) c.loop-i.invariant.stays
+    (said_along (λ k s w. RecordShows (turn_size_by d k) k.controller (course_by d k w) (i + 1) s c.args.turns (got c.loop-i.out) (got c.run_record.new.out) c.in-Err.fault) (g.M.ControlMachine.looping c.loop-i.machine) a c.row.result.now (row_of m i)
+    (rows_along c.loop-i.shifts) v c.loop-i.invariant.same there c.loop-i.invariant.shifts c.in-Err.ensures.shows)
 
 pub returns-in-Err-clause-printed : goal.returns-in-Err-clause-printed
 returns-in-Err-clause-printed g c =
     let d = design_of c.args.design.now in
-    let n = c.args.kernel.now.controller in
+    let a = g.M.ControlMachine.looping c.args.machine.now in
+    let size = turn_size_by d a in
+    let n = a.controller in
     let m = c.args.states.now in
     let v = rows_along c.args.shifts.now in
     let got = g.O.Sink.got in
     let i = c.loop-i.i in
     let there : c.row.result.now ≡ row_of m i = c.row.ensures.value ∙ rw (c.loop-i.invariant.rows, c.loop-i.invariant.next) at c.step.ensures.row in
-    printed d n (course_of d n v) m c.args.turns i c.in-Err.fault c.loop_status.result (got c.args.out.now) (got c.loop-i.out) (got c.run_record.new.out) c.loop_status.ensures (omega arith)
+    printed size n (course_by d a v) m c.args.turns i c.in-Err.fault c.loop_status.result (got c.args.out.now) (got c.loop-i.out) (got c.run_record.new.out) c.loop_status.ensures (omega arith)
     c.loop-i.invariant.stays c.loop-i.invariant.narrow c.loop-i.invariant.got
-    (said_along (λ k s w. RecordShows d k (course_of d k w) (i + 1) s c.args.turns (got c.loop-i.out) (got c.run_record.new.out) c.in-Err.fault) c.loop-i.kernel.controller n c.row.result.now (row_of m i)
-    (rows_along c.loop-i.shifts) v c.loop-i.invariant.controller there c.loop-i.invariant.shifts c.in-Err.ensures.shows)
+    (said_along (λ k s w. RecordShows (turn_size_by d k) k.controller (course_by d k w) (i + 1) s c.args.turns (got c.loop-i.out) (got c.run_record.new.out) c.in-Err.fault) (g.M.ControlMachine.looping c.loop-i.machine) a c.row.result.now (row_of m i)
+    (rows_along c.loop-i.shifts) v c.loop-i.invariant.same there c.loop-i.invariant.shifts c.in-Err.ensures.shows)
 
 pub returns-in-Err-clause-quiet : goal.returns-in-Err-clause-quiet
 returns-in-Err-clause-quiet g c = λ done memory fault leaving.
     let d = design_of c.args.design.now in
-    let n = c.args.kernel.now.controller in
+    let a = g.M.ControlMachine.looping c.args.machine.now in
+    let size = turn_size_by d a in
+    let n = a.controller in
     let m = c.args.states.now in
     let v = rows_along c.args.shifts.now in
     let got = g.O.Sink.got in
     let i = c.loop-i.i in
     let there : c.row.result.now ≡ row_of m i = c.row.ensures.value ∙ rw (c.loop-i.invariant.rows, c.loop-i.invariant.next) at c.step.ensures.row in
-    quiet d n (course_of d n v) m c.args.turns i c.in-Err.fault c.loop_status.result (got c.loop-i.out) (got c.run_record.new.out) c.args.out.now c.loop-i.out c.run_record.new.out c.loop_status.ensures
+    quiet size n (course_by d a v) m c.args.turns i c.in-Err.fault c.loop_status.result (got c.loop-i.out) (got c.run_record.new.out) c.args.out.now c.loop-i.out c.run_record.new.out c.loop_status.ensures
     c.loop-i.invariant.narrow c.loop-i.invariant.first c.in-Err.ensures.quiet
-    (said_along (λ k s w. RecordShows d k (course_of d k w) (i + 1) s c.args.turns (got c.loop-i.out) (got c.run_record.new.out) c.in-Err.fault) c.loop-i.kernel.controller n c.row.result.now (row_of m i)
-    (rows_along c.loop-i.shifts) v c.loop-i.invariant.controller there c.loop-i.invariant.shifts c.in-Err.ensures.shows) memory fault leaving
+    (said_along (λ k s w. RecordShows (turn_size_by d k) k.controller (course_by d k w) (i + 1) s c.args.turns (got c.loop-i.out) (got c.run_record.new.out) c.in-Err.fault) (g.M.ControlMachine.looping c.loop-i.machine) a c.row.result.now (row_of m i)
+    (rows_along c.loop-i.shifts) v c.loop-i.invariant.same there c.loop-i.invariant.shifts c.in-Err.ensures.shows) memory fault leaving
 
 pub loop-i-preserved : goal.loop-i-preserved
 loop-i-preserved g c =
     let d = design_of c.args.design.now in
-    let n = c.args.kernel.now.controller in
+    let a = g.M.ControlMachine.looping c.args.machine.now in
+    let size = turn_size_by d a in
+    let n = a.controller in
     let m = c.args.states.now in
     let v = rows_along c.args.shifts.now in
-    let l = course_of d n v in
+    let l = course_by d a v in
     let got = g.O.Sink.got in
     let i = c.loop-i.i in
     let there : c.row.result.now ≡ row_of m i = c.row.ensures.value ∙ rw (c.loop-i.invariant.rows, c.loop-i.invariant.next) at c.step.ensures.row in
-    let same = c.loop-i.invariant.controller in
+    let same = c.loop-i.invariant.same in
     let w = rows_along c.loop-i.shifts in
     let along = c.loop-i.invariant.shifts in
-    let k = c.loop-i.kernel.controller in
+    let k = g.M.ControlMachine.looping c.loop-i.machine in
     let row = c.row.result.now in
     record {
       rows = c.step.ensures.rows ∙ c.loop-i.invariant.rows;
       next = omega (arith, c.step.ensures.next, c.loop-i.invariant.next);
       shifts = c.run_record.ensures.shifts ∙ along;
-      controller = c.run_record.ensures.controller ∙ same;
+      same = c.run_record.ensures.same ∙ same;
       narrow = λ h. rw same at c.in_default-run_record.ensures.narrow;
       stays = below_more (λ (e : ℕ). LieInside n (l.states (row_of m e)) c.args.turns) i c.loop-i.invariant.stays
-          (said_along (λ x s u. LieInside x ((course_of d x u).states s) c.args.turns) k n row (row_of m i) w v same there along c.in_default-run_record.ensures.inside);
-      got = put_more d n l m c.args.turns i (got c.args.out.now) (got c.loop-i.out) (got c.run_record.new.out) c.loop-i.invariant.got
-          (said_along (λ x s u. got c.run_record.new.out ≡ option_map (λ o. o ++ (course_of d x u).lines (i + 1) s c.args.turns) (got c.loop-i.out)) k n row (row_of m i) w v same there along c.in_default-run_record.ensures.put);
+          (said_along (λ x s u. LieInside x.controller ((course_by d x u).states s) c.args.turns) k a row (row_of m i) w v same there along c.in_default-run_record.ensures.inside);
+      got = put_more size n l m c.args.turns i (got c.args.out.now) (got c.loop-i.out) (got c.run_record.new.out) c.loop-i.invariant.got
+          (said_along (λ x s u. got c.run_record.new.out ≡ option_map (λ o. o ++ (course_by d x u).lines (i + 1) s c.args.turns) (got c.loop-i.out)) k a row (row_of m i) w v same there along c.in_default-run_record.ensures.put);
       first = λ e. absurd (omega (arith, e));
       faults = omega (arith, c.loop-i.invariant.faults, c.run_record.ensures.no_fewer);
     }
