@@ -1,7 +1,6 @@
 -- A loop by the plain machine is that of its successors.
-use Rattle.std.proofs.Common.{◌≡◌, ℕ, zero, suc, ◌+◌, ℤ, pos, ◌+ℤ◌, ◌++◌, List, map, refl, sym, ap, ◌∙◌}
-use Rattle.std.specs.List.{range_with_len}
-use Rattle.integer_algebra.specs.Sums.{at, none}
+use Rattle.std.proofs.Common.{◌≡◌, ℕ, zero, suc, ◌+◌, ℤ, ◌++◌, List, refl, ap, ◌∙◌}
+use Rattle.integer_algebra.specs.Sums.{none}
 use Rattle.qp_model.specs.problem.Design.{Design}
 use Rattle.qp_model.specs.machine.Controller.{Numbers}
 use Rattle.qp_model.specs.machine.Successor.{state_after}

@@ -1,5 +1,5 @@
 -- What the turns of a loop put and show.
-use Rattle.std.proofs.Common.{zero, suc, ◌^◌, length, map, get_or, pos, ◌+ℤ◌, ◌≡◌, ◌⊎◌, inl, inr, ℕ, ◌+◌, ◌-◌, ◌<◌, ◌≤◌, ℤ, List, [], ◌++◌, Bool, true, false, Option, Some, None, option_map, Result, Ok, ◌∷◌}
+use Rattle.std.proofs.Common.{◌^◌, length, map, get_or, pos, ◌+ℤ◌, ◌≡◌, ◌⊎◌, inl, inr, ℕ, ◌+◌, ◌-◌, ◌<◌, ◌≤◌, ℤ, List, [], ◌++◌, Bool, true, false, Option, Some, None, option_map, Result, Ok, ◌∷◌}
 use Rattle.std.proofs.Common.{Err, IfErr, IsErrAnd, IsOk, OnOk, IfSome, IsSomeAnd, arith, ap, sym, subst, refl, zero-le, ◌∙◌, add-one, append_assoc}
 use Rattle.std.specs.Prelude.{◌↔◌, is_some, not}
 use Rattle.std.specs.Option.{SomeIff}

@@ -1,15 +1,14 @@
 -- Controllers of either machine keep the first inputs of their averaged plans within the steps' weight times the magnitudes.
-use Rattle.std.proofs.Common.{◌≡◌, ◌∙◌, ℕ, zero, suc, ◌+◌, ◌*◌, ◌^◌, ◌<◌, ◌≤◌, ℤ, pos, List, length, get_or, unsigned_abs, arith, le_refl, le_trans}
+use Rattle.std.proofs.Common.{◌≡◌, ◌∙◌, ℕ, zero, suc, ◌+◌, ◌*◌, ◌^◌, ◌≤◌, ℤ, pos, List, length, get_or, arith, le_refl, le_trans}
 use Rattle.std.proofs.lemmas.Nat.{mul-le}
 use Rattle.std.proofs.lemmas.List.{length-replicate}
 use Rattle.std.proofs.lemmas.List.FromFn.{length-map-range_with_len}
-use Rattle.integer_algebra.specs.Sums.{at}
 use Rattle.qp_model.specs.machine.Controller.{Numbers, IsSized}
-use Rattle.qp_model.specs.machine.Machine.{IsAdmissible, loaded, averaged_plan}
+use Rattle.qp_model.specs.machine.Machine.{IsAdmissible, loaded}
 use Rattle.qp_model.specs.machine.AbsoluteSums.{IsController, plan_magnitudes, greatest_of}
 use Rattle.qp_model.proofs.MagnitudeLaws.{state_within, get_or-le-greatest}
 use Rattle.overflow_check.specs.declared.machine.Machine.TheVariants.{Plain, Accelerated}
-use Rattle.overflow_check.specs.FastMachine.{all_weights, fast_plan, fast_after}
+use Rattle.overflow_check.specs.FastMachine.{all_weights, fast_after}
 use Rattle.overflow_check.specs.FastController.{IsFastController, with_last_version}
 use Rattle.overflow_check.proofs.Machines.{shared, some_bound, by_weights}
 use Rattle.overflow_check.proofs.Runs.{after_sums_length, after_sums_le}

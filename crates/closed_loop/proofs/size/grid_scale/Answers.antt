@@ -1,7 +1,6 @@
-use Rattle.std.proofs.Common.{◌≡◌, ap, pos, sym, unsigned_abs, rules, FitsSigned}
+use Rattle.std.proofs.Common.{rules, FitsSigned}
 use Rattle.std.specs.Int.{w128}
 use Rattle.std.proofs.lemmas.Int.{to_z-of_z}
-use Rattle.qp_model.specs.machine.Controller.{Numbers}
 use Rattle.closed_loop.proofs.Reaches.{scale_small}
 use Rattle.closed_loop.proofs.size.grid_scale.Goals as goal
 

@@ -1,4 +1,4 @@
-use Rattle.std.proofs.Common.{◌≡◌, ◌<◌, ◌*◌, ◌^◌, ℕ, ℤ, arith, rules, refl, unsigned_abs, FitsSigned, add-one}
+use Rattle.std.proofs.Common.{◌<◌, arith, rules, refl, FitsSigned, add-one}
 use Rattle.std.specs.Int.{w128}
 use Rattle.std.proofs.lemmas.Int.{to_z-of_z}
 use Rattle.integer_algebra.specs.Sums.{at}

@@ -1,4 +1,4 @@
-use Rattle.std.proofs.Common.{◌≡◌, ◌^◌, ◌≤◌, pos, rules, refl, le_trans, FitsSigned}
+use Rattle.std.proofs.Common.{rules, refl, le_trans, FitsSigned}
 use Rattle.std.specs.Int.{w128}
 use Rattle.std.proofs.lemmas.Int.{to_z-of_z}
 use Rattle.integer_algebra.proofs.DivisionLaws.{round_of_is}
