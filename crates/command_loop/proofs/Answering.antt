@@ -1,5 +1,5 @@
 -- The script of `loop`, and what is answered and printed once its files are read.
-use Rattle.std.proofs.Common.{◌≡◌, ◌≢◌, inl, inr, ℕ, ◌≤◌, Bool, true, false, List, Option, Some, None, refl, ap, subst, arith}
+use Rattle.std.proofs.Common.{◌≡◌, ◌≢◌, inl, inr, ℕ, Bool, true, false, List, Option, Some, None, refl, ap, subst, arith}
 use Rattle.io_edge.specs.declared.sink.Sink.{Ghosts as Screen}
 use Rattle.mat_int.specs.Matrix.{Matrix}
 use Rattle.qp_model.specs.problem.Design.{Design}
@@ -17,7 +17,7 @@ use Rattle.command_line.proofs.Doing.{done_telling, sort_of, plain_refusal}
 use Rattle.command_line.proofs.Gathering.{IsTest, IsSound, whole}
 use Rattle.command_line.proofs.Following.{IsSoundWork}
 use Rattle.command_line.specs.declared.status.Status.{Status}
-use Rattle.command_line.specs.declared.status.Status.TheVariants.{Done, Memory, ReadFault, WriteFault}
+use Rattle.command_line.specs.declared.status.Status.TheVariants.{ReadFault, WriteFault}
 use Rattle.design_files.specs.declared.places.Asked.{Asked}
 use Rattle.command_design_files.specs.Reading.{AskedNumbers, asked_numbers}
 use Rattle.command_design_files.proofs.Designs.{same_design}

@@ -1,10 +1,8 @@
-use Rattle.std.proofs.Common.{◌≡◌, ◌∙◌, ap, refl, subst, sym}
+use Rattle.std.proofs.Common.{◌≡◌, ap, refl, subst}
 use Rattle.qp_model.specs.problem.Parts.{design_of}
-use Rattle.qp_model.specs.machine.Controller.{Numbers, numbers}
+use Rattle.qp_model.specs.machine.Controller.{numbers}
 use Rattle.qp_model.specs.machine.LoopSize.{turn_size}
 use Rattle.qp_model.specs.machine.Successor.{IsFor}
-use Rattle.controller_file.specs.AnyText.{any_numbers}
-use Rattle.controller_file.specs.declared.any_controller.AnyController.{AnyController}
 use Rattle.closed_loop.specs.Looping.{looping_of_plain, looping_of_fast}
 use Rattle.command_loop.specs.Loop.{Course}
 use Rattle.command_loop.specs.Printing.{LoopsDone, AreShiftsFor}
