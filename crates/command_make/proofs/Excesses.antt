@@ -67,6 +67,18 @@ ceil_mono a b k some h = let e = le-mul-ceil_div b k some in ceil_div-le a k (ce
 errors_mono : (e s r k a b : ℕ) → 1 ≤ r → a ≤ b → row_violation_bound e s r k a ≤ row_violation_bound e s r k b
 errors_mono e s r k a b some h = let m = ceil_mono a b r some h in omega (arith, m)
 
+-- R and the errors, by the whole numbers that they are
+pub are_small : (multiplier errors : ℤ) (r cost : ℕ) → multiplier ≡ pos r → 1 ≤ r → r ≤ 2 ^ 44 → errors ≡ pos cost → errors ≤ℤ pos (2 ^ 114) → AreSmall multiplier errors
+are_small multiplier errors r cost is some narrow stated high = record {
+  some = rw is (omega (arith, ints, some));
+  narrow = rw is (omega (arith, ints, narrow));
+  errors_low = rw stated (omega (arith, ints));
+  errors_high = high;
+}
+
+pub whole_le : (n m : ℕ) → n ≤ m → pos n ≤ℤ pos m
+whole_le n m h = omega (arith, ints, h)
+
 module _ (p : DesignParts) (plans : Plans) (c : Numbers) (b : Printed) (built : IsBuilt p plans c b) (errors : ℤ)
     (stated_as : errors ≡ pos (stated_cost (design_of p) (unsigned_abs b.multiplier) c.fraction_bits)) where
   bound : unsigned_abs b.multiplier ≡ printed_multiplier b
@@ -84,21 +96,9 @@ module _ (p : DesignParts) (plans : Plans) (c : Numbers) (b : Printed) (built : 
   made i = λ j. pos (row_violation_bound (exponent_of c i) c.step_exponent (bound j) c.steps (cost j))
 
   pub small : PassesAll (design_of p) (targets_of p) plans (margin_of b) c.step_exponent c.fraction_bits → AreSmall b.multiplier errors
-  small passes = record {
-    some = rw built.bounds.multiplier (least _ (bound_some (margin_of b)));
-    narrow = rw built.bounds.multiplier (most _ (bound_narrow (margin_of b) passes.before.before.multiplier));
-    errors_low = rw stated (whole _);
-    errors_high = at_most errors _ stated built.made.bits.within (limit_small p (printed_multiplier b) built.made.design);
-  }
-    where
-      least : (n : ℕ) → 1 ≤ n → pos 1 ≤ℤ pos n
-      least n h = omega (arith, ints, h)
-
-      most : (n : ℕ) → n ≤ 2 ^ 44 → pos n ≤ℤ pos (2 ^ 44)
-      most n h = omega (arith, ints, h)
-
-      whole : (n : ℕ) → pos 0 ≤ℤ pos n
-      whole n = omega (arith, ints)
+  small passes =
+      are_small b.multiplier errors (printed_multiplier b) _ built.bounds.multiplier (bound_some (margin_of b)) (bound_narrow (margin_of b) passes.before.before.multiplier) stated
+      (at_most errors _ stated built.made.bits.within (limit_small p (printed_multiplier b) built.made.design))
 
   module _ (xs : List ℤ) (holds : Holds xs c.rows (made_excess c b.multiplier errors)) where
     in_rows : (i : ℕ) → i < rows (design_of p) → i < c.rows
@@ -127,6 +127,3 @@ module _ (p : DesignParts) (plans : Plans) (c : Numbers) (b : Printed) (built : 
         let m = in_rows i l in
         rw (built.bounds.row_violations i m, holds.is i m, made i)
         (whole_le _ _ (errors_mono (exponent_of c i) c.step_exponent (printed_multiplier b) c.steps _ _ (bound_some (margin_of b)) real_within))
-      where
-        whole_le : (n m : ℕ) → n ≤ m → pos n ≤ℤ pos m
-        whole_le n m h = omega (arith, ints, h)

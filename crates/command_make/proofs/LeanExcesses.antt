@@ -1,6 +1,5 @@
 -- By how much a lean controller's plans exceed each row at most: one list of numbers, which a controller that is made has; what it prints is not above them.
-use Rattle.std.proofs.Common.{◌≡◌, Some, ℕ, ◌+◌, ◌*◌, ◌^◌, ◌<◌, ◌≤◌, min, List, ℤ, pos, ◌≤ℤ◌, unsigned_abs, arith, sym, ap, subst, ◌∙◌}
-use Rattle.std.proofs.lemmas.Int.{ints}
+use Rattle.std.proofs.Common.{◌≡◌, Some, ℕ, ◌+◌, ◌*◌, ◌^◌, ◌<◌, ◌≤◌, min, List, ℤ, pos, unsigned_abs, arith, sym, ap, subst, ◌∙◌}
 use Rattle.integer_algebra.specs.Sums.{at}
 use Rattle.integer_algebra.specs.Division.{ceil_div}
 use Rattle.qp_model.specs.problem.Design.{rows}
@@ -27,7 +26,7 @@ use Rattle.lean_engine.specs.Lean.{bound_of, lean_aim, IsLeanBuilt}
 use Rattle.lean_engine.specs.Refusals.{policy_excess, aim_at, PassesLean}
 use Rattle.lean_engine.proofs.LeanFacts.{bound_some, bound_narrow, limit_small}
 use Rattle.command_make.specs.Checking.{AreSmall}
-use Rattle.command_make.proofs.Excesses.{one_list, ceil_mono}
+use Rattle.command_make.proofs.Excesses.{one_list, ceil_mono, are_small, whole_le}
 use Rattle.command_make.specs.Excess.{lean_bound_at, stated_lean_excess, AreStatedExcesses, made_lean_excess}
 
 -- ---- one list
@@ -89,23 +88,12 @@ module _ (p : DesignParts) (plans references : Plans) (c : Numbers) (b : Printed
 
   module _ (m : Margin) (own : m.units ≡ b.margin) (passes : PassesLean (design_of p) (targets_of p) plans references m c.step_exponent c.fraction_bits) where
     pub small : AreSmall b.multiplier errors
-    small = record {
-      some = rw built.bounds.multiplier (least _ (bound_some (targets_of p) units (unsigned_abs b.cost)));
-      narrow = rw built.bounds.multiplier (most _ (subst (λ (x : ℕ). bound_of (targets_of p) units x ≤ 2 ^ 44) (sym excess_is)
-          (subst (λ (z : ℤ). bound_of (targets_of p) (unsigned_abs z) (policy_excess (design_of p) plans references) ≤ 2 ^ 44) own
-          (bound_narrow (targets_of p) (unsigned_abs m.units) (policy_excess (design_of p) plans references) passes.before.multiplier))));
-      errors_low = rw stated (whole _);
-      errors_high = at_most errors _ stated_is built.made.bits.within (limit_small p units (unsigned_abs b.cost) built.made.design);
-    }
-      where
-        least : (n : ℕ) → 1 ≤ n → pos 1 ≤ℤ pos n
-        least n h = omega (arith, ints, h)
-
-        most : (n : ℕ) → n ≤ 2 ^ 44 → pos n ≤ℤ pos (2 ^ 44)
-        most n h = omega (arith, ints, h)
-
-        whole : (n : ℕ) → pos 0 ≤ℤ pos n
-        whole n = omega (arith, ints)
+    small =
+        are_small b.multiplier errors r _ built.bounds.multiplier (bound_some (targets_of p) units (unsigned_abs b.cost))
+        (subst (λ (x : ℕ). bound_of (targets_of p) units x ≤ 2 ^ 44) (sym excess_is)
+        (subst (λ (z : ℤ). bound_of (targets_of p) (unsigned_abs z) (policy_excess (design_of p) plans references) ≤ 2 ^ 44) own
+        (bound_narrow (targets_of p) (unsigned_abs m.units) (policy_excess (design_of p) plans references) passes.before.multiplier)))
+        stated_is (at_most errors _ stated_is built.made.bits.within (limit_small p units (unsigned_abs b.cost) built.made.design))
 
   module _ (xs : List ℤ) (holds : Holds xs c.rows (made_lean_excess c b.multiplier errors target)) where
     in_rows : (i : ℕ) → i < rows (design_of p) → i < c.rows
@@ -143,6 +131,3 @@ module _ (p : DesignParts) (plans references : Plans) (c : Numbers) (b : Printed
         let n = in_rows i l in
         rw (built.bounds.row_violations i n, holds.is i n, made i)
         (whole_le _ _ (errors_mono (exponent_of c i) r c.steps target _ _ (bound_some (targets_of p) units (unsigned_abs b.cost)) real_within))
-      where
-        whole_le : (n m : ℕ) → n ≤ m → pos n ≤ℤ pos m
-        whole_le n m h = omega (arith, ints, h)
