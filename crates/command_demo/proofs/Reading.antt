@@ -1,6 +1,6 @@
 -- The made texts are read as what they are made of.
 use Rattle.std.proofs.Common.{◌≡◌, ◌⊎◌, inl, inr, ℕ, List, length, Result, Ok, Err, refl, sym, ◌∙◌, subst, arith}
-use Rattle.std.specs.Prelude.{IfOk, IfErr, IsOkAnd, MatchResult}
+use Rattle.std.specs.Prelude.{IfErr, IsOkAnd, MatchResult}
 use Rattle.mat_int.specs.Matrix.{Matrix}
 use Rattle.qp_model.specs.problem.Design.{Design}
 use Rattle.qp_model.specs.problem.Policy.{Plans}
@@ -32,10 +32,6 @@ memory_only P (Err e) is = is
 pub only_design : (text : List ℕ) (d : DesignParts) → ((p : DesignParts) → IsDesignText text p → (◌≡◌ {A = Result DesignParts TextFault} (Ok d) (Err Memory)) ⊎ (design_numbers d ≡ design_numbers p)) →
     (p : DesignParts) → IsDesignText text p → design_numbers p ≡ design_numbers d
 only_design text d every p right = elim (every p right) [ inl memory ↦ absurd (let never : ⊥ = cc in never) | inr is ↦ sym is ]
-
-pub two_ok : {T E : Type 0} (r : Result T E) {P Q R : T → Type 0} → IfOk r P → IfOk r Q → ((x : T) → P x → Q x → R x) → IfOk r R
-two_ok (Ok x) p q f = f x p q
-two_ok (Err e) p q f = tt
 
 -- a design that was read of the first text
 pub texts_of : (number : ℕ) (first second third : List ℕ) → AreMade number demo_stages first second third → MadeLaw → (q : DesignParts) →

@@ -1,18 +1,21 @@
 -- What a generator answers is what it is called for.
-use Rattle.std.proofs.Common.{◌≡◌, ◌≢◌, ◌⊎◌, inl, inr, ℕ, Result, Ok, Err, refl, sym, ap, ◌∙◌, subst}
+use Rattle.std.proofs.Common.{◌≡◌, ◌≢◌, ◌⊎◌, inl, inr, ℕ, Result, Ok, Err, refl, sym, ap, ◌∙◌, subst, List, IfOk, IfErr}
 use Rattle.std.specs.Prelude.{IsOk}
 use Rattle.qp_model.specs.declared.bounds.Margin.{Margin}
 use Rattle.qp_model.specs.declared.refusal.Refusal.{Refusal}
 use Rattle.qp_model.specs.declared.refusal.Refusal.TheVariants as refusals
+use Rattle.qp_model.specs.machine.Controller.{Numbers}
+use Rattle.qp_model.specs.bounds.Printed.{Printed}
 use Rattle.command_line.specs.Status.{status_of}
 use Rattle.command_line.specs.Answers.{IsAnswer}
 use Rattle.command_line.specs.Does.{IsTelling}
 use Rattle.command_line.specs.TwoTexts.{IsUnmade}
 use Rattle.command_line.proofs.Doing.{IsRefusal, done_telling, sort_of, plain_refusal}
 use Rattle.command_line.proofs.TwoTexts.{unmade_memory, unmade}
-use Rattle.command_generate.specs.Made.{IsCausedRefusal, PassesWith, CallsFor}
+use Rattle.command_generate.specs.Made.{IsCausedRefusal, PassesWith, CallsFor, Makes, IsReport, MakesTexts}
 use Rattle.command_line.specs.declared.status.Status.{Status}
-use Rattle.command_line.specs.declared.status.Status.TheVariants.{Done}
+use Rattle.command_line.specs.declared.status.Status.TheVariants.{Done, Memory}
+use Rattle.command_line.specs.declared.two_texts.Texts.{Texts}
 
 -- ---- a refusal's status
 pub refusal_of : (r : Refusal) (s : Status) → s ≡ status_of r → r ≢ refusals.Memory → IsRefusal s
@@ -65,3 +68,18 @@ module _ (Cause : Refusal → Type 0) (All : Margin → (s f : ℕ) → Type 0) 
         only : (t : Status) → CallsFor Cause All t → t ≡ s
         only t (inl why) = told_same t why.refusal why.is (tells why.refusal why.cause)
         only t (inr done) = absurd (passes_not a refl (accepts done.1.margin done.1.exponent done.1.bits done.1.all))
+
+-- ---- what is made of what was made
+-- nothing, where nothing was
+pub none_made : {T : Type 0} {Calls : Status → Type 0} {Right : T → Type 0} {s : Status} → IsUnmade Calls s → Makes Calls Right (Err s)
+none_made none = record { made = tt; called = tt; unmade = none }
+
+-- only memory may be short, where all was
+pub makes_of : {T : Type 0} {Calls : Status → Type 0} {P Right : T → Type 0} (r : Result T Status) → IsAnswer Calls Done → ((t : T) → P t → Right t) → IfOk r P → IfErr r (λ e. e ≡ Memory) → Makes Calls Right r
+makes_of (Ok t) answer right p memory = record { made = right t p; called = answer; unmade = tt }
+makes_of {T} {Calls} (Err e) answer right p memory = none_made (unmade_memory Calls e memory)
+
+-- both texts
+pub texts_of_made : {IsText : List ℕ → Numbers → Type 0} {Calls : Status → Type 0} {Made : Numbers → Printed → Type 0} {report_name : List ℕ} (c : Numbers) (b : Printed) (r : Result Texts Status) → IsAnswer Calls Done →
+    Made c b → IfOk r (λ t. IsText t.first.items c × IsReport report_name b t.second.items) → IfErr r (λ e. e ≡ Memory) → MakesTexts IsText Calls Made report_name r
+texts_of_made c b r answer made texts memory = makes_of r answer (λ t are. record { controller = c; bounds = b; made = made; is_text = are.0; is_report = are.1 }) texts memory

@@ -1,5 +1,5 @@
 -- What a design with a policy calls for, and what is made of them.
-use Rattle.std.specs.Prelude.{◌≡◌, ◌⊎◌, ℕ, List}
+use Rattle.std.specs.Prelude.{◌≡◌, ◌⊎◌, ℕ, List, Result, IfOk, IfErr}
 use Rattle.qp_model.specs.problem.Policy.{Plans}
 use Rattle.qp_model.specs.problem.Parts.{design_of}
 use Rattle.qp_model.specs.machine.Controller.{Numbers}
@@ -17,6 +17,9 @@ use Rattle.command_line.specs.Status.{status_of}
 use Rattle.command_line.specs.Words.{IsJson}
 use Rattle.command_line.specs.declared.status.Status.{Status}
 use Rattle.command_line.specs.declared.status.Status.TheVariants.{Done}
+use Rattle.command_line.specs.Answers.{IsAnswer}
+use Rattle.command_line.specs.TwoTexts.{IsUnmade}
+use Rattle.command_line.specs.declared.two_texts.Texts.{Texts}
 
 -- ---- the answer of a generator, by the causes of its refusals and by what passes all its tests
 -- refused, by the first test that fails
@@ -39,6 +42,12 @@ CallsFor Cause All s = IsCausedRefusal Cause s ⊎ ((s ≡ Done) × PassesWith A
 -- what a design with a policy calls for
 abbrev pub MakingCalls : DesignParts → Plans → Status → Type 0
 MakingCalls p plans s = CallsFor (HasCause (design_of p) (targets_of p) plans) (PassesAll (design_of p) (targets_of p) plans) s
+
+-- what was made is such, and `Done` is called for and nothing else; or the status tells why nothing was
+pub record Makes {T : Type 0} (Calls : Status → Type 0) (Right : T → Type 0) (r : Result T Status) : Type 0 where
+  pub made : IfOk r Right
+  pub called : IfOk r (λ t. IsAnswer Calls Done)
+  pub unmade : IfErr r (IsUnmade Calls)
 
 -- ---- what is made
 -- the controller and its bounds are built of the design and the policy, and certified, and the bounds are within the targets
@@ -63,3 +72,7 @@ pub record AreTextsBy (IsText : List ℕ → Numbers → Type 0) (Made : Numbers
 -- of version 1 or 2
 abbrev pub AreTextsOf : (Made : Numbers → Printed → Type 0) (report_name text report : List ℕ) → Type 0
 AreTextsOf = AreTextsBy IsControllerText
+
+-- both texts of what is made so, where that is called for; or the status that tells why there are none
+abbrev pub MakesTexts : (IsText : List ℕ → Numbers → Type 0) → (Calls : Status → Type 0) → (Made : Numbers → Printed → Type 0) → (report_name : List ℕ) → Result Texts Status → Type 0
+MakesTexts IsText Calls Made report_name r = Makes Calls (λ t. AreTextsBy IsText Made report_name t.first.items t.second.items) r

@@ -4,9 +4,7 @@ ghost use Rattle.qp_model.specs.problem.Parts.{design_of};
 ghost use Rattle.qp_model.specs.problem.Policy.{plans_of, IsPolicyFor};
 ghost use Rattle.qp_model.specs.bounds.Printed.{printed};
 ghost use Rattle.qp_model.specs.text.ControllerText.{IsControllerText};
-ghost use Rattle.command_line.specs.Answers.{IsAnswer};
-ghost use Rattle.command_line.specs.TwoTexts.{IsUnmade};
-ghost use Rattle.command_generate.specs.Made.{MakingCalls, IsMadeOf, IsReport, AreTextsOf};
+ghost use Rattle.command_generate.specs.Made.{MakingCalls, IsMadeOf, IsReport, MakesTexts};
 
 use crate::made::make_controller;
 use bound_report::{report_json, report_text};
@@ -46,9 +44,7 @@ pub fn texts_of(
     report_name: &str,
 ) -> Result<Texts, Status>
     requires { IsPolicyFor (design_of design.now) (plans_of policy.now) }
-    ensures texts { IfOk result (λ t. AreTextsOf (IsMadeOf design.now (plans_of policy.now)) report_name.now t.first.items t.second.items) }
-    ensures called { IfOk result (λ _. IsAnswer (MakingCalls design.now (plans_of policy.now)) Status.Done) }
-    ensures unmade { IfErr result (IsUnmade (MakingCalls design.now (plans_of policy.now))) }
+    ensures { MakesTexts IsControllerText (MakingCalls design.now (plans_of policy.now)) (IsMadeOf design.now (plans_of policy.now)) report_name.now result }
 {
     let made = make_controller(alloc, design, policy)?;
     texts_made(alloc, &made, report_name)

@@ -1,14 +1,15 @@
 -- What a controller is made of, as it was read.
-use Rattle.std.specs.Prelude.{Option, option_map, IfSome}
+use Rattle.std.specs.Prelude.{Option, option_map, IfSome, ℕ, List, Result}
 use Rattle.qp_model.specs.problem.Policy.{plans_of, IsPolicyFor}
 use Rattle.qp_model.specs.problem.Parts.{design_of}
-use Rattle.qp_model.specs.machine.Controller.{Numbers}
-use Rattle.qp_model.specs.bounds.Printed.{Printed}
+use Rattle.qp_model.specs.text.ControllerText.{IsControllerText}
 use Rattle.stay_check.specs.FaceForms.{faces_of, AreFacesFor}
 use Rattle.state_files.specs.RangeText.{IsShiftRange}
 use Rattle.command_line.specs.Script.{Act}
 use Rattle.command_line.specs.declared.status.Status.{Status}
+use Rattle.command_line.specs.declared.two_texts.Texts.{Texts}
 use Rattle.command_generate.specs.Engine.Targets.{targets_of}
+use Rattle.command_generate.specs.Made.{MakesTexts}
 use Rattle.command_make.specs.Made.{reference_of}
 use Rattle.command_make.specs.Make.{Under, under_of, CallsUnder, IsMadeUnder, make_act}
 use Rattle.command_make.specs.declared.command.Asked.{Asked}
@@ -24,12 +25,11 @@ pub record AreInputs (i : Inputs) : Type 0 where
 abbrev pub under_in : Inputs → Option Under
 under_in i = under_of i.design.states (option_map faces_of i.faces) i.range
 
--- what they call for, and what is made of them
-abbrev pub calls_of_inputs : Inputs → Option Under → (Status → Type 0)
-calls_of_inputs i = CallsUnder (design_of i.design) (targets_of i.design) (plans_of i.policy) (reference_of i.reference)
-
-abbrev pub made_of_inputs : Inputs → Option Under → Numbers → Printed → Type 0
-made_of_inputs i = IsMadeUnder i.design (plans_of i.policy) (reference_of i.reference)
+-- both texts of what they call for, with faces or without; or the status that tells why there are none
+abbrev pub MakesTextsOf : Inputs → (under : Option Under) → (report_name : List ℕ) → Result Texts Status → Type 0
+MakesTextsOf i under =
+    MakesTexts IsControllerText (CallsUnder (design_of i.design) (targets_of i.design) (plans_of i.policy) (reference_of i.reference) under)
+    (IsMadeUnder i.design (plans_of i.policy) (reference_of i.reference) under)
 
 -- what is done with them
 abbrev pub act_of : Asked → Inputs → Act

@@ -5,9 +5,7 @@ ghost use Rattle.qp_model.specs.problem.Policy.{plans_of, IsPolicyFor};
 ghost use Rattle.qp_model.specs.bounds.Printed.{printed};
 ghost use Rattle.controller_text.specs.TextForm.{IsFastControllerText};
 ghost use Rattle.command_generate.specs.Engine.Targets.{targets_of};
-ghost use Rattle.command_line.specs.Answers.{IsAnswer};
-ghost use Rattle.command_line.specs.TwoTexts.{IsUnmade};
-ghost use Rattle.command_generate.specs.Made.{IsReport, AreTextsBy};
+ghost use Rattle.command_generate.specs.Made.{IsReport, MakesTexts, Makes};
 ghost use Rattle.command_make.specs.Fast.{FastCalls, IsFastMadeOf};
 
 use command_generate::report_for;
@@ -26,9 +24,8 @@ fn made_fast(
 ) -> Result<FastMade, Status>
     requires plans { IsPolicyFor (design_of design.now) (plans_of policy.now) }
     requires references { IsPolicyFor (design_of design.now) (plans_of reference.now) }
-    ensures made { IfOk result (λ m. IsFastMadeOf design.now (plans_of policy.now) (plans_of reference.now) m.controller (printed m.bounds)) }
-    ensures called { IfOk result (λ _. IsAnswer (FastCalls (design_of design.now) (targets_of design.now) (plans_of policy.now) (plans_of reference.now)) Status.Done) }
-    ensures unmade { IfErr result (IsUnmade (FastCalls (design_of design.now) (targets_of design.now) (plans_of policy.now) (plans_of reference.now))) }
+    ensures { Makes (FastCalls (design_of design.now) (targets_of design.now) (plans_of policy.now) (plans_of reference.now))
+        (λ m. IsFastMadeOf design.now (plans_of policy.now) (plans_of reference.now) m.controller (printed m.bounds)) result }
 {
     match generate_fast(alloc, design, policy, reference) {
         Ok(made) => Ok(made),
@@ -57,10 +54,8 @@ pub fn fast_texts(
 ) -> Result<Texts, Status>
     requires plans { IsPolicyFor (design_of design.now) (plans_of policy.now) }
     requires references { IsPolicyFor (design_of design.now) (plans_of reference.now) }
-    ensures texts { IfOk result (λ t. AreTextsBy IsFastControllerText (IsFastMadeOf design.now (plans_of policy.now) (plans_of reference.now))
-        report_name.now t.first.items t.second.items) }
-    ensures called { IfOk result (λ _. IsAnswer (FastCalls (design_of design.now) (targets_of design.now) (plans_of policy.now) (plans_of reference.now)) Status.Done) }
-    ensures unmade { IfErr result (IsUnmade (FastCalls (design_of design.now) (targets_of design.now) (plans_of policy.now) (plans_of reference.now))) }
+    ensures { MakesTexts IsFastControllerText (FastCalls (design_of design.now) (targets_of design.now) (plans_of policy.now) (plans_of reference.now))
+        (IsFastMadeOf design.now (plans_of policy.now) (plans_of reference.now)) report_name.now result }
 {
     let made = made_fast(alloc, design, policy, reference)?;
     texts_of_fast(alloc, &made, report_name)

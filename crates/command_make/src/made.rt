@@ -1,13 +1,12 @@
 // A controller and its bounds, lean where there are reference plans.
-ghost use Rattle.std.specs.Prelude.{◌≡◌, pos, unsigned_abs, Some, IfOk, IfErr, IfSome};
+ghost use Rattle.std.specs.Prelude.{◌≡◌, pos, unsigned_abs, Some, IfOk, IfSome};
 ghost use Rattle.qp_model.specs.problem.Parts.{design_of};
 ghost use Rattle.qp_model.specs.problem.Policy.{plans_of, IsPolicyFor};
 ghost use Rattle.qp_model.specs.bounds.Printed.{printed};
 ghost use Rattle.command_generate.specs.Engine.Bounds.{stated_cost};
 ghost use Rattle.command_generate.specs.Engine.Targets.{targets_of};
-ghost use Rattle.command_line.specs.Answers.{IsAnswer};
-ghost use Rattle.command_line.specs.TwoTexts.{IsUnmade};
 ghost use Rattle.command_make.specs.Made.{MakingCallsWith, IsLeanMadeOf, IsMadeByPlans, reference_of};
+ghost use Rattle.command_generate.specs.Made.{Makes};
 
 use command_generate::{Made, make_controller};
 use command_line::Status;
@@ -24,13 +23,10 @@ fn make_lean(
 ) -> Result<Made, Status>
     requires plans { IsPolicyFor (design_of design.now) (plans_of policy.now) }
     requires references { IsPolicyFor (design_of design.now) (plans_of reference.now) }
-    ensures made { IfOk result (λ m. IsLeanMadeOf design.now (plans_of policy.now) (plans_of reference.now) m.controller (printed m.bounds)) }
+    ensures made { Makes (MakingCallsWith (design_of design.now) (targets_of design.now) (plans_of policy.now) (reference_of (Some reference.now)))
+        (λ m. IsLeanMadeOf design.now (plans_of policy.now) (plans_of reference.now) m.controller (printed m.bounds)) result }
     ensures errors { IfOk result (λ m.
         m.eps ≡ pos (stated_cost (design_of design.now) (unsigned_abs m.bounds.multiplier) m.controller.fraction_bits)) }
-    ensures called { IfOk result (λ _. IsAnswer
-        (MakingCallsWith (design_of design.now) (targets_of design.now) (plans_of policy.now) (reference_of (Some reference.now))) Status.Done) }
-    ensures unmade { IfErr result (IsUnmade
-        (MakingCallsWith (design_of design.now) (targets_of design.now) (plans_of policy.now) (reference_of (Some reference.now)))) }
 {
     match generate_lean(alloc, design, policy, reference) {
         Ok(made) => Ok(made),
@@ -47,13 +43,10 @@ pub fn make(
 ) -> Result<Made, Status>
     requires plans { IsPolicyFor (design_of design.now) (plans_of policy.now) }
     requires references { IfSome reference.now (λ r. IsPolicyFor (design_of design.now) (plans_of r)) }
-    ensures made { IfOk result (λ m. IsMadeByPlans design.now (plans_of policy.now) (reference_of reference.now) m.controller (printed m.bounds)) }
+    ensures made { Makes (MakingCallsWith (design_of design.now) (targets_of design.now) (plans_of policy.now) (reference_of reference.now))
+        (λ m. IsMadeByPlans design.now (plans_of policy.now) (reference_of reference.now) m.controller (printed m.bounds)) result }
     ensures errors { IfOk result (λ m.
         m.eps ≡ pos (stated_cost (design_of design.now) (unsigned_abs m.bounds.multiplier) m.controller.fraction_bits)) }
-    ensures called { IfOk result (λ _. IsAnswer
-        (MakingCallsWith (design_of design.now) (targets_of design.now) (plans_of policy.now) (reference_of reference.now)) Status.Done) }
-    ensures unmade { IfErr result (IsUnmade
-        (MakingCallsWith (design_of design.now) (targets_of design.now) (plans_of policy.now) (reference_of reference.now))) }
 {
     match reference {
         Some(reference) => make_lean(alloc, design, policy, reference),

@@ -7,11 +7,9 @@ ghost use Rattle.qp_model.specs.bounds.Printed.{printed};
 ghost use Rattle.qp_model.specs.text.ControllerText.{IsControllerText};
 ghost use Rattle.stay_check.specs.FaceForms.{faces_of, AreFacesFor};
 ghost use Rattle.state_files.specs.RangeText.{IsShiftRange};
-ghost use Rattle.command_line.specs.Answers.{IsAnswer};
-ghost use Rattle.command_line.specs.TwoTexts.{IsUnmade};
-ghost use Rattle.command_generate.specs.Made.{IsReport, AreTextsOf};
+ghost use Rattle.command_generate.specs.Made.{IsReport};
 ghost use Rattle.command_make.specs.Checking.{IsKeptWith, IsCaughtWith};
-ghost use Rattle.command_make.specs.Inputs.{AreInputs, under_in, calls_of_inputs, made_of_inputs};
+ghost use Rattle.command_make.specs.Inputs.{AreInputs, under_in, MakesTextsOf};
 
 use crate::check::check_under;
 use crate::excess::row_excess;
@@ -27,9 +25,7 @@ use std::alloc::Global;
 /// Both texts of what was read, or the status that tells why there are none.
 pub fn texts_of(alloc: Global, inputs: &Inputs, report_name: &str) -> Result<Texts, Status>
     requires { AreInputs inputs.now }
-    ensures texts { IfOk result (λ t. AreTextsOf (made_of_inputs inputs.now (under_in inputs.now)) report_name.now t.first.items t.second.items) }
-    ensures called { IfOk result (λ _. IsAnswer (calls_of_inputs inputs.now (under_in inputs.now)) Status.Done) }
-    ensures unmade { IfErr result (IsUnmade (calls_of_inputs inputs.now (under_in inputs.now))) }
+    ensures { MakesTextsOf inputs.now (under_in inputs.now) report_name.now result }
 {
     match &inputs.faces {
         None => plain_texts(alloc, inputs, report_name),
@@ -46,9 +42,7 @@ pub fn texts_of(alloc: Global, inputs: &Inputs, report_name: &str) -> Result<Tex
 // The texts where there are no faces.
 fn plain_texts(alloc: Global, inputs: &Inputs, report_name: &str) -> Result<Texts, Status>
     requires { AreInputs inputs.now }
-    ensures texts { IfOk result (λ t. AreTextsOf (made_of_inputs inputs.now None) report_name.now t.first.items t.second.items) }
-    ensures called { IfOk result (λ _. IsAnswer (calls_of_inputs inputs.now None) Status.Done) }
-    ensures unmade { IfErr result (IsUnmade (calls_of_inputs inputs.now None)) }
+    ensures { MakesTextsOf inputs.now None report_name.now result }
 {
     let made = make(alloc, &inputs.design, &inputs.policy, &inputs.reference)?;
     texts_made(alloc, &made, report_name)
@@ -65,10 +59,7 @@ fn faced_texts(
     requires inputs { AreInputs inputs.now }
     requires faces { AreFacesFor (design_of inputs.now.design) (faces_of faces.now) }
     requires range { IsShiftRange inputs.now.design.states range.now }
-    ensures texts { IfOk result (λ t. AreTextsOf (made_of_inputs inputs.now (Some (record { faces = faces_of faces.now; range = range.now })))
-        report_name.now t.first.items t.second.items) }
-    ensures called { IfOk result (λ _. IsAnswer (calls_of_inputs inputs.now (Some (record { faces = faces_of faces.now; range = range.now }))) Status.Done) }
-    ensures unmade { IfErr result (IsUnmade (calls_of_inputs inputs.now (Some (record { faces = faces_of faces.now; range = range.now })))) }
+    ensures { MakesTextsOf inputs.now (Some (record { faces = faces_of faces.now; range = range.now })) report_name.now result }
 {
     let made = make(alloc, &inputs.design, &inputs.policy, &inputs.reference)?;
     let excess = row_excess(alloc, &inputs.design, &inputs.reference, &made)?;

@@ -15,10 +15,10 @@ use Rattle.command_demo.proofs.command.demo_of.Goals as goal
 pub print_text-requires-clause-inside : goal.print_text-requires-clause-inside
 print_text-requires-clause-inside g c =
     let inputs = c.args.inputs.now in
-    inside (design_of inputs.design) c.in-Ok.made.controller states_text inputs.states c.in-Ok.ensures.made.built.made.made.sizes c.requires.states c.requires.inside
+    inside (design_of inputs.design) c.in-Ok.made.controller states_text inputs.states c.in-Ok.ensures.made.made.built.made.made.sizes c.requires.states c.requires.inside
 
 pub print_text-requires-clause-width : goal.print_text-requires-clause-width
-print_text-requires-clause-width g c = c.requires.states.cols ∙ sym c.in-Ok.ensures.made.built.made.made.sizes.states
+print_text-requires-clause-width g c = c.requires.states.cols ∙ sym c.in-Ok.ensures.made.made.built.made.made.sizes.states
 
 pub print_text-requires-clause-count : goal.print_text-requires-clause-count
 print_text-requires-clause-count g c = omega (arith, c.requires.four)
@@ -35,15 +35,15 @@ returns-in-Ok g c =
     let s = c.print_text.result in
     let only = c.print_text.ensures.only in
     record {
-      called = λ number made caused. subst (λ (t : Status). IsAnswer (DemoCalls number) t) (sym (printed_done s only caused)) (answer_is number inputs.design plans Done made.made made.one c.in-Ok.ensures.called);
+      called = λ number made caused. subst (λ (t : Status). IsAnswer (DemoCalls number) t) (sym (printed_done s only caused)) (answer_is number inputs.design plans Done made.made made.one c.in-Ok.ensures.made.called);
       prints = λ number made.
           prints_told controller bounds inputs.states number s (g.O.Sink.got c.args.out.now) (g.O.Sink.got c.print_text.new.out)
-          (shown number inputs.design plans controller bounds inputs.states made.made c.in-Ok.ensures.made c.requires.states c.requires.inside) only c.print_text.ensures.printed;
+          (shown number inputs.design plans controller bounds inputs.states made.made c.in-Ok.ensures.made.made c.requires.states c.requires.inside) only c.print_text.ensures.printed;
       quiet = λ done memory fault. printed_one _ s only done memory fault;
       no_read = λ file is. printed_no_read s only file is;
       write_fault = λ number made file is.
           let rose = printed_fault _ s only c.print_text.ensures.failed file is in
-          let answer = answer_is number inputs.design plans Done made.made made.one c.in-Ok.ensures.called in
+          let answer = answer_is number inputs.design plans Done made.made made.one c.in-Ok.ensures.made.called in
           (rose.0, answer.called, rose.1);
       no_fewer = c.print_text.ensures.no_fewer;
     }
@@ -53,7 +53,7 @@ returns-in-Err g c =
     let inputs = c.args.inputs.now in
     let plans = plans_of inputs.policy in
     let s = c.in-Err.status in
-    let none = c.in-Err.ensures.unmade in
+    let none = c.in-Err.ensures.made.unmade in
     record {
       called = λ number made caused. refused_is number inputs.design plans s made.made made.one none caused;
       prints = λ number made. quiet_told number s (g.O.Sink.got c.args.out.now) none.done (none.write 0);

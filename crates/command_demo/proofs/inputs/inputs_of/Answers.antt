@@ -4,8 +4,9 @@ use Rattle.qp_model.specs.problem.Policy.{plans_of}
 use Rattle.qp_model.specs.declared.design_parts.DesignParts.{DesignParts}
 use Rattle.design_files.specs.DesignText.{IsDesignText}
 use Rattle.design_maker.specs.Texts.{design_text}
+use Rattle.command_line.proofs.TwoTexts.{both_ok}
 use Rattle.command_demo.specs.Demo.{demo_stages}
-use Rattle.command_demo.proofs.Reading.{memory_alone, only_design, texts_of, one_of, two_ok}
+use Rattle.command_demo.proofs.Reading.{memory_alone, only_design, texts_of, one_of}
 use Rattle.command_demo.proofs.inputs.inputs_of.Goals as goal
 
 pub right-requires : goal.right-requires
@@ -23,7 +24,7 @@ returns c =
     let one = only_design _ c.in_ok-design.design told.every_text in
     let read = rw (c.in_ok-texts.ensures.policy, c.in_ok-texts.ensures.states) at c.inputs_with.ensures.read in
     record {
-      made = two_ok c.inputs_with.result c.inputs_with.ensures.design read
+      made = both_ok c.inputs_with.result c.inputs_with.ensures.design read
           (λ i same are. record {
             made = record { design = subst (λ (p : DesignParts). IsDesignText (design_text c.args.number demo_stages) p) (sym same) told.text; policy = are.policy };
             one = one_of c.args.number i.design (plans_of i.policy)

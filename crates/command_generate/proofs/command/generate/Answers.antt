@@ -37,7 +37,7 @@ returns-in-Ok-read_policy_file g c =
     follows generate_work generate_sound
     (went_on first.passes first.right
     (went_on is.passes is.right
-    (acted (two_done (λ file one. one) c.texts_of-made.result (λ t. t.first.items) (λ t. t.second.items) made.texts made.called made.unmade c.write_texts.ensures.written c.write_texts.ensures.unmade)))) in
+    (acted (two_done (λ file one. one) c.texts_of-made.result (λ t. t.first.items) (λ t. t.second.items) made.made made.called made.unmade c.write_texts.ensures.written c.write_texts.ensures.unmade)))) in
     record { generated = λ done. generated words _ _ _ done does.leaves; does = does }
 
 pub write_texts-requires : goal.write_texts-requires

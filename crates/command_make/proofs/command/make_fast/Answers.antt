@@ -10,4 +10,4 @@ returns-in-Ok g c =
     let made = rw c.at-name.ensures at c.fast_texts-made.ensures in
     let wrote = c.write_texts.ensures in
     c.in-Ok.ensures.along.went _ _
-    (acted (two_done (λ file one. one) c.fast_texts-made.result (λ t. t.first.items) (λ t. t.second.items) made.texts made.called made.unmade wrote.written wrote.unmade))
+    (acted (two_done (λ file one. one) c.fast_texts-made.result (λ t. t.first.items) (λ t. t.second.items) made.made made.called made.unmade wrote.written wrote.unmade))

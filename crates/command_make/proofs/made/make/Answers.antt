@@ -15,7 +15,5 @@ returns-in-None c =
     let did = c.make_controller.ensures in
     rw c.in-None.is (record {
       made = did.made;
-      errors = both_ok c.make_controller.result did.made did.errors (λ m made is. by_printed c.args.design.now (plans_of c.args.policy.now) m.controller (printed m.bounds) m.eps made.built is);
-      called = did.called;
-      unmade = did.unmade;
+      errors = both_ok c.make_controller.result did.made.made did.errors (λ m made is. by_printed c.args.design.now (plans_of c.args.policy.now) m.controller (printed m.bounds) m.eps made.built is);
     })
