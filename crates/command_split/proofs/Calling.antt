@@ -1,6 +1,7 @@
 -- What the cells of a design with their policies call for.
 use Rattle.std.proofs.Common.{◌≡◌, ◌≢◌, ◌⊎◌, inl, inr, ℕ, ℤ, List, Option, Some, None, refl, sym, ap, ◌∙◌}
 use Rattle.std.specs.Prelude.{IfSome, IsSomeAnd}
+use Rattle.std.proofs.lemmas.Option.{IfSome_then}
 use Rattle.qp_model.specs.problem.Policy.{Plans}
 use Rattle.qp_model.specs.problem.Parts.{design_numbers, design_of}
 use Rattle.qp_model.specs.machine.Controller.{Numbers}
@@ -12,7 +13,7 @@ use Rattle.qp_model.specs.declared.refusal.Refusal.{Refusal}
 use Rattle.qp_model.specs.declared.refusal.Refusal.TheVariants as refusals
 use Rattle.cell_split.specs.Cells.{IsCell}
 use Rattle.cell_maker.specs.declared.make.CellRefusal.{CellRefusal}
-use Rattle.cell_maker.specs.Made.{cell_plans, IsCellRefused, IsCellAccepted, IsCellMade, PassesCell, AreCellsMade, IsFirstRefused, IsOnlyRefused}
+use Rattle.cell_maker.specs.Made.{cell_plans, IsCellRefused, IsCellMade, PassesCell, AreCellsMade, IsFirstRefused, IsOnlyRefused}
 use Rattle.cell_maker.proofs.CellDesigns.{cell_same}
 use Rattle.cell_maker.proofs.Cells.{IsMadeAt, made_at}
 use Rattle.command_generate.proofs.Passing.{built_passes}
@@ -41,10 +42,6 @@ pub cell_refusal : (cell : ℕ) (refusal : Refusal) (s : Status) → s ≡ Cell 
 cell_refusal cell refusal s is = plain_refusal s (ap sort_of is)
 
 -- ---- of a cell that has plans
-if_weaker : {A : Type 0} (o : Option A) (P Q : A → Type 0) → ((a : A) → P a → Q a) → IfSome o P → IfSome o Q
-if_weaker (Some a) P Q h p = h a p
-if_weaker None P Q h p = tt
-
 never_both : {A : Type 0} (o : Option A) (P Q : A → Type 0) → ((a : A) → P a → Q a → ⊥) → IfSome o P → IsSomeAnd o Q → ⊥
 never_both (Some a) P Q h p q = h a p q
 never_both None P Q h p q = q
@@ -55,8 +52,7 @@ module _ (p : DesignParts) (cuts : List (List ℤ)) (policies : List (Option Pla
     where
       passes : (k : ℕ) → IsCell cuts k → IfSome (cell_plans policies k) (PassesCell p cuts k)
       passes k cell =
-          if_weaker (cell_plans policies k) (IsMadeAt p cuts k) (PassesCell p cuts k) (λ plans at. passes_made p cuts k plans at.controller at.bounds at.made)
-          (made_at p cuts policies _ cells bounds made k cell.low cell.high)
+          IfSome_then (cell_plans policies k) (made_at p cuts policies _ cells bounds made k cell.low cell.high) (λ plans at. passes_made p cuts k plans at.controller at.bounds at.made)
 
       none : (e : CellRefusal) → IsFirstRefused p cuts policies e → ⊥
       none e first =
@@ -98,10 +94,10 @@ module _ (p q : DesignParts) (e : design_numbers p ≡ design_numbers q) (cuts :
       first : IsFirstRefused q cuts policies refused.refusal
       first = record {
         cell = refused.first.cell;
-        before = λ k some lt. if_weaker (cell_plans policies k) (IsCellAccepted p cuts k) (IsCellAccepted q cuts k) (λ plans accepted r h. accepted r (refused_back k plans r h)) (refused.first.before k some lt);
+        before = λ k some lt. IfSome_then (cell_plans policies k) (refused.first.before k some lt) (λ plans accepted r h. accepted r (refused_back k plans r h));
         here = some_weaker (cell_plans policies refused.refusal.cell) _ _ (λ plans h. refused_same refused.refusal.cell plans refused.refusal.refusal h) refused.first.here;
       }
-  calls_same policies s (inr done) = inr (done.0, λ k cell. if_weaker (cell_plans policies k) (PassesCell p cuts k) (PassesCell q cuts k) (same k) (done.1 k cell))
+  calls_same policies s (inr done) = inr (done.0, λ k cell. IfSome_then (cell_plans policies k) (done.1 k cell) (same k))
     where
       same : (k : ℕ) (plans : Plans) → PassesCell p cuts k plans → PassesCell q cuts k plans
       same k plans h = record { design = h.design; cell = cell_same p q cuts k h.design e h.cell; margin = h.margin; exponent = h.exponent; bits = h.bits; all = h.all }

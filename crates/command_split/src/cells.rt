@@ -1,8 +1,8 @@
 // The controllers of all cells and their texts.
-ghost use Rattle.std.specs.Prelude.{◌≡◌, ◌≢◌, ◌⊎◌, ◌≤◌, ◌<◌, ◌++◌, ℕ, List, All, length, get_or, map, take, IfOk, IfErr, IfSome};
+ghost use Rattle.std.specs.Prelude.{◌≡◌, ◌≢◌, ◌⊎◌, ◌≤◌, ◌<◌, ℕ, All, length, get_or, map, IfOk, IfErr, IfSome};
 ghost use Rattle.std.specs.Option.{option_map};
 ghost use Rattle.std.specs.List.{flat_map};
-ghost use Rattle.qp_model.specs.problem.Parts.{IsDesign, design_of};
+ghost use Rattle.qp_model.specs.problem.Parts.{design_of};
 ghost use Rattle.qp_model.specs.problem.Policy.{plans_of, IsPolicyFor};
 ghost use Rattle.qp_model.specs.machine.Controller.{Numbers};
 ghost use Rattle.qp_model.specs.bounds.Printed.{printed};
@@ -12,10 +12,9 @@ ghost use Rattle.cell_split.specs.PoliciesText.{covered};
 ghost use Rattle.cell_maker.specs.Made.{AreCellsMade};
 ghost use Rattle.cell_file.specs.Cells.{AreAlike};
 ghost use Rattle.cell_file.specs.Text.{IsCellsText};
-ghost use Rattle.command_line.specs.Answers.{IsAnswer};
 ghost use Rattle.command_split.specs.Cells.{CellsCall};
-ghost use Rattle.command_line.specs.TwoTexts.{IsUnmade};
 ghost use Rattle.command_split.specs.Split.{AreCellTexts};
+ghost use Rattle.command_generate.specs.Made.{Makes};
 
 use bound_report::report_text;
 use cell_file::write_cells;
@@ -49,9 +48,8 @@ fn cells_made(
     requires cuts { AreCutsFor (design_of design.now) cuts.now }
     requires count { length policies.now ≡ cell_count cuts.now }
     requires sized { All (λ o. IfSome o (λ p. IsPolicyFor (design_of design.now) (plans_of p))) policies.now }
-    ensures made { IfOk result (λ m. AreCellsMade design.now cuts.now (map (option_map plans_of) policies.now) m.controllers.items (map printed m.bounds.items)) }
-    ensures called { IfOk result (λ _. IsAnswer (CellsCall design.now cuts.now (map (option_map plans_of) policies.now)) Status.Done) }
-    ensures unmade { IfErr result (IsUnmade (CellsCall design.now cuts.now (map (option_map plans_of) policies.now))) }
+    ensures { Makes (CellsCall design.now cuts.now (map (option_map plans_of) policies.now))
+        (λ m. AreCellsMade design.now cuts.now (map (option_map plans_of) policies.now) m.controllers.items (map printed m.bounds.items)) result }
 {
     match make_cells(alloc, design, cuts, policies) {
         Ok(made) => Ok(made),
@@ -77,8 +75,8 @@ fn texts_made(alloc: Global, made: &MadeCells) -> Result<Texts, Status>
     requires few { length made.now.controllers.items ≤ 64 }
     requires alike { (i : ℕ) (c : Numbers) → i < length made.now.controllers.items →
         AreAlike (get_or made.now.controllers.items 0 c) (get_or made.now.controllers.items i c) }
-    ensures cells { IfOk result (λ t. IsCellsText t.first.items made.now.controllers.items) }
-    ensures reports { IfOk result (λ t. t.second.items ≡ flat_map (λ b. report_text (printed b)) made.now.bounds.items) }
+    ensures texts { IfOk result (λ t. IsCellsText t.first.items made.now.controllers.items
+        × (t.second.items ≡ flat_map (λ b. report_text (printed b)) made.now.bounds.items)) }
     ensures memory { IfErr result (λ e. e ≡ Status.Memory) }
 {
     let first = write_cells(alloc, &made.controllers)?;
@@ -97,9 +95,8 @@ pub(crate) fn texts_of(
     requires count { length policies.now ≡ cell_count cuts.now }
     requires sized { All (λ o. IfSome o (λ p. IsPolicyFor (design_of design.now) (plans_of p))) policies.now }
     requires some { 1 ≤ covered (map (option_map plans_of) policies.now) (cell_count cuts.now) }
-    ensures texts { IfOk result (λ t. AreCellTexts design.now cuts.now (map (option_map plans_of) policies.now) t.first.items t.second.items) }
-    ensures called { IfOk result (λ _. IsAnswer (CellsCall design.now cuts.now (map (option_map plans_of) policies.now)) Status.Done) }
-    ensures unmade { IfErr result (IsUnmade (CellsCall design.now cuts.now (map (option_map plans_of) policies.now))) }
+    ensures { Makes (CellsCall design.now cuts.now (map (option_map plans_of) policies.now))
+        (λ t. AreCellTexts design.now cuts.now (map (option_map plans_of) policies.now) t.first.items t.second.items) result }
 {
     // A design keeps its rules, and the cuts make 1 to 64 cells; with these read, that is known on every way out.
     let _parts = design.parts();

@@ -1,5 +1,4 @@
 use Rattle.std.proofs.Common.{◌≤◌, map, sym, ◌∙◌, rules, arith}
-use Rattle.std.proofs.lemmas.Result.{IfErr-weaker, IfOk-weaker}
 use Rattle.std.proofs.lemmas.List.Folds.{flat_map-map}
 use Rattle.qp_model.specs.problem.Parts.{IsDesign}
 use Rattle.std.specs.Option.{option_map}
@@ -9,7 +8,7 @@ use Rattle.bound_report.specs.Report.{report_text}
 use Rattle.cell_split.specs.Cells.{cell_count}
 use Rattle.cell_split.proofs.PolicyFacts.{covered_most}
 use Rattle.command_line.proofs.Results.{err_same}
-use Rattle.command_line.proofs.TwoTexts.{both_ok, unmade_memory}
+use Rattle.command_generate.proofs.Making.{none_made, makes_of}
 use Rattle.command_split.proofs.Serving.{are_alike}
 use Rattle.command_split.proofs.cells.texts_of.Goals as goal
 
@@ -25,26 +24,22 @@ texts_made-requires-clause-few c =
     let few : cell_count c.args.cuts.now ≤ 64 = search rules in
     omega (arith, c.in_ok-made.ensures.made.count, covered_most (map (option_map plans_of) c.args.policies.now) (cell_count c.args.cuts.now), few)
 
-pub returns-clause-texts : goal.returns-clause-texts
-returns-clause-texts c =
+pub returns : goal.returns
+returns c =
     let design : IsDesign c.args.design.now = search rules in
     let made = c.in_ok-made.made in
-    both_ok c.texts_made.result c.texts_made.ensures.cells c.texts_made.ensures.reports
-    (λ t text report. record {
+    let is = c.in_ok-made.ensures in
+    makes_of c.texts_made.result is.called
+    (λ t are. record {
       design = design;
       cut = c.requires.cuts;
       cells = made.controllers.items;
       bounds = map printed made.bounds.items;
-      made = c.in_ok-made.ensures.made;
-      is_text = text;
-      is_report = report ∙ sym (flat_map-map report_text printed made.bounds.items);
+      made = is.made;
+      is_text = are.0;
+      is_report = are.1 ∙ sym (flat_map-map report_text printed made.bounds.items);
     })
-
-pub returns-clause-called : goal.returns-clause-called
-returns-clause-called c = IfOk-weaker c.texts_made.result _ _ (λ t are. c.in_ok-made.ensures.called) c.texts_made.ensures.cells
-
-pub returns-clause-unmade : goal.returns-clause-unmade
-returns-clause-unmade c = IfErr-weaker c.texts_made.result _ _ (λ e is. unmade_memory _ e is) c.texts_made.ensures.memory
+    c.texts_made.ensures.texts c.texts_made.ensures.memory
 
 pub returns-in_err-made : goal.returns-in_err-made
-returns-in_err-made c = rw (err_same _ _ c.from_residual.ensures.1) (record { texts = tt; called = tt; unmade = c.in_err-made.ensures.unmade })
+returns-in_err-made c = rw (err_same _ _ c.from_residual.ensures.1) (none_made c.in_err-made.ensures.unmade)

@@ -22,4 +22,4 @@ returns-in-Ok g c =
     let is = rw (c.at.ensures, c.cells-cells.ensures.value) at c.in-Ok.ensures.read in
     let made = rw c.deref.ensures.value at c.texts_of-made.ensures in
     went_on is.passes is.right
-    (acted (two_done (λ file one. one) c.texts_of-made.result (λ t. t.first.items) (λ t. t.second.items) made.texts made.called made.unmade c.write_texts.ensures.written c.write_texts.ensures.unmade))
+    (acted (two_done (λ file one. one) c.texts_of-made.result (λ t. t.first.items) (λ t. t.second.items) made.made made.called made.unmade c.write_texts.ensures.written c.write_texts.ensures.unmade))
