@@ -25,8 +25,8 @@ and where no loop is to leave the box, by --stay or by `stay` in the model's `[b
 and where the model's `[box]` has `disturbed`, range.csv is the range of it under which loops settle.
 
     --generate    makes the controller that keeps far from its limits, by `generate` or `stay`: of more steps, mostly far more, and with real violations far below the printed ones
-    --accelerated makes the controller for the accelerated machine, of version 3 (./mpc draft --accelerated): of far fewer steps where a run takes many. Its loops are run by ./mpc disturbed_loop
-                  under still.csv, disturbances of 0, since `loop` takes none of version 3, and no certificate is searched that they settle. Not with --stay
+    --accelerated makes the controller for the accelerated machine, of version 3 (./mpc draft --accelerated): of far fewer steps where a run takes many. No certificate is
+                  searched that its loops settle. Not with --stay
     --as-it-is    takes the model's own coordinates and box, whatever its loops do
     --stay        searches limits on the next state, coordinates and a box for which faces hold
     --same-cost   keeps the model's cost and stages where no loop is to leave the box and a run would take longer than a stage, in place of trying others
@@ -64,7 +64,7 @@ from .common.texts import records_text
 MADE = ["fitted.toml", "design.toml", "policy.csv", "reference.csv", "controller.txt", "report.txt", "states.csv", "loop.txt", "exact.txt", "loop.svg", "judged.txt", "explained.txt", "report.html"]
 STAYS = ["faces.csv", "disturbances.csv"]
 SETTLES = ["settle.csv", "settled.txt"]
-RANGE, COVERED, STILL = "range.csv", "covered.toml", "still.csv"
+RANGE, COVERED = "range.csv", "covered.toml"
 LEFT_THE_BOX = 12
 # what is said where no certificate is found, of the plain machine and of the accelerated one
 UNSETTLED = ("no certificate was found that loops settle: what ./mpc settles says above is in the way", "that loops settle was not asked: `settle` reads controllers of versions 1 and 2")
@@ -203,15 +203,14 @@ def show(steps: Steps, model: str, given: Namespace) -> list[str]:
     """Loops and their picture, and what was measured beside what is printed; and in words where loops settle."""
     design, controller, states, loop, exact = map(steps.path, ("design.toml", "controller.txt", "states.csv", "loop.txt", "exact.txt"))
     steps.must("states", design, states, "--corners", str(given.corners), "--random", str(given.random), "--seed", str(given.seed))
-    still = kept_still(steps, given.turns)
-    left = steps.run(*loop_words(design, controller, states, given.turns, still), to=loop)
+    left = steps.run("loop", design, controller, states, str(given.turns), to=loop)
     if left.status == LEFT_THE_BOX:
-        add_other_starts(design, controller, states, loop, given.turns, still)
+        add_other_starts(design, controller, states, loop, given.turns)
         steps.must("reach", design, states, loop, "--turns", str(given.turns))
     elif left.status:
         raise Refusal(f"the loops ended with status {left.status}: what stands above says why", left.status)
     steps.must("exact_loop", design, states, str(given.turns), to=exact)
-    settled = [] if still else settle(steps, model)
+    settled = [] if is_accelerated(read_design(design).version) else settle(steps, model)
     boxes = ["--settled", steps.path("settled.txt"), "--certificate", steps.path("settle.csv")] if settled else []
     if left.said:
         steps.must("plot", design, loop, exact, "--labels", "controller,exact", "--report", steps.path("report.txt"), *boxes, "--out", steps.path("loop.svg"))
@@ -227,21 +226,7 @@ def show(steps: Steps, model: str, given: Namespace) -> list[str]:
     return settled
 
 
-def kept_still(steps: Steps, turns: int) -> str | None:
-    """The file of disturbances of 0 under which the loops of a design of version 3 are run; None of others, whose loops `loop` runs."""
-    design, path = read_design(steps.path("design.toml")), steps.path(STILL)
-    if not is_accelerated(design.version):
-        return None
-    files.write(path, records_text([[0] * design.states] * turns))
-    return path
-
-
-def loop_words(design: str, controller: str, states: str, turns: int, still: str | None) -> list[str]:
-    """The command that prints loops."""
-    return ["disturbed_loop" if still else "loop", design, controller, states, str(turns), *([still] if still else [])]
-
-
-def add_other_starts(design: str, controller: str, states: str, loop: str, count: int, still: str | None = None) -> None:
+def add_other_starts(design: str, controller: str, states: str, loop: str, count: int) -> None:
     """Adds the loops of the starts after one that leaves the box, at which `mpc loop` ends."""
     starts, all_lines, leaving, done = files.read_bytes(states).decode().splitlines(), files.read_bytes(loop).decode().splitlines(), [], 0
     lines = all_lines
@@ -251,7 +236,7 @@ def add_other_starts(design: str, controller: str, states: str, loop: str, count
         leaving.append(str(done))
         if done >= len(starts):
             break
-        status, lines = looped(design, controller, starts[done:], count, still)
+        status, lines = looped(design, controller, starts[done:], count)
         all_lines = all_lines + [f"{int(number) + done} {others}" for number, others in (line.split(" ", 1) for line in lines)]
         if status != LEFT_THE_BOX:
             break
@@ -259,12 +244,12 @@ def add_other_starts(design: str, controller: str, states: str, loop: str, count
     print(f"    the loops of starts {', '.join(leaving)} leave the box, and {loop} has them up to there, and those of the others after them")
 
 
-def looped(design: str, controller: str, starts: list[str], count: int, still: str | None = None) -> tuple[int, list[str]]:
+def looped(design: str, controller: str, starts: list[str], count: int) -> tuple[int, list[str]]:
     """The status and the lines of the loops from these starts; what is said of them is known already."""
     with tempfile.NamedTemporaryFile("w", suffix=".csv") as rest:
         rest.write("".join(start + "\n" for start in starts))
         rest.flush()
-        got = subprocess.run([LAUNCHER, *loop_words(design, controller, rest.name, count, still)], stdout=subprocess.PIPE, stderr=subprocess.DEVNULL, text=True)
+        got = subprocess.run([LAUNCHER, "loop", design, controller, rest.name, str(count)], stdout=subprocess.PIPE, stderr=subprocess.DEVNULL, text=True)
     return got.returncode, got.stdout.splitlines()
 
 
@@ -303,7 +288,7 @@ def main() -> int:
     parser.add_argument("--seed", type=int, default=1, metavar="N")
     given = parser.parse_args()
     steps = Steps(given.folder)
-    files.keep_apart({"MODEL": given.model}, {name: steps.path(name) for name in [*MADE, *STAYS, *SETTLES, RANGE, COVERED, STILL]})
+    files.keep_apart({"MODEL": given.model}, {name: steps.path(name) for name in [*MADE, *STAYS, *SETTLES, RANGE, COVERED]})
     files.read_bytes(given.model)
     began, stays = time.monotonic(), given.stay or says(given.model, lambda found: any(found.stay))
     if given.accelerated or says(given.model, lambda found: is_accelerated(found.version)):

@@ -146,7 +146,7 @@ class Texts(unittest.TestCase):
         self.assertEqual(matching.controller_difference(controller, replace(found, version=2)), "its version is 3, and that of the design 2")
 
     def test_no_c(self):
-        with self.assertRaisesRegex(Refusal, "^C is written of controllers of versions 1 and 2: `lean` without faces and `solve` alone know the accelerated machine of version 3$"):
+        with self.assertRaisesRegex(Refusal, "^C is written of controllers of versions 1 and 2: `lean` without faces, `solve` and `loop` alone know the accelerated machine of version 3$"):
             strict_controller(made(FIRST)[1])
 
 
@@ -281,7 +281,7 @@ class Refused(unittest.TestCase):
             got = subprocess.run([*as_command(words[0]), *words[1:]], capture_output=True, text=True)
             with self.subTest(words=words[0]):
                 self.assertEqual((got.returncode, got.stdout), (1, ""), got.stderr)
-                self.assertIn(f"{told} versions 1 and 2: `lean` without faces and `solve` alone know the accelerated machine of version 3\n", got.stderr)
+                self.assertIn(f"{told} versions 1 and 2: `lean` without faces, `solve` and `loop` alone know the accelerated machine of version 3\n", got.stderr)
         got = subprocess.run([*as_command("design"), paths["n"], out, "--accelerated", "--generate"], capture_output=True, text=True)
         self.assertIn("not allowed with argument", got.stderr)
         self.assertEqual(sorted(os.listdir(os.path.dirname(out))), ["c", "d", "m", "n", "o", "p"])
@@ -297,13 +297,6 @@ class WholeWay(unittest.TestCase):
             design.make(steps, "model.toml", given, False)
         self.assertEqual(ran, [["draft", "model.toml", "design.toml", "--gap", "0.1", "--accelerated"], ["policy", "design.toml", "policy.csv", "--lean", "reference.csv", "--turns", "0"],
                                ["lean", "design.toml", "policy.csv", "reference.csv", "controller.txt", "report.txt"]])
-        still = design.kept_still(steps, 3)
-        with open(still, encoding="ascii") as file:
-            self.assertEqual(file.read(), "0\n0\n0\n")
-        self.assertEqual(design.loop_words("d", "c", "s", 3, still), ["disturbed_loop", "d", "c", "s", "3", still])
-        self.assertEqual(design.loop_words("d", "c", "s", 3, None), ["loop", "d", "c", "s", "3"])
-        _, paths = folder_with(self, **{"design.toml": COARSE})
-        self.assertIsNone(design.kept_still(design.Steps(os.path.dirname(paths["design.toml"])), 3))
 
     @unittest.skipUnless(os.path.exists(os.path.join(TOP, "crates/mpc_cli/out/mpc_cli")), "the program isn't built")
     def test_from_a_model_to_a_page(self):
@@ -312,7 +305,7 @@ class WholeWay(unittest.TestCase):
         words = ["--accelerated", "--as-it-is", "--turns", "20", "--states", "4", "--random", "1"]
         got = subprocess.run([os.path.join(TOP, "mpc"), "design", paths["model"], made, *words], capture_output=True, text=True)
         self.assertEqual((got.returncode, got.stderr), (0, ""), got.stdout)
-        self.assertEqual(sorted(os.listdir(made)), sorted({*design.MADE, design.STILL} - {"fitted.toml"}))
+        self.assertEqual(sorted(os.listdir(made)), sorted({*design.MADE} - {"fitted.toml"}))
         with open(os.path.join(made, "controller.txt"), encoding="ascii") as file:
             self.assertEqual(file.readline(), "mpc-controller 3\n")
         with open(os.path.join(made, "report.html"), encoding="utf-8") as file:
