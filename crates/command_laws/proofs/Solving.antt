@@ -1,7 +1,9 @@
 -- A certified controller that a file holds, solved from grid states of its design's box.
-use Rattle.std.proofs.Common.{◌≡◌, ◌∙◌, inl, inr, ℕ, ◌<◌, ◌≤◌, List, length, Option, Some, refl, sym, ap, subst}
+use Rattle.std.proofs.Common.{◌≡◌, ◌∙◌, inl, inr, ℕ, ℤ, ◌<◌, ◌≤◌, List, length, Option, Some, refl, sym, ap, subst}
 use Rattle.io_edge.specs.Faults.{Files}
 use Rattle.mat_int.specs.Matrix.{Matrix, row_of}
+use Rattle.integer_algebra.specs.Sums.{at}
+use Rattle.qp_model.specs.problem.Box.{IsGridState}
 use Rattle.qp_model.specs.problem.Design.{Design}
 use Rattle.qp_model.specs.problem.Parts.{design_of}
 use Rattle.qp_model.specs.bounds.Built.{HasSizesOf}
@@ -55,7 +57,7 @@ module _ (words : List (List ℕ)) (files : Files) (k : AnyController) (states :
   solve_called : IsCalledFor solve_deeds words (Some files) Done
   solve_called = called_told words Done files solve_work solve_done
 
-  lines : Lines
+  abbrev lines : Lines
   lines = lines_by (any_plan_line k) states
 
   none : (old new : List ℕ) → new ≡ old → lines.some old new

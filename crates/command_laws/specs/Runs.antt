@@ -41,10 +41,10 @@ pub record HoldsGridStates (d : Design) (content : Option (List ℕ)) (states : 
 
 -- Such states, solved with a controller of either machine that keeps what is certified. The files call for `Done`, and so for no fault of a text; all is done, but for want
 -- of memory and faults, and the output gets the lines of the controller's averaged plans. From each state this is certified.
-pub record IsSolvedAs (k : AnyController) (certified : List ℤ → Type 0) (words : List (List ℕ)) (files : Files) (states : Matrix) (s : Status) (before now : Option (List ℕ)) : Type 0 where
+pub record IsSolvedAs (k : AnyController) (Certified : List ℤ → Type 0) (words : List (List ℕ)) (files : Files) (states : Matrix) (s : Status) (before now : Option (List ℕ)) : Type 0 where
   pub called : IsCalledFor solve_deeds words (Some files) Done
   pub solved : IsSolvedBy (any_plan_line k) states s before now
-  pub certified : (e : ℕ) → e < length states.rows → certified (row_of states e)
+  pub certified : (e : ℕ) → e < length states.rows → Certified (row_of states e)
 
 -- the run's values fit, its steps are the printed ones, and the plan that its line says keeps the printed violation, gap and undercut
 abbrev pub IsSolvedAsCertified : List (List ℕ) → Files → Design → Numbers → Printed → Matrix → Status → (before now : Option (List ℕ)) → Type 0
