@@ -14,10 +14,10 @@ cells), cells or listings, the cases are worked texts of that kind, each cut aft
 design's exact numbers, its enclosures, the corners of its policy in either class, or what its rows come to where they count 16 times, pass the limit by little or stay
 below it by little. Of each, the model's exact numbers must be the simulated plant's, its enclosures must hold them, no corner may have less slack or a greater cost than
 its enclosures show, and both classes are counted beside the status, and whether a design of version 2 has room for smaller exponents.
-Where `stay` is accepted, `generate` must write the same files, and no loop of 200 turns from corners of the box and random states, under disturbances in theirs, may leave
+Where `stay` is accepted, `generate` must write the same files, and no loop of 300 turns from corners of the box and random states, under disturbances in theirs, may leave
 it; so it is of `lean` with faces, a case of the kind `lean_stay`, and `lean` without. The sums of such loops are compared as long as the model makes no more products than
 --loop-products (5000000); after that the program's lines are counted, all the same.
-Where `settle` accepts, no loop of 200 turns from its start box, under disturbances in theirs, may leave the box where no multiplier moves, nor that which is printed from its turn on.
+Where `settle` accepts, no loop of 300 turns from its start box, under disturbances in theirs, may leave the box where no multiplier moves, nor that which is printed from its turn on.
 A controller's own listing must put what `solve` puts.
 Where `split` is accepted, `generate` must write the same of a cell's design, and `serve` must serve states of the box by the controllers of their cells.
 Two sorts of case are counted apart. A design that TOML 1.1 reads and Python's reader (1.0) doesn't must still end with a status of generate. Where a run would be
@@ -47,7 +47,7 @@ MOST_PRODUCTS, MOST_TRACED = 3_000_000, 60_000
 # and the most instructions
 MOST_PLAYED = 500_000
 # of the loops of a design whose box is stayed in
-TURNS, MOST_LOOP_PRODUCTS, MOST_OF_PROGRAM = 200, 5_000_000, 1_000_000_000
+TURNS, MOST_LOOP_PRODUCTS, MOST_OF_PROGRAM = 300, 5_000_000, 1_000_000_000
 SECOND = "a design of version 2, accepted"
 LOWERED = SECOND + ", with a row whose exponent is below the greatest"
 
