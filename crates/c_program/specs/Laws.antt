@@ -10,11 +10,14 @@ use Rattle.qp_model.specs.machine.ValuesMet.{FitsWidth}
 use Rattle.c_program.specs.Syntax.{Variable, Kind, Expression, Statement, CProgram}
 use Rattle.c_program.specs.Syntax.Kind.{Wide}
 use Rattle.c_program.specs.Syntax.Statement.{Declare, Assign, AtLeastZero, AtMost}
-use Rattle.c_program.specs.Syntax.Expression.{Constant, Value, Plus, Minus, Times, Quotient, Remainder, Shifted}
+use Rattle.c_program.specs.Syntax.Expression.{Constant, Value, Plus, Minus, Times, Quotient, Remainder, Over, Shifted}
 use Rattle.c_program.specs.Text.{expression_text, statement_text, program_text, HasNoLineFeed}
 use Rattle.c_program.specs.Meaning.{first_outside, outcome_of, IsDefinedRun, averages_of, AreAveraged}
 use Rattle.c_program.specs.Meaning.Outcome.{Refused, Solved}
+use Rattle.overflow_check.specs.FastMachine.{all_weights, fast_plan}
+use Rattle.overflow_check.specs.FastController.{IsFastController}
 use Rattle.c_program.specs.Of.{program_of}
+use Rattle.c_program.specs.FastOf.{fast_program_of}
 
 -- coordinate number k, from 1, lies outside the box, and each before it inside
 pub record IsCoordinateRefused (c : Numbers) (xi : List ℤ) (k : ℕ) : Type 0 where
@@ -23,27 +26,35 @@ pub record IsCoordinateRefused (c : Numbers) (xi : List ℤ) (k : ℕ) : Type 0 
   pub outside : (i : ℕ) → i + 1 ≡ k → ¬ IsInside c xi i
   pub before : (i : ℕ) → i + 1 < k → IsInside c xi i
 
--- the averaged first inputs over 2^fraction_bits, to the nearest, ties upward
-abbrev pub first_inputs : Numbers → List ℤ → List ℤ
-first_inputs c xi = map (λ j. round_of (at (averaged_plan c xi) j) c.steps) (range_with_len 0 c.inputs)
+-- the first of the averages whose numerators these are, so many plans' sums, over 2^fraction_bits, to the nearest, ties upward
+abbrev pub inputs_of : (inputs steps : ℕ) → List ℤ → List ℤ
+inputs_of inputs steps sums = map (λ j. round_of (at sums j) steps) (range_with_len 0 inputs)
 
--- a grid state of the box can be handed in as numbers of 32 bits, C defines each statement of the run from it, and the averaged plan's numerators are put out;
--- handed these, the second function is defined, and puts out the averaged first inputs
-pub record Solves (c : Numbers) (xi : List ℤ) : Type 0 where
+-- a grid state of the box can be handed in as numbers of 32 bits, C defines each statement of the program's run from it, and these sums are put out;
+-- handed them, the second function is defined, and puts out these inputs
+pub record SolvesTo (p : CProgram) (xi sums inputs : List ℤ) : Type 0 where
   pub state : All (FitsWidth 32) xi
-  pub run : IsDefinedRun (program_of c) xi
-  pub outcome : outcome_of (program_of c) xi ≡ Solved (averaged_plan c xi)
-  pub averaged : AreAveraged (program_of c) (averaged_plan c xi)
-  pub averages : averages_of (program_of c) (averaged_plan c xi) ≡ first_inputs c xi
+  pub run : IsDefinedRun p xi
+  pub outcome : outcome_of p xi ≡ Solved sums
+  pub averaged : AreAveraged p sums
+  pub averages : averages_of p sums ≡ inputs
 
 -- from any other state of this length the first coordinate outside the box is answered
-pub record Refuses (c : Numbers) (xi : List ℤ) : Type 0 where
-  pub first : IsCoordinateRefused c xi (first_outside (program_of c) xi)
-  pub outcome : outcome_of (program_of c) xi ≡ Refused (first_outside (program_of c) xi)
+pub record Refuses (c : Numbers) (p : CProgram) (xi : List ℤ) : Type 0 where
+  pub first : IsCoordinateRefused c xi (first_outside p xi)
+  pub outcome : outcome_of p xi ≡ Refused (first_outside p xi)
 
-pub record IsProgram (c : Numbers) : Type 0 where
-  pub inside : (xi : List ℤ) → IsAdmissible c xi → Solves c xi
-  pub outside : (xi : List ℤ) → length xi ≡ c.states → ¬ IsAdmissible c xi → Refuses c xi
+-- the program of a machine, of which these are the averaged plan's numerators, so many plans' sums
+pub record IsProgramFor (c : Numbers) (p : CProgram) (plan : List ℤ → List ℤ) (steps : ℕ) : Type 0 where
+  pub inside : (xi : List ℤ) → IsAdmissible c xi → SolvesTo p xi (plan xi) (inputs_of c.inputs steps (plan xi))
+  pub outside : (xi : List ℤ) → length xi ≡ c.states → ¬ IsAdmissible c xi → Refuses c p xi
+
+abbrev pub IsProgram : Numbers → Type 0
+IsProgram c = IsProgramFor c (program_of c) (averaged_plan c) c.steps
+
+-- and of the accelerated machine
+abbrev pub IsFastProgram : Numbers → Type 0
+IsFastProgram c = IsProgramFor c (fast_program_of c) (fast_plan c) (all_weights c.steps)
 
 -- each number of an expression is below 2^64, as it is where C defines the expression
 abbrev pub HasShortNumbers : Expression → Type 0
@@ -54,6 +65,7 @@ HasShortNumbers (Minus a b) = HasShortNumbers a × HasShortNumbers b
 HasShortNumbers (Times a b) = HasShortNumbers a × HasShortNumbers b
 HasShortNumbers (Quotient a k) = HasShortNumbers a × (k < 2 ^ 64)
 HasShortNumbers (Remainder a k) = HasShortNumbers a × (k < 2 ^ 64)
+HasShortNumbers (Over a v) = HasShortNumbers a × (v.number < 2 ^ 64)
 HasShortNumbers (Shifted a k) = HasShortNumbers a × (k < 2 ^ 64)
 
 -- two expressions never have one text
@@ -113,6 +125,12 @@ ProgramTextLaw =
 abbrev pub ShortTextLaw : Type 0
 ShortTextLaw = (c : Numbers) → IsController c → c.width ≤ 64 → HasShortText (program_of c)
 
+abbrev pub FastShortTextLaw : Type 0
+FastShortTextLaw = (c : Numbers) → IsFastController c → c.width ≤ 64 → HasShortText (fast_program_of c)
+
 -- of each controller of at most 64 bits
 abbrev pub ProgramLaw : Type 0
 ProgramLaw = (c : Numbers) → IsController c → c.width ≤ 64 → IsProgram c
+
+abbrev pub FastProgramLaw : Type 0
+FastProgramLaw = (c : Numbers) → IsFastController c → c.width ≤ 64 → IsFastProgram c

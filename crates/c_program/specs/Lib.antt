@@ -2,6 +2,7 @@ pub mod Syntax
 pub mod Meaning
 pub mod Needed
 pub mod Of
+pub mod FastOf
 pub mod Text
 pub mod Laws
 pub mod Worked

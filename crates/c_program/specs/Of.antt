@@ -10,7 +10,7 @@ use Rattle.qp_model.specs.machine.Machine.{exponent_of, lowering_of, top_of}
 use Rattle.qp_model.specs.machine.AbsoluteSums.{state_magnitudes, plan_magnitudes, next_magnitude, sum_magnitude}
 use Rattle.c_program.specs.Syntax.{Family, Variable, variable, Kind, Expression, Statement, groups, CProgram}
 use Rattle.c_program.specs.Needed.{needed_part}
-use Rattle.c_program.specs.Syntax.Family.{State, Loaded, EntryBase, RowBase, Multiplier, Difference, Entry, Gradient, RowSum, Moved, Sum, Output}
+use Rattle.c_program.specs.Syntax.Family.{State, Loaded, EntryBase, RowBase, Multiplier, Difference, Entry, Gradient, RowSum, Moved, Sum, Output, Own, Reached, Weight, Divisor}
 use Rattle.c_program.specs.Syntax.Kind.{Narrow, Wide}
 use Rattle.c_program.specs.Syntax.Expression.{Constant, Value, Plus, Minus, Times, Quotient, Remainder, Shifted}
 use Rattle.c_program.specs.Syntax.Statement.{Declare, Assign, AtLeastZero, AtMost}
@@ -52,19 +52,38 @@ row_top c i = next_magnitude c i * 2 ^ (c.fraction_bits - row_bits c i)
 abbrev pub kind_for : ℕ → Kind
 kind_for top = if nat_lt top (2 ^ 31) then Narrow else Wide
 
+-- what the machines differ in: at most how much, in absolute value, a multiplier is on its way to the next one, a sum of plan entries, and, where the machine is accelerated,
+-- a multiplier that is moved, what is reached of all, and the divisor of a mean
+pub record Sizes : Type 0 where
+  pub moved : ℕ → ℕ
+  pub sum : ℕ → ℕ
+  pub own : ℕ → ℕ
+  pub reached : ℕ
+  pub divisor : ℕ
+
+abbrev pub plain_sizes : Numbers → Sizes
+plain_sizes c = record { moved = next_magnitude c; sum = sum_magnitude c; own = λ i. 0; reached = 0; divisor = 0 }
+
+abbrev pub kind_by : Numbers → Sizes → Family → ℕ → Kind
+kind_by c z State k = Narrow
+kind_by c z Loaded k = kind_for (state_top c k)
+kind_by c z EntryBase j = Wide
+kind_by c z RowBase i = Wide
+kind_by c z Multiplier i = kind_for (multiplier_top c i)
+kind_by c z Difference i = kind_for (multiplier_top c i)
+kind_by c z Entry j = kind_for (entry_top c j)
+kind_by c z Gradient i = Wide
+kind_by c z RowSum i = kind_for (row_top c i)
+kind_by c z Moved i = kind_for (z.moved i)
+kind_by c z Sum j = kind_for (z.sum j)
+kind_by c z Output j = Wide
+kind_by c z Own i = kind_for (z.own i)
+kind_by c z Reached i = kind_for z.reached
+kind_by c z Weight k = Narrow
+kind_by c z Divisor k = kind_for z.divisor
+
 abbrev pub kind_of : Numbers → Family → ℕ → Kind
-kind_of c State k = Narrow
-kind_of c Loaded k = kind_for (state_top c k)
-kind_of c EntryBase j = Wide
-kind_of c RowBase i = Wide
-kind_of c Multiplier i = kind_for (multiplier_top c i)
-kind_of c Difference i = kind_for (multiplier_top c i)
-kind_of c Entry j = kind_for (entry_top c j)
-kind_of c Gradient i = Wide
-kind_of c RowSum i = kind_for (row_top c i)
-kind_of c Moved i = kind_for (next_magnitude c i)
-kind_of c Sum j = kind_for (sum_magnitude c j)
-kind_of c Output j = Wide
+kind_of c = kind_by c (plain_sizes c)
 
 -- ---- sums of products
 -- a coefficient times a variable of at most this absolute value, left out where that is always 0
@@ -210,12 +229,15 @@ divided_average sum steps =
     Minus (Plus (Quotient sum steps) (Shifted (Plus (doubled_rest sum steps) (Constant (pos steps))) 63))
     (Shifted (Minus (Constant (pos (steps - 1))) (doubled_rest sum steps)) 63)
 
--- entry j of the averaged plan, over 2^fraction_bits, to the nearest, ties upward
-abbrev pub average_expression : Numbers → ℕ → Expression
-average_expression c j =
+-- entry j of the averaged plan, over 2^fraction_bits, to the nearest, ties upward, where its sum is that of so many plans
+abbrev pub average_of : (steps j : ℕ) → Expression
+average_of steps j =
     let sum = Value (variable Output j) in
-    let k = trailing_zeros w32 c.steps in
-    if c.steps == 2 ^ k then shifted_average sum c.steps k else divided_average sum c.steps
+    let k = trailing_zeros w32 steps in
+    if steps == 2 ^ k then shifted_average sum steps k else divided_average sum steps
+
+abbrev pub average_expression : Numbers → ℕ → Expression
+average_expression c = average_of c.steps
 
 -- ---- what is needed
 unfoldable pub any_below : (ℕ → Bool) → ℕ → Bool
@@ -249,6 +271,10 @@ needed_of c RowSum i = is_row_needed c i
 needed_of c Moved i = is_row_needed c i
 needed_of c Sum j = true
 needed_of c Output j = true
+needed_of c Own i = is_row_needed c i
+needed_of c Reached i = is_row_needed c i
+needed_of c Weight k = true
+needed_of c Divisor k = any_below (is_row_needed c) (length c.bounds)
 
 abbrev pub is_needed : Numbers → Variable → Bool
 is_needed c v = needed_of c v.family v.number

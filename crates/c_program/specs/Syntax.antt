@@ -16,6 +16,10 @@ pub data Family : Type 0 where
   Moved : Family  -- t0 ..
   Sum : Family  -- s0 ..
   Output : Family  -- sums[0] ..
+  Own : Family  -- m0 ..
+  Reached : Family  -- v0 ..
+  Weight : Family  -- k0
+  Divisor : Family  -- b0
 
 abbrev pub letter_of : Family → ℕ
 letter_of State = 0
@@ -30,6 +34,10 @@ letter_of RowSum = 121
 letter_of Moved = 116
 letter_of Sum = 115
 letter_of Output = 1
+letter_of Own = 109
+letter_of Reached = 118
+letter_of Weight = 107
+letter_of Divisor = 98
 
 pub record Variable : Type 0 where
   pub family : Family
@@ -56,6 +64,7 @@ pub data Expression : Type 0 where
   Times : Expression → Expression → Expression  -- (A * B)
   Quotient : Expression → ℕ → Expression  -- (A / INT64_C(5))
   Remainder : Expression → ℕ → Expression  -- (A % INT64_C(5))
+  Over : Expression → Variable → Expression  -- (A / (int64_t)b0)
   Shifted : Expression → ℕ → Expression  -- ((A) >> 5)
 
 -- ---- statements

@@ -7,7 +7,7 @@ use Rattle.qp_model.specs.machine.Controller.{Numbers}
 use Rattle.c_program.specs.Syntax.{Family, Variable, letter_of, Kind, Expression, Statement, CProgram}
 use Rattle.c_program.specs.Syntax.Family.{State, Output}
 use Rattle.c_program.specs.Syntax.Kind.{Narrow, Wide}
-use Rattle.c_program.specs.Syntax.Expression.{Constant, Value, Plus, Minus, Times, Quotient, Remainder, Shifted}
+use Rattle.c_program.specs.Syntax.Expression.{Constant, Value, Plus, Minus, Times, Quotient, Remainder, Over, Shifted}
 use Rattle.c_program.specs.Syntax.Statement.{Declare, Assign, AtLeastZero, AtMost}
 
 -- ---- words
@@ -45,6 +45,7 @@ expression_text (Minus a b) = expression_text a ++ codes " - " ++ closed b (expr
 expression_text (Times a b) = enclosed (closed a (expression_text a) ++ codes " * " ++ closed b (expression_text b))
 expression_text (Quotient a k) = enclosed (closed a (expression_text a) ++ codes " / " ++ constant_text (pos k))
 expression_text (Remainder a k) = enclosed (closed a (expression_text a) ++ codes " % " ++ constant_text (pos k))
+expression_text (Over a v) = enclosed (closed a (expression_text a) ++ codes " / (int64_t)" ++ variable_text v)
 expression_text (Shifted a k) = enclosed (enclosed (expression_text a) ++ codes " >> " ++ decimal k)
 
 -- ---- statements

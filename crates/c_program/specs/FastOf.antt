@@ -1,0 +1,96 @@
+-- The program of a controller of the accelerated machine: its plan is made at means of multipliers, in place of multipliers, and all else of a plan is as in that of the plain machine.
+use Rattle.std.specs.Prelude.{ℕ, ◌-◌, pos, List, [], ◌∷◌, ◌++◌, length, map, unsigned_abs}
+use Rattle.std.specs.List.{range_with_len}
+use Rattle.qp_model.specs.machine.Controller.{Numbers}
+use Rattle.overflow_check.specs.FastMachine.{all_weights, mean_divisor, fast_top}
+use Rattle.overflow_check.specs.FastController.{moved_magnitude, reached_magnitude, fast_sum_magnitude}
+use Rattle.c_program.specs.Syntax.{variable, Expression, Statement, groups, CProgram}
+use Rattle.c_program.specs.Needed.{needed_part}
+use Rattle.c_program.specs.Syntax.Family.{Multiplier, Entry, RowSum, Moved, Sum, Own, Reached, Weight, Divisor}
+use Rattle.c_program.specs.Syntax.Expression.{Constant, Value, Plus, Minus, Times, Over}
+use Rattle.c_program.specs.Syntax.Statement.{Declare, Assign, AtLeastZero, AtMost}
+use Rattle.c_program.specs.Of.{Sizes, kind_by, lowered_value, row_bits, zero_statements, before_of, difference_statements, entry_statements, gradient_statements, row_sum_statements, average_of, is_needed}
+
+-- ---- what the variables are at most in absolute value
+abbrev pub fast_sizes : Numbers → Sizes
+fast_sizes c = record {
+  moved = moved_magnitude c;
+  sum = fast_sum_magnitude c;
+  own = λ i. unsigned_abs (fast_top c i);
+  reached = reached_magnitude c;
+  divisor = mean_divisor c.steps;
+}
+
+-- ---- before the loop
+-- the weight of the first step
+abbrev pub first_weight : Statement
+first_weight = Declare (variable Weight 0) (Constant (pos 2))
+
+abbrev pub fast_before_of : Numbers → List Statement
+fast_before_of c =
+    before_of c ++ groups (zero_statements Own) (length c.bounds) ++ groups (zero_statements Reached) (length c.bounds) ++ first_weight ∷ []
+
+-- ---- one step
+abbrev pub weight_value : Expression
+weight_value = Value (variable Weight 0)
+
+-- so many times the step's weight
+abbrev pub weighted : Expression → Expression
+weighted a = Times weight_value a
+
+-- twice the weights of all steps up to this one: with its weight a, (a - 1) (a + 2)
+abbrev pub divisor_statement : Statement
+divisor_statement = Declare (variable Divisor 0) (Times (Minus weight_value (Constant (pos 1))) (Plus weight_value (Constant (pos 2))))
+
+-- the mean of row i, which stands where the plain machine has its multiplier
+abbrev pub mean_expression : ℕ → Expression
+mean_expression i = Over (Plus (Value (variable Reached i)) (weighted (Value (variable Own i)))) (variable Divisor 0)
+
+abbrev pub mean_statements : ℕ → List Statement
+mean_statements i = Assign (variable Multiplier i) (mean_expression i) ∷ []
+
+abbrev pub weighted_sum_statements : ℕ → List Statement
+weighted_sum_statements j = Assign (variable Sum j) (Plus (Value (variable Sum j)) (weighted (Value (variable Entry j)))) ∷ []
+
+-- multiplier i, moved by the weight along its row and clamped, and added to what is reached
+abbrev pub fast_moved_expression : Numbers → ℕ → Expression
+fast_moved_expression c i = Plus (Value (variable Own i)) (weighted (lowered_value (variable RowSum i) (c.fraction_bits - row_bits c i)))
+
+abbrev pub reached_expression : ℕ → Expression
+reached_expression i = Plus (Value (variable Reached i)) (weighted (Value (variable Own i)))
+
+abbrev pub fast_move_statements : Numbers → ℕ → List Statement
+fast_move_statements c i =
+    Declare (variable Moved i) (fast_moved_expression c i)
+    ∷ AtLeastZero (variable Moved i) ∷ AtMost (variable Moved i) (fast_top c i) ∷ Assign (variable Own i) (Value (variable Moved i))
+    ∷ Assign (variable Reached i) (reached_expression i) ∷ []
+
+abbrev pub fast_row_statements : Numbers → ℕ → List Statement
+fast_row_statements c i = gradient_statements c i ++ row_sum_statements c i ++ fast_move_statements c i
+
+abbrev pub next_weight : Statement
+next_weight = Assign (variable Weight 0) (Plus weight_value (Constant (pos 1)))
+
+abbrev pub fast_body : Numbers → List Statement
+fast_body c =
+    (divisor_statement ∷ []) ++ groups mean_statements (length c.bounds)
+    ++ groups (difference_statements c) (length c.bounds) ++ groups (entry_statements c) (length c.offsets) ++ groups weighted_sum_statements (length c.offsets)
+    ++ groups (fast_row_statements c) (length c.bounds) ++ next_weight ∷ []
+
+-- ---- the whole
+-- with every row and coordinate
+abbrev pub whole_fast_program : Numbers → CProgram
+whole_fast_program c = record {
+  low = c.low;
+  high = c.high;
+  kind = λ v. kind_by c (fast_sizes c) v.family v.number;
+  before = fast_before_of c;
+  body = fast_body c;
+  repetitions = c.steps;
+  outputs = map (variable Sum) (range_with_len 0 (length c.offsets));
+  averages = map (average_of (all_weights c.steps)) (range_with_len 0 c.inputs);
+}
+
+-- without those that reach no output
+abbrev pub fast_program_of : Numbers → CProgram
+fast_program_of c = needed_part (is_needed c) (whole_fast_program c)
