@@ -1,13 +1,13 @@
 -- What is not needed can be left out: where the needed statements read only needed variables, the needed part is defined where the whole is, and its variables hold the same.
-use Rattle.std.proofs.Common.{◌≡◌, ℕ, zero, suc, ◌<◌, ◌≤◌, ◌^◌, ◌==◌, ◌&&◌, Bool, true, false, if◌then◌else◌, ℤ, pos, ◌+ℤ◌, ◌-ℤ◌, ◌*ℤ◌, List, [], ◌∷◌, ◌++◌, map, refl, sym, ap, subst, ◌∙◌, arith, inl, inr}
+use Rattle.std.proofs.Common.{◌≡◌, ℕ, zero, suc, ◌<◌, ◌≤◌, ◌^◌, ◌==◌, ◌&&◌, Bool, true, false, if◌then◌else◌, ℤ, pos, ◌+ℤ◌, ◌-ℤ◌, ◌*ℤ◌, ◌<ℤ◌, List, [], ◌∷◌, ◌++◌, map, refl, sym, ap, subst, ◌∙◌, arith, inl, inr}
 use Rattle.std.specs.Int.{int_max, int_min}
 use Rattle.std.specs.Prelude.{int_div, int_rem}
 use Rattle.std.proofs.lemmas.Bool.{cases_Bool, and_parts, eqb-true, cond-true, cond-false, cond_both, both_ways}
 use Rattle.integer_algebra.specs.Division.{floor_of}
 use Rattle.qp_model.specs.machine.ValuesMet.{FitsWidth}
 use Rattle.c_program.specs.Syntax.{Family, Variable, letter_of, Kind, bits_of, Expression, Statement, groups, CProgram}
-use Rattle.c_program.specs.Syntax.Family.{State, Loaded, EntryBase, RowBase, Multiplier, Difference, Entry, Gradient, RowSum, Moved, Sum, Output}
-use Rattle.c_program.specs.Syntax.Expression.{Constant, Value, Plus, Minus, Times, Quotient, Remainder, Shifted}
+use Rattle.c_program.specs.Syntax.Family.{State, Loaded, EntryBase, RowBase, Multiplier, Difference, Entry, Gradient, RowSum, Moved, Sum, Output, Own, Reached, Weight, Divisor}
+use Rattle.c_program.specs.Syntax.Expression.{Constant, Value, Plus, Minus, Times, Quotient, Remainder, Over, Shifted}
 use Rattle.c_program.specs.Syntax.Statement.{Declare, Assign, AtLeastZero, AtMost}
 use Rattle.c_program.specs.Meaning.{Environment, held, with_value, value, IsDefined, new_value, variable_of, done, HasOperands, IsDone, all_done, AreDone, repeated, begun, after_rounds, IsDefinedRun}
 use Rattle.c_program.specs.Needed.{left_in, needed_part}
@@ -35,6 +35,10 @@ family_back RowSum = refl
 family_back Moved = refl
 family_back Sum = refl
 family_back Output = refl
+family_back Own = refl
+family_back Reached = refl
+family_back Weight = refl
+family_back Divisor = refl
 
 one_family : (f g : Family) → letter_of f ≡ letter_of g → f ≡ g
 one_family f g e = sym (family_back f) ∙ ap family_at e ∙ family_back g
@@ -64,6 +68,7 @@ ReadsNeeded needed (Minus a b) = ReadsNeeded needed a × ReadsNeeded needed b
 ReadsNeeded needed (Times a b) = ReadsNeeded needed a × ReadsNeeded needed b
 ReadsNeeded needed (Quotient a k) = ReadsNeeded needed a
 ReadsNeeded needed (Remainder a k) = ReadsNeeded needed a
+ReadsNeeded needed (Over a v) = ReadsNeeded needed a × (needed v ≡ true)
 ReadsNeeded needed (Shifted a k) = ReadsNeeded needed a
 
 same_value : (needed : Variable → Bool) (e d : Environment) → Agree needed e d → (a : Expression) → ReadsNeeded needed a → value e a ≡ value d a
@@ -74,6 +79,7 @@ same_value needed e d h (Minus a b) n = let f = same_value needed e d h a n.0 in
 same_value needed e d h (Times a b) n = let f = same_value needed e d h a n.0 in let g = same_value needed e d h b n.1 in (λ i. f i *ℤ g i)
 same_value needed e d h (Quotient a k) n = ap (λ (z : ℤ). int_div z (pos k)) (same_value needed e d h a n)
 same_value needed e d h (Remainder a k) n = ap (λ (z : ℤ). int_rem z (pos k)) (same_value needed e d h a n)
+same_value needed e d h (Over a v) n = let f = same_value needed e d h a n.0 in let g = h v n.1 in (λ i. int_div (f i) (g i))
 same_value needed e d h (Shifted a k) n = ap (λ (z : ℤ). floor_of z (2 ^ k)) (same_value needed e d h a n)
 
 same_defined : (needed : Variable → Bool) (e d : Environment) → Agree needed e d → (a : Expression) → ReadsNeeded needed a → IsDefined e a → IsDefined d a
@@ -87,6 +93,7 @@ same_defined needed e d h (Times a b) n p =
     (same_defined needed e d h a n.0 p.0, same_defined needed e d h b n.1 p.1, subst (FitsWidth 64) (same_value needed e d h (Times a b) n) p.2)
 same_defined needed e d h (Quotient a k) n p = (same_defined needed e d h a n p.0, p.1, p.2)
 same_defined needed e d h (Remainder a k) n p = (same_defined needed e d h a n p.0, p.1, p.2)
+same_defined needed e d h (Over a v) n p = (same_defined needed e d h a n.0 p.0, subst (FitsWidth 64) (h v n.1) p.1, subst (λ (z : ℤ). pos 0 <ℤ z) (h v n.1) p.2)
 same_defined needed e d h (Shifted a k) n p = (same_defined needed e d h a n p.0, p.1)
 
 -- ---- statements

@@ -14,9 +14,9 @@ use Rattle.integer_algebra.specs.Sums.{at}
 use Rattle.number_text.specs.Lines.{text_of}
 use Rattle.number_text.proofs.Pieces.{IsPiece, ArePieces, split_text}
 use Rattle.c_program.specs.Syntax.{Family, Variable, variable, letter_of, Kind, Expression, Statement, CProgram}
-use Rattle.c_program.specs.Syntax.Family.{State, Loaded, EntryBase, RowBase, Multiplier, Difference, Entry, Gradient, RowSum, Moved, Sum, Output}
+use Rattle.c_program.specs.Syntax.Family.{State, Loaded, EntryBase, RowBase, Multiplier, Difference, Entry, Gradient, RowSum, Moved, Sum, Output, Own, Reached, Weight, Divisor}
 use Rattle.c_program.specs.Syntax.Kind.{Narrow, Wide}
-use Rattle.c_program.specs.Syntax.Expression.{Constant, Value, Plus, Minus, Times, Quotient, Remainder, Shifted}
+use Rattle.c_program.specs.Syntax.Expression.{Constant, Value, Plus, Minus, Times, Quotient, Remainder, Over, Shifted}
 use Rattle.c_program.specs.Syntax.Statement.{Declare, Assign, AtLeastZero, AtMost}
 use Rattle.c_program.specs.Text.{name_of, variable_text, kind_text, constant_text, enclosed, closed, expression_text, cast_text, statement_text, statement_lines, numbered_lines, comparison_text, above_text, refusal_text, refusal_line, output_line, head_text, average_line, average_head_text, shift_line, second_lines, program_lines, HasNoLineFeed}
 use Rattle.c_program.specs.Terms.{opening_lines, repetition_line}
@@ -97,6 +97,10 @@ name_plain Gradient k h = join (letter_of Gradient ∷ []) (decimal k) (word (le
 name_plain RowSum k h = join (letter_of RowSum ∷ []) (decimal k) (word (letter_of RowSum ∷ []) refl) (decimal_plain k h)
 name_plain Moved k h = join (letter_of Moved ∷ []) (decimal k) (word (letter_of Moved ∷ []) refl) (decimal_plain k h)
 name_plain Sum k h = join (letter_of Sum ∷ []) (decimal k) (word (letter_of Sum ∷ []) refl) (decimal_plain k h)
+name_plain Own k h = join (letter_of Own ∷ []) (decimal k) (word (letter_of Own ∷ []) refl) (decimal_plain k h)
+name_plain Reached k h = join (letter_of Reached ∷ []) (decimal k) (word (letter_of Reached ∷ []) refl) (decimal_plain k h)
+name_plain Weight k h = join (letter_of Weight ∷ []) (decimal k) (word (letter_of Weight ∷ []) refl) (decimal_plain k h)
+name_plain Divisor k h = join (letter_of Divisor ∷ []) (decimal k) (word (letter_of Divisor ∷ []) refl) (decimal_plain k h)
 
 enclosed_plain : (xs : List ℕ) → Plain xs → Plain (enclosed xs)
 enclosed_plain xs h = glue (codes "(") (xs ∷ codes ")" ∷ []) (word _ refl) (h, (word _ refl, tt))
@@ -107,6 +111,7 @@ closed_plain (Value v) xs h = h
 closed_plain (Times a b) xs h = h
 closed_plain (Quotient a k) xs h = h
 closed_plain (Remainder a k) xs h = h
+closed_plain (Over a v) xs h = h
 closed_plain (Shifted a k) xs h = h
 closed_plain (Plus a b) xs h = enclosed_plain xs h
 closed_plain (Minus a b) xs h = enclosed_plain xs h
@@ -130,6 +135,9 @@ expression_plain (Times a b) h =
     product_plain (closed a (expression_text a)) (codes " * ") (closed b (expression_text b)) (operand_plain a (expression_plain a h.0)) (word _ refl) (operand_plain b (expression_plain b h.1))
 expression_plain (Quotient a k) h = product_plain (closed a (expression_text a)) (codes " / ") (constant_text (pos k)) (operand_plain a (expression_plain a h.0)) (word _ refl) (constant_plain (pos k) h.1)
 expression_plain (Remainder a k) h = product_plain (closed a (expression_text a)) (codes " % ") (constant_text (pos k)) (operand_plain a (expression_plain a h.0)) (word _ refl) (constant_plain (pos k) h.1)
+expression_plain (Over a v) h =
+    enclosed_plain (closed a (expression_text a) ++ codes " / (int64_t)" ++ variable_text v)
+    (operated_plain (closed a (expression_text a)) (codes " / (int64_t)") (variable_text v) (operand_plain a (expression_plain a h.0)) (word _ refl) (name_plain v.family v.number h.1))
 expression_plain (Shifted a k) h =
     product_plain (enclosed (expression_text a)) (codes " >> ") (decimal k) (enclosed_plain (expression_text a) (expression_plain a h.0)) (word _ refl) (decimal_plain k h.1)
 
@@ -429,6 +437,10 @@ name_no_loop Gradient k rest = refl
 name_no_loop RowSum k rest = refl
 name_no_loop Moved k rest = refl
 name_no_loop Sum k rest = refl
+name_no_loop Own k rest = refl
+name_no_loop Reached k rest = refl
+name_no_loop Weight k rest = refl
+name_no_loop Divisor k rest = refl
 
 kind_no_loop : (q : Kind) (rest : List ℕ) → is_fifth 102 (codes "    " ++ (kind_text q ++ rest)) ≡ false
 kind_no_loop Narrow rest = refl

@@ -1,14 +1,14 @@
 -- A reader of expressions, byte by byte: from the text of one it makes that expression. So two expressions never have one text.
-use Rattle.std.proofs.Common.{◌≡◌, ℕ, zero, suc, ◌+◌, ◌*◌, ◌^◌, ◌<◌, ◌==◌, Bool, true, false, if◌then◌else◌, ltb, ℤ, pos, negsuc, neg_ℤ, List, [], ◌∷◌, ◌++◌, unsigned_abs, refl, sym, ap, ◌∙◌, arith}
-use Rattle.std.specs.Prelude.{decimal}
+use Rattle.std.proofs.Common.{◌≡◌, ℕ, zero, suc, ◌+◌, ◌*◌, ◌^◌, ◌<◌, ◌==◌, Bool, true, false, if◌then◌else◌, ltb, ℤ, pos, negsuc, neg_ℤ, List, [], ◌∷◌, ◌++◌, unsigned_abs, refl, sym, ap, ◌∙◌, append_assoc, arith}
+use Rattle.std.specs.Prelude.{codes, decimal}
 use Rattle.std.specs.Char.{digit_value}
 use Rattle.std.specs.Str.Parse.{AllDigits, digits_value_after}
 use Rattle.std.proofs.lemmas.Fmt.{decimal_is_IsNumeral}
 use Rattle.std.proofs.lemmas.Bool.{lt-ltb}
-use Rattle.c_program.specs.Syntax.{Family, variable, letter_of, Expression}
-use Rattle.c_program.specs.Syntax.Family.{State, Loaded, EntryBase, RowBase, Multiplier, Difference, Entry, Gradient, RowSum, Moved, Sum, Output}
-use Rattle.c_program.specs.Syntax.Expression.{Constant, Value, Plus, Minus, Times, Quotient, Remainder, Shifted}
-use Rattle.c_program.specs.Text.{name_of, constant_text, enclosed, closed, expression_text}
+use Rattle.c_program.specs.Syntax.{Family, Variable, variable, letter_of, Expression}
+use Rattle.c_program.specs.Syntax.Family.{State, Loaded, EntryBase, RowBase, Multiplier, Difference, Entry, Gradient, RowSum, Moved, Sum, Output, Own, Reached, Weight, Divisor}
+use Rattle.c_program.specs.Syntax.Expression.{Constant, Value, Plus, Minus, Times, Quotient, Remainder, Over, Shifted}
+use Rattle.c_program.specs.Text.{variable_text, name_of, constant_text, enclosed, closed, expression_text}
 use Rattle.c_program.specs.Laws.{HasShortNumbers, ExpressionTextLaw}
 
 -- ---- the reader
@@ -53,11 +53,15 @@ abbrev pub size_of : Expression → ℕ
 size_of (Constant z) = unsigned_abs z
 size_of other = 0
 
+abbrev pub divided : Expression → Expression → Expression
+divided a (Value v) = Over a v
+divided a other = Quotient a (size_of other)
+
 abbrev pub made : Operator → Expression → Expression → Expression
 made Add a e = Plus a e
 made Subtract a e = Minus a e
 made Multiply a e = Times a e
-made Divide a e = Quotient a (size_of e)
+made Divide a e = divided a e
 made Rest a e = Remainder a (size_of e)
 
 abbrev pub operator_of : ℕ → Operator
@@ -66,7 +70,8 @@ operator_of c = if c == 43 then Add else (if c == 45 then Subtract else (if c ==
 abbrev pub family_of : ℕ → Family
 family_of c =
     if c == 120 then Loaded else (if c == 97 then EntryBase else (if c == 114 then RowBase else (if c == 108 then Multiplier else (if c == 100 then Difference else
-    (if c == 117 then Entry else (if c == 103 then Gradient else (if c == 121 then RowSum else (if c == 116 then Moved else Sum))))))))
+    (if c == 117 then Entry else (if c == 103 then Gradient else (if c == 121 then RowSum else (if c == 116 then Moved else (if c == 109 then Own else (if c == 118 then Reached else
+    (if c == 107 then Weight else (if c == 98 then Divisor else Sum))))))))))))
 
 -- an operand with the operator before it
 abbrev pub below : List Frame → List Frame
@@ -238,6 +243,10 @@ variable_read Gradient k st h = named_read Gradient k st refl refl h
 variable_read RowSum k st h = named_read RowSum k st refl refl h
 variable_read Moved k st h = named_read Moved k st refl refl h
 variable_read Sum k st h = named_read Sum k st refl refl h
+variable_read Own k st h = named_read Own k st refl refl h
+variable_read Reached k st h = named_read Reached k st refl refl h
+variable_read Weight k st h = named_read Weight k st refl refl h
+variable_read Divisor k st h = named_read Divisor k st refl refl h
 
 -- ---- expressions
 -- as a sum, and as an operand
@@ -275,6 +284,20 @@ shifted_read st a k s h =
     number_read (Shift a) (Open ∷ st) (shift_counts a (Open ∷ st)) k h in
     reads_done st _ _ (read_append (at_mode (Open ∷ st) Ready) ((text ++ (32 ∷ 62 ∷ 62 ∷ 32 ∷ [])) ++ decimal k) (41 ∷ []) ∙ ap (λ (r : Reader). read r (41 ∷ [])) third)
 
+over_text : (xs vs : List ℕ) → xs ++ codes " / (int64_t)" ++ vs ≡ xs ++ codes " / " ++ (codes "(int64_t)" ++ vs)
+over_text xs vs = append_assoc xs (codes " / (int64_t)") vs ∙ sym (append_assoc xs (codes " / ") (codes "(int64_t)" ++ vs))
+
+over_read : (st : List Frame) (a : Expression) (v : Variable) → Reads (Open ∷ st) (closed a (expression_text a)) (Open ∷ st) a → v.number < 2 ^ 64 → Reads st (expression_text (Over a v)) st (Over a v)
+over_read st a v r h =
+    let p = product_read Divide 47 st a (Value v) _ _ (λ to x. refl) r (variable_read v.family v.number (Left Divide a ∷ Open ∷ st) h) in
+    record {
+      mode = p.mode;
+      is = ap (λ (t : List ℕ). read (at_mode st Ready) (enclosed t)) (over_text (closed a (expression_text a)) (variable_text v)) ∙ p.is;
+      space = p.space;
+      close = p.close;
+      last = p.last;
+    }
+
 pub reads : (e : Expression) → HasShortNumbers e → IsRead e
 reads (Constant z) h = read_one (Constant z) (λ xs. refl) (λ st. constant_read z st h)
 reads (Value v) h = read_one (Value v) (λ xs. refl) (λ st. variable_read v.family v.number st h)
@@ -296,6 +319,9 @@ reads (Quotient a k) h =
 reads (Remainder a k) h =
     let f = reads a h.0 in
     read_one (Remainder a k) (λ xs. refl) (λ st. product_read Rest 37 st a (Constant (pos k)) _ _ (λ to x. refl) (f.apart (Open ∷ st)) (constant_read (pos k) (Left Rest a ∷ Open ∷ st) h.1))
+reads (Over a v) h =
+    let f = reads a h.0 in
+    read_one (Over a v) (λ xs. refl) (λ st. over_read st a v (f.apart (Open ∷ st)) h.1)
 reads (Shifted a k) h =
     let f = reads a h.0 in
     read_one (Shifted a k) (λ xs. refl) (λ st. shifted_read st a k (f.plain (Open ∷ Open ∷ st) (base_open (Open ∷ st))) h.1)

@@ -6,7 +6,7 @@ use Rattle.std.specs.Str.Parse.{AllDigits, digits_value_after}
 use Rattle.std.proofs.lemmas.Fmt.{decimal_is_IsNumeral}
 use Rattle.std.proofs.lemmas.Bool.{ne_eqb}
 use Rattle.c_program.specs.Syntax.{Family, Variable, variable, letter_of, Kind, Expression, Statement}
-use Rattle.c_program.specs.Syntax.Family.{State, Loaded, EntryBase, RowBase, Multiplier, Difference, Entry, Gradient, RowSum, Moved, Sum, Output}
+use Rattle.c_program.specs.Syntax.Family.{State, Loaded, EntryBase, RowBase, Multiplier, Difference, Entry, Gradient, RowSum, Moved, Sum, Output, Own, Reached, Weight, Divisor}
 use Rattle.c_program.specs.Syntax.Kind.{Narrow, Wide}
 use Rattle.c_program.specs.Syntax.Expression.{Constant, Value}
 use Rattle.c_program.specs.Syntax.Statement.{Declare, Assign, AtLeastZero, AtMost}
@@ -165,6 +165,10 @@ name_scan p form b Gradient k h = letter_scan p form Gradient k b refl refl refl
 name_scan p form b RowSum k h = letter_scan p form RowSum k b refl refl refl h
 name_scan p form b Moved k h = letter_scan p form Moved k b refl refl refl h
 name_scan p form b Sum k h = letter_scan p form Sum k b refl refl refl h
+name_scan p form b Own k h = letter_scan p form Own k b refl refl refl h
+name_scan p form b Reached k h = letter_scan p form Reached k b refl refl refl h
+name_scan p form b Weight k h = letter_scan p form Weight k b refl refl refl h
+name_scan p form b Divisor k h = letter_scan p form Divisor k b refl refl refl h
 
 -- a name, and what is behind it
 behind_name : (p : Phase) (form : Form) (xs rest : List ℕ) (v : Variable) → Names p form xs v → scan (scan p xs) (32 ∷ rest) ≡ scan (named form v) rest
