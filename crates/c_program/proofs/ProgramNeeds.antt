@@ -7,12 +7,13 @@ use Rattle.qp_model.specs.machine.Controller.{Numbers}
 use Rattle.qp_model.specs.machine.Machine.{lowering_of}
 use Rattle.qp_model.proofs.AbsoluteLaws.{abs-neg, abs-shifted}
 use Rattle.c_program.specs.Syntax.{Variable, variable, Expression, Statement, groups}
-use Rattle.c_program.specs.Syntax.Family.{Loaded, EntryBase, RowBase, Multiplier, Difference, Entry, Gradient, RowSum, Sum}
+use Rattle.c_program.specs.Syntax.Family.{Loaded, EntryBase, RowBase, Multiplier, Difference, Entry, Gradient, RowSum, Sum, Own, Reached, Divisor}
 use Rattle.c_program.specs.Syntax.Expression.{Constant, Value, Plus, Minus, Times, Shifted}
 use Rattle.c_program.specs.Syntax.Statement.{Declare}
 use Rattle.c_program.specs.Meaning.{variable_of}
 use Rattle.c_program.specs.Needed.{left_in}
 use Rattle.c_program.specs.Of.{state_top, multiplier_top, entry_top, plus_products, partner, is_first, is_second, loaded_statements, entry_base_statements, row_base_statements, zero_statements, before_of, difference_statements, gain_of, gain_variable, entry_statements, sum_statements, row_bits, plan_factor, lowered_value, lowered_base, plus_plan, gradient_statements, row_expression, row_sum_statements, move_statements, row_statements, repetition_body, any_below, is_product, is_row_needed, is_coordinate_needed, is_needed, whole_program}
+use Rattle.c_program.specs.FastOf.{first_weight, fast_before_of, divisor_statement, mean_statements, weighted_sum_statements, fast_move_statements, fast_row_statements, next_weight, fast_body, whole_fast_program}
 use Rattle.c_program.proofs.Lists.{row_needed, coordinate_needed}
 use Rattle.c_program.proofs.Pairs.{IsPair, pair_there, later_there, same_top}
 use Rattle.c_program.proofs.LeftIn.{ReadsNeeded, AreClosed, IsClosed, AreNeeded, closed_append, closed_groups, left_in_append, whole_groups}
@@ -174,6 +175,20 @@ row_sum_needs c i l = ((λ n. row_expression_needs c i l n), tt)
 move_needs : (c : Numbers) (i : ℕ) → AreClosed (is_needed c) (move_statements c i)
 move_needs c i = ((λ n. (n, lowered_needs (is_needed c) (variable RowSum i) (c.fraction_bits - row_bits c i) n)), ((λ n. n), ((λ n. n), ((λ n. n), tt))))
 
+-- a row's statements, however its multiplier is moved
+row_needs_by : (c : Numbers) (i : ℕ) (move : List Statement) → i < length c.bounds → AreClosed (is_needed c) move →
+    AreClosed (is_needed c) (gradient_statements c i ++ row_sum_statements c i ++ move)
+row_needs_by c i move l h =
+    let b = is_needed c in
+    closed_append b (gradient_statements c i ++ row_sum_statements c i) move
+    (closed_append b (gradient_statements c i) (row_sum_statements c i) (gradient_needs c i) (row_sum_needs c i l)) h
+
+differences_need : (c : Numbers) → AreClosed (is_needed c) (groups (difference_statements c) (length c.bounds))
+differences_need c = closed_groups (is_needed c) (difference_statements c) (length c.bounds) (λ i m. difference_needs c i)
+
+entries_need : (c : Numbers) → AreClosed (is_needed c) (groups (entry_statements c) (length c.offsets))
+entries_need c = closed_groups (is_needed c) (entry_statements c) (length c.offsets) (entry_closed c)
+
 body_needs : (c : Numbers) → AreClosed (is_needed c) (repetition_body c)
 body_needs c =
     let b = is_needed c in
@@ -183,13 +198,55 @@ body_needs c =
     let r = groups (row_statements c) (length c.bounds) in
     closed_append b (d ++ u ++ s) r
     (closed_append b (d ++ u) s
-    (closed_append b d u (closed_groups b (difference_statements c) (length c.bounds) (λ i m. difference_needs c i)) (closed_groups b (entry_statements c) (length c.offsets) (entry_closed c)))
+    (closed_append b d u (differences_need c) (entries_need c))
     (closed_groups b sum_statements (length c.offsets) (λ j m. ((λ t. (refl, refl)), tt))))
-    (closed_groups b (row_statements c) (length c.bounds) (λ i m. closed_append b (gradient_statements c i ++ row_sum_statements c i) (move_statements c i)
-    (closed_append b (gradient_statements c i) (row_sum_statements c i) (gradient_needs c i) (row_sum_needs c i m)) (move_needs c i)))
+    (closed_groups b (row_statements c) (length c.bounds) (λ i m. row_needs_by c i (move_statements c i) m (move_needs c i)))
 
 pub program_closed : (c : Numbers) → IsClosed (is_needed c) (whole_program c)
 program_closed c = record { before = before_needs c; body = body_needs c }
+
+-- ---- of the accelerated machine
+fast_before_needs : (c : Numbers) → AreClosed (is_needed c) (fast_before_of c)
+fast_before_needs c =
+    let b = is_needed c in
+    let m = groups (zero_statements Own) (length c.bounds) in
+    let v = groups (zero_statements Reached) (length c.bounds) in
+    closed_append b (before_of c ++ m ++ v) (first_weight ∷ [])
+    (closed_append b (before_of c ++ m) v
+    (closed_append b (before_of c) m (before_needs c) (closed_groups b (zero_statements Own) (length c.bounds) (λ i l. ((λ t. tt), tt))))
+    (closed_groups b (zero_statements Reached) (length c.bounds) (λ i l. ((λ t. tt), tt))))
+    ((λ t. tt), tt)
+
+mean_needs : (c : Numbers) (i : ℕ) → i < length c.bounds → AreClosed (is_needed c) (mean_statements i)
+mean_needs c i l = ((λ n. ((n, (refl, n)), any_there (is_row_needed c) (length c.bounds) i l n)), tt)
+
+fast_move_needs : (c : Numbers) (i : ℕ) → AreClosed (is_needed c) (fast_move_statements c i)
+fast_move_needs c i =
+    ((λ n. (n, (refl, lowered_needs (is_needed c) (variable RowSum i) (c.fraction_bits - row_bits c i) n))), ((λ n. n), ((λ n. n), ((λ n. n), ((λ n. (n, (refl, n))), tt)))))
+
+fast_body_needs : (c : Numbers) → AreClosed (is_needed c) (fast_body c)
+fast_body_needs c =
+    let b = is_needed c in
+    let e = divisor_statement ∷ [] in
+    let l = groups mean_statements (length c.bounds) in
+    let d = groups (difference_statements c) (length c.bounds) in
+    let u = groups (entry_statements c) (length c.offsets) in
+    let s = groups weighted_sum_statements (length c.offsets) in
+    let r = groups (fast_row_statements c) (length c.bounds) in
+    closed_append b (e ++ l ++ d ++ u ++ s ++ r) (next_weight ∷ [])
+    (closed_append b (e ++ l ++ d ++ u ++ s) r
+    (closed_append b (e ++ l ++ d ++ u) s
+    (closed_append b (e ++ l ++ d) u
+    (closed_append b (e ++ l) d
+    (closed_append b e l ((λ t. ((refl, tt), (refl, tt))), tt) (closed_groups b mean_statements (length c.bounds) (mean_needs c)))
+    (differences_need c))
+    (entries_need c))
+    (closed_groups b weighted_sum_statements (length c.offsets) (λ j m. ((λ t. (refl, (refl, refl))), tt))))
+    (closed_groups b (fast_row_statements c) (length c.bounds) (λ i m. row_needs_by c i (fast_move_statements c i) m (fast_move_needs c i))))
+    ((λ t. (refl, tt)), tt)
+
+pub fast_program_closed : (c : Numbers) → IsClosed (is_needed c) (whole_fast_program c)
+fast_program_closed c = record { before = fast_before_needs c; body = fast_body_needs c }
 
 pub outputs_needed : (c : Numbers) (js : List ℕ) → AreNeeded (is_needed c) (map (variable Sum) js)
 outputs_needed c [] = tt
