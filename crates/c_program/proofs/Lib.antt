@@ -26,3 +26,4 @@ pub mod ProgramTexts
 pub mod ShortTexts
 -- ---- a worked program
 pub mod Worked
+pub mod FastWorked

@@ -6,5 +6,6 @@ pub mod FastOf
 pub mod Text
 pub mod Laws
 pub mod Worked
+pub mod FastWorked
 pub mod Terms
 pub mod Measured

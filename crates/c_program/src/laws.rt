@@ -1,6 +1,7 @@
 // What the program of a controller does.
 ghost use Rattle.c_program.specs.Laws.{ExpressionTextLaw, ProgramLaw, ProgramTextLaw, ShortTextLaw, StatementTextLaw};
 ghost use Rattle.c_program.specs.Worked.{WorkedLines};
+ghost use Rattle.c_program.specs.FastWorked.{FastWorkedLines};
 
 /// The program of a controller of at most 64 bits, run from a state of its box, is defined by C throughout and puts out the averaged plan's numerators, and of these the
 /// averaged first inputs. From any other state it answers the first coordinate outside.
@@ -32,4 +33,9 @@ pub fn short_text_law()
 /// The lines of a worked program.
 pub fn worked_lines()
     ensures { WorkedLines }
+{}
+
+/// And those of one of the accelerated machine.
+pub fn fast_worked_lines()
+    ensures { FastWorkedLines }
 {}

@@ -1,0 +1,12 @@
+-- The worked program of the accelerated machine, as the definitions compute it.
+use Rattle.std.proofs.Common.{refl}
+use Rattle.std.specs.Fmt.{digits}
+use Rattle.std.specs.Int.Count.{count_trailing_zeros}
+use Rattle.overflow_check.specs.FastMachine.{all_weights}
+use Rattle.c_program.specs.Syntax.{groups}
+use Rattle.c_program.specs.Of.{are_multiples, shared_bits, partner, is_first, is_second, any_below, is_row_needed, is_coordinate_needed}
+use Rattle.c_program.specs.FastWorked.{FastWorkedLines}
+
+pub fast_worked_lines : FastWorkedLines
+unfolding groups are_multiples shared_bits partner is_first is_second any_below is_row_needed is_coordinate_needed digits count_trailing_zeros all_weights
+fast_worked_lines = refl
