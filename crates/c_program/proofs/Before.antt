@@ -8,23 +8,24 @@ use Rattle.std.proofs.Math.IntN.{*ℤ_comm}
 use Rattle.integer_algebra.specs.Sums.{at}
 use Rattle.qp_model.specs.machine.Controller.{Numbers}
 use Rattle.qp_model.specs.machine.Machine.{loaded}
-use Rattle.qp_model.specs.machine.AbsoluteSums.{state_magnitudes, sum_magnitude}
+use Rattle.qp_model.specs.machine.AbsoluteSums.{state_magnitudes}
 use Rattle.qp_model.specs.machine.ValuesMet.{FitsWidth}
 use Rattle.qp_model.proofs.AbsoluteLaws.{le_times_pow}
 use Rattle.qp_model.proofs.MagnitudeLaws.{get_or-le-greatest}
 use Rattle.overflow_check.proofs.ValuesMet.{fits_width}
 use Rattle.c_program.specs.Syntax.{Variable, Kind, bits_of, Statement, groups}
 use Rattle.c_program.specs.Syntax.Kind.{Narrow, Wide}
-use Rattle.c_program.specs.Syntax.Family.{State, Loaded, EntryBase, RowBase, Multiplier, Sum}
+use Rattle.c_program.specs.Syntax.Family.{State, Loaded, EntryBase, RowBase, Multiplier, Sum, Own, Reached, Weight}
 use Rattle.c_program.specs.Meaning.{Environment, with_value, new_value, variable_of, HasOperands, done, begun}
-use Rattle.c_program.specs.Of.{state_top, multiplier_top, kind_for, kind_of, loaded_statements, entry_base_statements, row_base_statements, zero_statements, before_of}
+use Rattle.c_program.specs.Of.{Sizes, state_top, multiplier_top, kind_for, kind_by, loaded_statements, entry_base_statements, row_base_statements, zero_statements, before_of}
+use Rattle.c_program.specs.FastOf.{first_weight, fast_before_of}
 use Rattle.c_program.proofs.Runs.{Runs, runs_none, runs_first, runs_append, runs_groups}
 use Rattle.c_program.proofs.Terms.{fits64, kind_fits}
 use Rattle.c_program.proofs.Parts.{Ready, entry_base, row_base, entry_base_made, row_base_made}
 
 -- ---- one statement
-abbrev pub kinds : Numbers → Variable → Kind
-kinds c v = kind_of c v.family v.number
+abbrev pub kinds : Numbers → Sizes → Variable → Kind
+kinds c sizes v = kind_by c sizes v.family v.number
 
 pub runs_one : (kind : Variable → Kind) (e : Environment) (s : Statement) (z : ℤ) (P : Environment → Type 0) → HasOperands e s → new_value e s ≡ z →
     FitsWidth (bits_of (kind (variable_of s))) z → P (with_value e (variable_of s) z) → Runs kind e (s ∷ []) P
@@ -85,8 +86,8 @@ zero_fits top =
 loaded_at : (xs : List ℤ) (q : ℤ) (k : ℕ) → k < length (map (λ x. x *ℤ q) xs) → q *ℤ at xs k ≡ at (map (λ x. x *ℤ q) xs) k
 loaded_at xs q k l = *ℤ_comm q (at xs k) ∙ sym (get_or-map (λ x. x *ℤ q) xs k (pos 0) (pos 0) (omega (arith, l, length-map xs (λ x. x *ℤ q))))
 
-load_runs : (c : Numbers) (xi : List ℤ) (k : ℕ) (e : Environment) → Ready c (loaded c xi) → k < c.states → Begins c xi k 0 0 0 0 e → Runs (kinds c) e (loaded_statements c k) (Begins c xi (suc k) 0 0 0 0)
-load_runs c xi k e r l b =
+load_runs : (c : Numbers) (sizes : Sizes) (xi : List ℤ) (k : ℕ) (e : Environment) → Ready c (loaded c xi) → k < c.states → Begins c xi k 0 0 0 0 e → Runs (kinds c sizes) e (loaded_statements c k) (Begins c xi (suc k) 0 0 0 0)
+load_runs c sizes xi k e r l b =
     let h = c.fraction_bits - c.grid_bits in
     let q = pos (2 ^ h) in
     let x = e State k in
@@ -95,54 +96,104 @@ load_runs c xi k e r l b =
     let small : unsigned_abs (q *ℤ x) ≤ state_top c k = rw is (r.within.each k) in
     let size : unsigned_abs (q *ℤ x) ≡ 2 ^ h * unsigned_abs x = unsigned_abs-mul q x in
     let factor : unsigned_abs x ≤ 2 ^ h * unsigned_abs x = omega (arith, le_times_pow (unsigned_abs x) h) in
-    runs_one (kinds c) e _ (at (loaded c xi) k) (Begins c xi (suc k) 0 0 0 0)
+    runs_one (kinds c sizes) e _ (at (loaded c xi) k) (Begins c xi (suc k) 0 0 0 0)
     (pow_below h 63 (omega (arith, r.short)), fits64 x (omega (arith, small, size, factor, top)), fits64 (q *ℤ x) (omega (arith, small, top))) is
     (kind_fits (state_top c k) (at (loaded c xi) k) (r.within.each k) top)
     (record { state = b.state; inputs = put (e Loaded) (at (loaded c xi)) k _ refl b.inputs; entries = b.entries; rows = b.rows; multipliers = b.multipliers; sums = b.sums })
 
 -- ---- what the state adds
-entry_base_runs : (c : Numbers) (xi : List ℤ) (j : ℕ) (e : Environment) → Ready c (loaded c xi) → j < length c.offsets → Begins c xi c.states j 0 0 0 e →
-    Runs (kinds c) e (entry_base_statements c j) (Begins c xi c.states (suc j) 0 0 0)
-entry_base_runs c xi j e r l b =
+entry_base_runs : (c : Numbers) (sizes : Sizes) (xi : List ℤ) (j : ℕ) (e : Environment) → Ready c (loaded c xi) → j < length c.offsets → Begins c xi c.states j 0 0 0 e →
+    Runs (kinds c sizes) e (entry_base_statements c j) (Begins c xi c.states (suc j) 0 0 0)
+entry_base_runs c sizes xi j e r l b =
     let m = entry_base_made c (loaded c xi) e j r l b.inputs in
-    runs_one (kinds c) e _ (entry_base c (loaded c xi) j) (Begins c xi c.states (suc j) 0 0 0) m.defined m.is
+    runs_one (kinds c sizes) e _ (entry_base c (loaded c xi) j) (Begins c xi c.states (suc j) 0 0 0) m.defined m.is
     (fits64 _ (omega (arith, m.within, r.fit.entries j l)))
     (record { state = b.state; inputs = b.inputs; entries = put (e EntryBase) (entry_base c (loaded c xi)) j _ refl b.entries; rows = b.rows; multipliers = b.multipliers; sums = b.sums })
 
-row_base_runs : (c : Numbers) (xi : List ℤ) (i : ℕ) (e : Environment) → Ready c (loaded c xi) → i < length c.bounds → Begins c xi c.states (length c.offsets) i 0 0 e →
-    Runs (kinds c) e (row_base_statements c i) (Begins c xi c.states (length c.offsets) (suc i) 0 0)
-row_base_runs c xi i e r l b =
+row_base_runs : (c : Numbers) (sizes : Sizes) (xi : List ℤ) (i : ℕ) (e : Environment) → Ready c (loaded c xi) → i < length c.bounds → Begins c xi c.states (length c.offsets) i 0 0 e →
+    Runs (kinds c sizes) e (row_base_statements c i) (Begins c xi c.states (length c.offsets) (suc i) 0 0)
+row_base_runs c sizes xi i e r l b =
     let m = row_base_made c (loaded c xi) e i r l b.inputs in
-    runs_one (kinds c) e _ (row_base c (loaded c xi) i) (Begins c xi c.states (length c.offsets) (suc i) 0 0) m.defined m.is
+    runs_one (kinds c sizes) e _ (row_base c (loaded c xi) i) (Begins c xi c.states (length c.offsets) (suc i) 0 0) m.defined m.is
     (fits64 _ (omega (arith, m.within, r.fit.rows i l)))
     (record { state = b.state; inputs = b.inputs; entries = b.entries; rows = put (e RowBase) (row_base c (loaded c xi)) i _ refl b.rows; multipliers = b.multipliers; sums = b.sums })
 
 -- ---- zeros
-multiplier_runs : (c : Numbers) (xi : List ℤ) (i : ℕ) (e : Environment) → Begins c xi c.states (length c.offsets) (length c.bounds) i 0 e →
-    Runs (kinds c) e (zero_statements Multiplier i) (Begins c xi c.states (length c.offsets) (length c.bounds) (suc i) 0)
-multiplier_runs c xi i e b =
-    runs_one (kinds c) e _ (pos 0) (Begins c xi c.states (length c.offsets) (length c.bounds) (suc i) 0) (omega arith) refl (zero_fits (multiplier_top c i))
+multiplier_runs : (c : Numbers) (sizes : Sizes) (xi : List ℤ) (i : ℕ) (e : Environment) → Begins c xi c.states (length c.offsets) (length c.bounds) i 0 e →
+    Runs (kinds c sizes) e (zero_statements Multiplier i) (Begins c xi c.states (length c.offsets) (length c.bounds) (suc i) 0)
+multiplier_runs c sizes xi i e b =
+    runs_one (kinds c sizes) e _ (pos 0) (Begins c xi c.states (length c.offsets) (length c.bounds) (suc i) 0) (omega arith) refl (zero_fits (multiplier_top c i))
     (record { state = b.state; inputs = b.inputs; entries = b.entries; rows = b.rows; multipliers = put (e Multiplier) (λ k. pos 0) i _ refl b.multipliers; sums = b.sums })
 
-sum_runs : (c : Numbers) (xi : List ℤ) (j : ℕ) (e : Environment) → Begins c xi c.states (length c.offsets) (length c.bounds) (length c.bounds) j e →
-    Runs (kinds c) e (zero_statements Sum j) (Begins c xi c.states (length c.offsets) (length c.bounds) (length c.bounds) (suc j))
-sum_runs c xi j e b =
-    runs_one (kinds c) e _ (pos 0) (Begins c xi c.states (length c.offsets) (length c.bounds) (length c.bounds) (suc j)) (omega arith) refl (zero_fits (sum_magnitude c j))
+sum_runs : (c : Numbers) (sizes : Sizes) (xi : List ℤ) (j : ℕ) (e : Environment) → Begins c xi c.states (length c.offsets) (length c.bounds) (length c.bounds) j e →
+    Runs (kinds c sizes) e (zero_statements Sum j) (Begins c xi c.states (length c.offsets) (length c.bounds) (length c.bounds) (suc j))
+sum_runs c sizes xi j e b =
+    runs_one (kinds c sizes) e _ (pos 0) (Begins c xi c.states (length c.offsets) (length c.bounds) (length c.bounds) (suc j)) (omega arith) refl (zero_fits (sizes.sum j))
     (record { state = b.state; inputs = b.inputs; entries = b.entries; rows = b.rows; multipliers = b.multipliers; sums = put (e Sum) (λ k. pos 0) j _ refl b.sums })
 
 -- ---- all
-pub before_runs : (c : Numbers) (xi : List ℤ) → Ready c (loaded c xi) →
-    Runs (kinds c) (begun xi) (before_of c) (Begins c xi c.states (length c.offsets) (length c.bounds) (length c.bounds) (length c.offsets))
-before_runs c xi r =
+pub before_runs : (c : Numbers) (sizes : Sizes) (xi : List ℤ) → Ready c (loaded c xi) →
+    Runs (kinds c sizes) (begun xi) (before_of c) (Begins c xi c.states (length c.offsets) (length c.bounds) (length c.bounds) (length c.offsets))
+before_runs c sizes xi r =
     let n = c.states in
     let p = length c.offsets in
     let m = length c.bounds in
-    let one = runs_groups (kinds c) (loaded_statements c) (λ k. Begins c xi k 0 0 0 0) n (begun xi) (begun_holds c xi) (λ k t l h. load_runs c xi k t r l h) in
-    let two = runs_append (kinds c) (begun xi) _ (groups (entry_base_statements c) p) (Begins c xi n 0 0 0 0) (Begins c xi n p 0 0 0) one
-    (λ e b. runs_groups (kinds c) (entry_base_statements c) (λ k. Begins c xi n k 0 0 0) p e b (λ k t l h. entry_base_runs c xi k t r l h)) in
-    let three = runs_append (kinds c) (begun xi) _ (groups (row_base_statements c) m) (Begins c xi n p 0 0 0) (Begins c xi n p m 0 0) two
-    (λ e b. runs_groups (kinds c) (row_base_statements c) (λ k. Begins c xi n p k 0 0) m e b (λ k t l h. row_base_runs c xi k t r l h)) in
-    let four = runs_append (kinds c) (begun xi) _ (groups (zero_statements Multiplier) m) (Begins c xi n p m 0 0) (Begins c xi n p m m 0) three
-    (λ e b. runs_groups (kinds c) (zero_statements Multiplier) (λ k. Begins c xi n p m k 0) m e b (λ k t l h. multiplier_runs c xi k t h)) in
-    runs_append (kinds c) (begun xi) _ (groups (zero_statements Sum) p) (Begins c xi n p m m 0) (Begins c xi n p m m p) four
-    (λ e b. runs_groups (kinds c) (zero_statements Sum) (λ k. Begins c xi n p m m k) p e b (λ k t l h. sum_runs c xi k t h))
+    let one = runs_groups (kinds c sizes) (loaded_statements c) (λ k. Begins c xi k 0 0 0 0) n (begun xi) (begun_holds c xi) (λ k t l h. load_runs c sizes xi k t r l h) in
+    let two = runs_append (kinds c sizes) (begun xi) _ (groups (entry_base_statements c) p) (Begins c xi n 0 0 0 0) (Begins c xi n p 0 0 0) one
+    (λ e b. runs_groups (kinds c sizes) (entry_base_statements c) (λ k. Begins c xi n k 0 0 0) p e b (λ k t l h. entry_base_runs c sizes xi k t r l h)) in
+    let three = runs_append (kinds c sizes) (begun xi) _ (groups (row_base_statements c) m) (Begins c xi n p 0 0 0) (Begins c xi n p m 0 0) two
+    (λ e b. runs_groups (kinds c sizes) (row_base_statements c) (λ k. Begins c xi n p k 0 0) m e b (λ k t l h. row_base_runs c sizes xi k t r l h)) in
+    let four = runs_append (kinds c sizes) (begun xi) _ (groups (zero_statements Multiplier) m) (Begins c xi n p m 0 0) (Begins c xi n p m m 0) three
+    (λ e b. runs_groups (kinds c sizes) (zero_statements Multiplier) (λ k. Begins c xi n p m k 0) m e b (λ k t l h. multiplier_runs c sizes xi k t h)) in
+    runs_append (kinds c sizes) (begun xi) _ (groups (zero_statements Sum) p) (Begins c xi n p m m 0) (Begins c xi n p m m p) four
+    (λ e b. runs_groups (kinds c sizes) (zero_statements Sum) (λ k. Begins c xi n p m m k) p e b (λ k t l h. sum_runs c sizes xi k t h))
+
+-- ---- those of the accelerated machine
+pub record FastBegins (c : Numbers) (xi : List ℤ) (f g : ℕ) (e : Environment) : Type 0 where
+  pub plain : Begins c xi c.states (length c.offsets) (length c.bounds) (length c.bounds) (length c.offsets) e
+  pub own : (i : ℕ) → i < f → e Own i ≡ pos 0
+  pub reached : (i : ℕ) → i < g → e Reached i ≡ pos 0
+
+own_runs : (c : Numbers) (sizes : Sizes) (xi : List ℤ) (i : ℕ) (e : Environment) → FastBegins c xi i 0 e → Runs (kinds c sizes) e (zero_statements Own i) (FastBegins c xi (suc i) 0)
+own_runs c sizes xi i e b =
+    let p = b.plain in
+    runs_one (kinds c sizes) e _ (pos 0) (FastBegins c xi (suc i) 0) (omega arith) refl (zero_fits (sizes.own i))
+    (record {
+      plain = record { state = p.state; inputs = p.inputs; entries = p.entries; rows = p.rows; multipliers = p.multipliers; sums = p.sums };
+      own = put (e Own) (λ k. pos 0) i _ refl b.own;
+      reached = b.reached;
+    })
+
+reached_runs : (c : Numbers) (sizes : Sizes) (xi : List ℤ) (i : ℕ) (e : Environment) → FastBegins c xi (length c.bounds) i e →
+    Runs (kinds c sizes) e (zero_statements Reached i) (FastBegins c xi (length c.bounds) (suc i))
+reached_runs c sizes xi i e b =
+    let p = b.plain in
+    runs_one (kinds c sizes) e _ (pos 0) (FastBegins c xi (length c.bounds) (suc i)) (omega arith) refl (zero_fits sizes.reached)
+    (record {
+      plain = record { state = p.state; inputs = p.inputs; entries = p.entries; rows = p.rows; multipliers = p.multipliers; sums = p.sums };
+      own = b.own;
+      reached = put (e Reached) (λ k. pos 0) i _ refl b.reached;
+    })
+
+-- the first step's weight, too
+abbrev pub FastBegun : (c : Numbers) (xi : List ℤ) → Environment → Type 0
+FastBegun c xi e = FastBegins c xi (length c.bounds) (length c.bounds) e × (e Weight 0 ≡ pos 2)
+
+pub fast_before_runs : (c : Numbers) (sizes : Sizes) (xi : List ℤ) → Ready c (loaded c xi) → Runs (kinds c sizes) (begun xi) (fast_before_of c) (FastBegun c xi)
+fast_before_runs c sizes xi r =
+    let m = length c.bounds in
+    let plain : Runs (kinds c sizes) (begun xi) (before_of c) (FastBegins c xi 0 0) =
+    (let b = before_runs c sizes xi r in record { defined = b.defined; ends = record { plain = b.ends; own = λ k l. absurd (omega (arith, l)); reached = λ k l. absurd (omega (arith, l)) } }) in
+    let one = runs_append (kinds c sizes) (begun xi) _ (groups (zero_statements Own) m) (FastBegins c xi 0 0) (FastBegins c xi m 0) plain
+    (λ e b. runs_groups (kinds c sizes) (zero_statements Own) (λ k. FastBegins c xi k 0) m e b (λ k t l h. own_runs c sizes xi k t h)) in
+    let two = runs_append (kinds c sizes) (begun xi) _ (groups (zero_statements Reached) m) (FastBegins c xi m 0) (FastBegins c xi m m) one
+    (λ e b. runs_groups (kinds c sizes) (zero_statements Reached) (λ k. FastBegins c xi m k) m e b (λ k t l h. reached_runs c sizes xi k t h)) in
+    runs_append (kinds c sizes) (begun xi) _ (first_weight ∷ []) (FastBegins c xi m m) (FastBegun c xi) two (λ e b. let p = b.plain in
+    runs_one (kinds c sizes) e first_weight (pos 2) (FastBegun c xi) (omega arith) refl (fits_width 32 (pos 2) (omega arith)) (
+      record {
+        plain = record { state = p.state; inputs = p.inputs; entries = p.entries; rows = p.rows; multipliers = p.multipliers; sums = p.sums };
+        own = b.own;
+        reached = b.reached;
+      },
+      refl,
+    ))

@@ -10,6 +10,7 @@ pub mod Pairs
 pub mod Parts
 -- ---- runs
 pub mod Before
+pub mod Planning
 pub mod Step
 pub mod Box
 pub mod Rounding

@@ -1,5 +1,5 @@
 -- Expressions that C defines, with their values and how great these are at most.
-use Rattle.std.proofs.Common.{◌≡◌, ℕ, zero, suc, ◌+◌, ◌*◌, ◌/◌, ◌^◌, ◌<◌, ◌≤◌, min, ltb, ℤ, pos, negsuc, ◌+ℤ◌, ◌-ℤ◌, ◌*ℤ◌, unsigned_abs, refl, sym, ap, subst, ◌∙◌, arith, le_refl, inl, inr}
+use Rattle.std.proofs.Common.{◌≡◌, ℕ, zero, suc, ◌+◌, ◌*◌, ◌/◌, ◌^◌, ◌<◌, ◌≤◌, min, ltb, ℤ, pos, negsuc, ◌+ℤ◌, ◌-ℤ◌, ◌*ℤ◌, ◌≤ℤ◌, ◌<ℤ◌, unsigned_abs, int_div, refl, sym, ap, subst, ◌∙◌, arith, le_refl, inl, inr}
 use Rattle.std.proofs.lemmas.Int.{ints, unsigned_abs-mul}
 use Rattle.std.proofs.lemmas.Nat.{mul-le, div_below, pow_below}
 use Rattle.std.proofs.lemmas.Bool.{cond_both, ltb-true, ltb-false, cases_lt}
@@ -12,7 +12,7 @@ use Rattle.qp_model.proofs.AbsoluteLaws.{abs-floor_le}
 use Rattle.overflow_check.proofs.ValuesMet.{fits_width}
 use Rattle.c_program.specs.Syntax.{Variable, bits_of, Expression}
 use Rattle.c_program.specs.Syntax.Kind.{Narrow, Wide}
-use Rattle.c_program.specs.Syntax.Expression.{Constant, Value, Plus, Minus, Times, Shifted}
+use Rattle.c_program.specs.Syntax.Expression.{Constant, Value, Plus, Minus, Times, Over, Shifted}
 use Rattle.c_program.specs.Meaning.{Environment, held, value, IsDefined}
 use Rattle.c_program.specs.Of.{kind_for, plus_product, plus_products}
 
@@ -64,6 +64,25 @@ makes_shifted e a z most k h l = record {
   defined = (h.defined, l);
   is = ap (λ (x : ℤ). floor_of x (2 ^ k)) h.is;
   within = omega (arith, abs-floor_le z (2 ^ k), h.within);
+}
+
+-- two expressions' product
+pub makes_multiplied : (e : Environment) (a b : Expression) (x y : ℤ) (m n most : ℕ) → Makes e a x m → Makes e b y n → unsigned_abs (x *ℤ y) ≤ most → most < 2 ^ 63 → Makes e (Times a b) (x *ℤ y) most
+makes_multiplied e a b x y m n most h k within room =
+    let is : value e a *ℤ value e b ≡ x *ℤ y = rw (h.is, k.is) refl in
+    record { defined = (h.defined, k.defined, subst (FitsWidth 64) (sym is) (fits64 (x *ℤ y) (omega (arith, within, room)))); is = is; within = within }
+
+-- C's quotient of a number from 0 on, by one above 0, is the floor
+quotient_floor : (z : ℤ) (d : ℕ) → pos 0 ≤ℤ z → int_div z (pos d) ≡ floor_of z d
+quotient_floor (pos a) d h = refl
+quotient_floor (negsuc a) d h = absurd (omega (arith, ints, h))
+
+pub makes_over : (e : Environment) (a : Expression) (v : Variable) (z : ℤ) (most d : ℕ) → Makes e a z most → held e v ≡ pos d → 0 < d → d < 2 ^ 63 → pos 0 ≤ℤ z →
+    Makes e (Over a v) (floor_of z d) most
+makes_over e a v z most d h is low high sign = record {
+  defined = (h.defined, subst (FitsWidth 64) (sym is) (fits64 (pos d) (omega (arith, high))), subst (λ (y : ℤ). pos 0 <ℤ y) (sym is) (omega (arith, ints, low)));
+  is = (λ i. int_div (h.is i) (is i)) ∙ quotient_floor z d sign;
+  within = omega (arith, abs-floor_le z d, h.within);
 }
 
 -- ---- sums of products
