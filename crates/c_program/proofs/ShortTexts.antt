@@ -1,5 +1,5 @@
 -- Each number that the text of a controller's program shows is below 2^64.
-use Rattle.std.proofs.Common.{◌≡◌, ℕ, zero, suc, ◌+◌, ◌-◌, ◌*◌, ◌^◌, ◌<◌, ◌≤◌, ◌==◌, ltb, Bool, true, if◌then◌else◌, get_or, ℤ, pos, ◌*ℤ◌, List, [], ◌∷◌, ◌++◌, length, map, sym, subst, arith}
+use Rattle.std.proofs.Common.{◌≡◌, ℕ, zero, suc, ◌+◌, ◌-◌, ◌*◌, ◌^◌, ◌<◌, ◌≤◌, ◌==◌, ltb, Bool, true, if◌then◌else◌, get_or, ℤ, pos, ◌*ℤ◌, List, [], ◌∷◌, ◌++◌, length, map, sym, subst, refl, arith}
 use Rattle.std.specs.Prelude.{All}
 use Rattle.std.specs.List.{range_with_len}
 use Rattle.std.specs.Int.{w32, trailing_zeros}
@@ -10,24 +10,26 @@ use Rattle.std.proofs.lemmas.List.Elements.{All-nil, All-cons, All-head, All-tai
 use Rattle.std.proofs.lemmas.List.FromFn.{length-range_with_len, get_or-range_with_len, length-map-range_with_len, get_or-map-range_with_len}
 use Rattle.integer_algebra.specs.Sums.{at}
 use Rattle.mat_int.specs.Matrix.{row_of}
-use Rattle.qp_model.specs.problem.Limits.{most_states, most_stages}
 use Rattle.qp_model.specs.problem.Range.{IsNumerator}
-use Rattle.qp_model.specs.machine.Controller.{Numbers}
-use Rattle.qp_model.specs.machine.Machine.{IsAdmissible, averaged_plan, top_of}
-use Rattle.qp_model.specs.machine.AbsoluteSums.{IsController}
-use Rattle.c_program.specs.Syntax.{Variable, variable, Kind, Expression, Statement, groups}
-use Rattle.c_program.specs.Syntax.Family.{Loaded, RowBase, Multiplier, Entry, RowSum, Moved, Sum, Output}
-use Rattle.c_program.specs.Syntax.Expression.{Constant, Value, Plus, Minus, Times, Quotient, Remainder, Shifted}
+use Rattle.qp_model.specs.machine.Controller.{Numbers, IsSized}
+use Rattle.qp_model.specs.machine.Machine.{IsAdmissible, top_of}
+use Rattle.overflow_check.specs.FastMachine.{all_weights, fast_top}
+use Rattle.overflow_check.specs.FastController.{with_last_version}
+use Rattle.overflow_check.specs.declared.machine.Machine.TheVariants.{Plain}
+use Rattle.overflow_check.proofs.Machines.{shared}
+use Rattle.c_program.specs.Syntax.{Family, Variable, variable, Kind, Expression, Statement, groups, CProgram}
+use Rattle.c_program.specs.Syntax.Family.{Loaded, RowBase, Multiplier, Entry, RowSum, Moved, Sum, Output, Own, Reached}
+use Rattle.c_program.specs.Syntax.Expression.{Constant, Value, Plus, Minus, Times, Quotient, Remainder, Over, Shifted}
 use Rattle.c_program.specs.Syntax.Statement.{Declare, Assign, AtLeastZero, AtMost}
 use Rattle.c_program.specs.Meaning.{Environment, IsDefined, variable_of, done, IsDone, AreDone, handed, AreAveraged}
-use Rattle.c_program.specs.Needed.{left_in}
-use Rattle.c_program.specs.Of.{state_top, multiplier_top, entry_top, row_bits, plan_factor, lowered_base, plus_plan, partner, is_first, is_second, loaded_statements, entry_base_statements, row_base_statements, zero_statements, before_of, difference_statements, gain_of, gain_variable, entry_statements, sum_statements, gradient_statements, row_expression, row_sum_statements, moved_expression, move_statements, row_statements, repetition_body, average_expression, shifted_average, divided_average, is_needed, program_of}
-use Rattle.c_program.specs.Laws.{HasShortNumbers, HasShortOperands, ShortTextLaw}
+use Rattle.c_program.specs.Needed.{left_in, needed_part}
+use Rattle.c_program.specs.Of.{state_top, multiplier_top, entry_top, row_bits, plan_factor, lowered_base, plus_plan, partner, is_first, is_second, loaded_statements, entry_base_statements, row_base_statements, zero_statements, before_of, difference_statements, gain_of, gain_variable, entry_statements, sum_statements, gradient_statements, row_expression, row_sum_statements, moved_expression, move_statements, row_statements, repetition_body, average_of, shifted_average, divided_average, is_needed}
+use Rattle.c_program.specs.FastOf.{first_weight, fast_before_of, divisor_statement, mean_statements, weighted_sum_statements, fast_moved_expression, reached_expression, fast_move_statements, fast_row_statements, next_weight, fast_body}
+use Rattle.c_program.specs.Laws.{HasShortNumbers, HasShortOperands, HasShortText, SolvesTo, ShortTextLaw, FastShortTextLaw, ProgramLaw, FastProgramLaw}
 use Rattle.c_program.proofs.Runs.{groups_none, groups_more}
 use Rattle.c_program.proofs.Pairs.{pair_there, later_there}
 use Rattle.c_program.proofs.LeftIn.{ReadsNeeded}
 use Rattle.c_program.proofs.ProgramNeeds.{products_need, lowered_needs}
-use Rattle.c_program.proofs.ProgramLaw.{solves}
 
 -- ---- what C defines has short constants
 abbrev small : Variable → Bool
@@ -44,6 +46,7 @@ defined_short e (Minus a b) d r = (defined_short e a d.0 r.0, defined_short e b 
 defined_short e (Times a b) d r = (defined_short e a d.0 r.0, defined_short e b d.1 r.1)
 defined_short e (Quotient a k) d r = (defined_short e a d.0 r, omega (arith, d.2))
 defined_short e (Remainder a k) d r = (defined_short e a d.0 r, omega (arith, d.2))
+defined_short e (Over a v) d r = (defined_short e a d.0 r.0, ltb-true v.number (2 ^ 64) r.1)
 defined_short e (Shifted a k) d r = (defined_short e a d.0 r, omega (arith, d.1))
 
 abbrev IsSmall : Statement → Type 0
@@ -126,20 +129,44 @@ row_expression_small c i w l =
     cond_both (is_first c i) _ _ R (λ t. (base, own)) (λ f. cond_both (is_second c i) _ _ R
     (λ t. (base, small_at (length c.bounds) (partner c i) (omega (arith, (later_there c i l t).pair.order, l)) w.rows)) (λ g. plan_small c i (lowered_base c i) w base))
 
+-- a row's statements, however its multiplier is moved
+row_small_by : (c : Numbers) (i : ℕ) (move : List Statement) → AreFew c → i < length c.bounds → All IsSmall move → All IsSmall (gradient_statements c i ++ row_sum_statements c i ++ move)
+row_small_by c i move w l h =
+    let number : i < 2 ^ 64 = omega (arith, l, w.rows) in
+    All-append IsSmall (gradient_statements c i ++ row_sum_statements c i) move
+    (All-append IsSmall (gradient_statements c i) (row_sum_statements c i)
+    (where_first (is_first c i) _ (λ t. (number, plan_small c i (Constant (pos 0)) w tt)))
+    (one _ (number, row_expression_small c i w l))) h
+
+-- what is moved is declared, clamped, and put back
+clamped_small : (v : Variable) (e : Expression) (top : ℤ) (i : ℕ) (rest : List Statement) → i < 2 ^ 64 → v.number < 2 ^ 64 → ReadsNeeded small e → All IsSmall rest →
+    All IsSmall (Declare (variable Moved i) e ∷ AtLeastZero (variable Moved i) ∷ AtMost (variable Moved i) top ∷ Assign v (Value (variable Moved i)) ∷ rest)
+clamped_small v e top i rest number there r h =
+    let t = variable Moved i in
+    let back = Assign v (Value t) ∷ rest in
+    let most = AtMost t top ∷ back in
+    let least = AtLeastZero t ∷ most in
+    All-cons IsSmall (Declare t e) least (number, r)
+    (All-cons IsSmall (AtLeastZero t) most number (All-cons IsSmall (AtMost t top) back number (All-cons IsSmall (Assign v (Value t)) rest (there, lt-ltb i (2 ^ 64) number) h)))
+
 row_small : (c : Numbers) (i : ℕ) → AreFew c → i < length c.bounds → All IsSmall (row_statements c i)
 row_small c i w l =
     let own = small_at (length c.bounds) i l w.rows in
     let number : i < 2 ^ 64 = omega (arith, l, w.rows) in
-    let t = variable Moved i in
-    let last = Assign (variable Multiplier i) (Value t) ∷ [] in
-    let most = AtMost t (top_of c i) ∷ last in
-    let least = AtLeastZero t ∷ most in
-    All-append IsSmall (gradient_statements c i ++ row_sum_statements c i) (move_statements c i)
-    (All-append IsSmall (gradient_statements c i) (row_sum_statements c i)
-    (where_first (is_first c i) _ (λ t. (number, plan_small c i (Constant (pos 0)) w tt)))
-    (one _ (number, row_expression_small c i w l)))
-    (All-cons IsSmall (Declare t (moved_expression c i)) least (number, (own, lowered_needs small (variable RowSum i) (c.fraction_bits - row_bits c i) own))
-    (All-cons IsSmall (AtLeastZero t) most number (All-cons IsSmall (AtMost t (top_of c i)) last number (one (Assign (variable Multiplier i) (Value t)) (number, own)))))
+    row_small_by c i (move_statements c i) w l
+    (clamped_small (variable Multiplier i) (moved_expression c i) (top_of c i) i [] number number (own, lowered_needs small (variable RowSum i) (c.fraction_bits - row_bits c i) own) (All-nil IsSmall))
+
+differences_small : (c : Numbers) → AreFew c → All IsSmall (groups (difference_statements c) (length c.bounds))
+differences_small c w = in_groups (difference_statements c) (length c.bounds) (λ i l. difference_small c i w l)
+
+entries_small : (c : Numbers) → AreFew c → All IsSmall (groups (entry_statements c) (length c.offsets))
+entries_small c w = in_groups (entry_statements c) (length c.offsets) (λ j l. one _ (
+  omega (arith, l, w.entries),
+  (
+    tt,
+    products_need small _ (gain_of c j) (multiplier_top c) (gain_variable c) (length c.bounds) (small_at (length c.offsets) j l w.entries) (λ i h some. small_at (length c.bounds) i h w.rows),
+  ),
+))
 
 body_small : (c : Numbers) → AreFew c → All IsSmall (repetition_body c)
 body_small c w =
@@ -149,77 +176,135 @@ body_small c w =
     let r = groups (row_statements c) (length c.bounds) in
     All-append IsSmall (d ++ u ++ s) r
     (All-append IsSmall (d ++ u) s
-    (All-append IsSmall d u (in_groups (difference_statements c) (length c.bounds) (λ i l. difference_small c i w l))
-    (in_groups (entry_statements c) (length c.offsets) (λ j l. one _ (
-      omega (arith, l, w.entries),
-      (
-        tt,
-        products_need small _ (gain_of c j) (multiplier_top c) (gain_variable c) (length c.bounds) (small_at (length c.offsets) j l w.entries) (λ i h some. small_at (length c.bounds) i h w.rows),
-      ),
-    ))))
+    (All-append IsSmall d u (differences_small c w) (entries_small c w))
     (in_groups sum_statements (length c.offsets) (λ j l. let own = small_at (length c.offsets) j l w.entries in one _ (omega (arith, l, w.entries), (own, own)))))
     (in_groups (row_statements c) (length c.bounds) (λ i l. row_small c i w l))
 
--- ---- the whole
-few : (c : Numbers) → IsController c → AreFew c
-few c sound =
-    let sized = sound.form.sized in
-    let n : most_states c.version ≤ 6 = cond_both (c.version == 1) 4 6 (λ (k : ℕ). k ≤ 6) (λ t. omega arith) (λ f. omega arith) in
-    let s : most_stages c.version ≤ 30 = cond_both (c.version == 1) 20 30 (λ (k : ℕ). k ≤ 30) (λ t. omega arith) (λ f. omega arith) in
-    record {
-      states = omega (arith, sized.states.1, n);
-      entries = omega (arith, sized.shaped.offsets, mul-le c.inputs c.stages 3 30 sized.inputs.1 (omega (arith, sized.stages.1, s)));
-      rows = omega (arith, sized.shaped.bounds, sized.rows.1, s);
-    }
+-- ---- those of the accelerated machine
+zeros_small : (c : Numbers) (f : Family) → AreFew c → All IsSmall (groups (zero_statements f) (length c.bounds))
+zeros_small c f w = in_groups (zero_statements f) (length c.bounds) (λ i m. one _ (omega (arith, m, w.rows), tt))
 
--- a state of the box
-low_corner : (c : Numbers) → IsController c → IsAdmissible c c.low
-low_corner c sound = record {
-  long = sound.form.sized.shaped.low;
-  each = λ i l. record { low = omega (arith, ints); high = sound.form.sized.box i l };
+fast_before_small : (c : Numbers) → AreFew c → All IsSmall (fast_before_of c)
+fast_before_small c w =
+    let m = groups (zero_statements Own) (length c.bounds) in
+    let v = groups (zero_statements Reached) (length c.bounds) in
+    All-append IsSmall (before_of c ++ m ++ v) (first_weight ∷ [])
+    (All-append IsSmall (before_of c ++ m) v (All-append IsSmall (before_of c) m (before_small c w) (zeros_small c Own w)) (zeros_small c Reached w))
+    (one first_weight (omega arith, tt))
+
+mean_small : (c : Numbers) (i : ℕ) → AreFew c → i < length c.bounds → All IsSmall (mean_statements i)
+mean_small c i w l = let own = small_at (length c.bounds) i l w.rows in one _ (omega (arith, l, w.rows), ((own, (refl, own)), refl))
+
+fast_row_small : (c : Numbers) (i : ℕ) → AreFew c → i < length c.bounds → All IsSmall (fast_row_statements c i)
+fast_row_small c i w l =
+    let own = small_at (length c.bounds) i l w.rows in
+    let number : i < 2 ^ 64 = omega (arith, l, w.rows) in
+    row_small_by c i (fast_move_statements c i) w l
+    (clamped_small (variable Own i) (fast_moved_expression c i) (fast_top c i) i (Assign (variable Reached i) (reached_expression i) ∷ []) number number
+    (own, (refl, lowered_needs small (variable RowSum i) (c.fraction_bits - row_bits c i) own)) (one _ (number, (own, (refl, own)))))
+
+fast_body_small : (c : Numbers) → AreFew c → All IsSmall (fast_body c)
+fast_body_small c w =
+    let e = divisor_statement ∷ [] in
+    let l = groups mean_statements (length c.bounds) in
+    let d = groups (difference_statements c) (length c.bounds) in
+    let u = groups (entry_statements c) (length c.offsets) in
+    let s = groups weighted_sum_statements (length c.offsets) in
+    let r = groups (fast_row_statements c) (length c.bounds) in
+    All-append IsSmall (e ++ l ++ d ++ u ++ s ++ r) (next_weight ∷ [])
+    (All-append IsSmall (e ++ l ++ d ++ u ++ s) r
+    (All-append IsSmall (e ++ l ++ d ++ u) s
+    (All-append IsSmall (e ++ l ++ d) u
+    (All-append IsSmall (e ++ l) d
+    (All-append IsSmall e l (one divisor_statement (omega arith, ((refl, tt), (refl, tt)))) (in_groups mean_statements (length c.bounds) (λ i h. mean_small c i w h)))
+    (differences_small c w))
+    (entries_small c w))
+    (in_groups weighted_sum_statements (length c.offsets) (λ j h. let own = small_at (length c.offsets) j h w.entries in one _ (omega (arith, h, w.entries), (own, (refl, own))))))
+    (in_groups (fast_row_statements c) (length c.bounds) (λ i h. fast_row_small c i w h)))
+    (one next_weight (omega arith, (refl, tt)))
+
+-- ---- the whole
+few : (c : Numbers) → IsSized (with_last_version c) → AreFew c
+few c sized = record {
+  states = omega (arith, sized.states.1);
+  entries = omega (arith, sized.shaped.offsets, mul-le c.inputs c.stages 3 30 sized.inputs.1 sized.stages.1);
+  rows = omega (arith, sized.shaped.bounds, sized.rows.1);
 }
 
-average_small : (c : Numbers) (j : ℕ) → j < 2 ^ 64 → ReadsNeeded small (average_expression c j)
-average_small c j l =
+-- a state of the box
+low_corner : (c : Numbers) → IsSized (with_last_version c) → IsAdmissible c c.low
+low_corner c sized = record {
+  long = sized.shaped.low;
+  each = λ i l. record { low = omega (arith, ints); high = sized.box i l };
+}
+
+average_small : (plans j : ℕ) → j < 2 ^ 64 → ReadsNeeded small (average_of plans j)
+average_small plans j l =
     let own : ltb j (2 ^ 64) ≡ true = lt-ltb j (2 ^ 64) l in
     let sum = Value (variable Output j) in
-    let k = trailing_zeros w32 c.steps in
-    cond_both (c.steps == 2 ^ k) (shifted_average sum c.steps k) (divided_average sum c.steps) (ReadsNeeded small) (λ t. (own, tt)) (λ f. ((own, ((tt, own), tt)), (tt, (tt, own))))
+    let k = trailing_zeros w32 plans in
+    cond_both (plans == 2 ^ k) (shifted_average sum plans k) (divided_average sum plans) (ReadsNeeded small) (λ t. (own, tt)) (λ f. ((own, ((tt, own), tt)), (tt, (tt, own))))
 
-averages_short : (c : Numbers) (sums : List ℤ) → c.inputs < 2 ^ 64 → AreAveraged (program_of c) sums → All HasShortNumbers (program_of c).averages
-averages_short c sums w d =
-    let new = average_expression c in
-    let es = map new (range_with_len 0 c.inputs) in
+-- the needed part of these statements before the loop and in it, with the averages of so many plans
+abbrev pub program_by : Numbers → (types : Variable → Kind) → (before body : List Statement) → (plans : ℕ) → CProgram
+program_by c types before body plans = needed_part (is_needed c) (record {
+  low = c.low;
+  high = c.high;
+  kind = types;
+  before = before;
+  body = body;
+  repetitions = c.steps;
+  outputs = map (variable Sum) (range_with_len 0 (length c.offsets));
+  averages = map (average_of plans) (range_with_len 0 c.inputs);
+})
+
+averages_short : (n plans : ℕ) (sums : List ℤ) → n < 2 ^ 64 → All (IsDefined (handed sums)) (map (average_of plans) (range_with_len 0 n)) → All HasShortNumbers (map (average_of plans) (range_with_len 0 n))
+averages_short n plans sums w d =
+    let new = average_of plans in
+    let es = map new (range_with_len 0 n) in
     All-from_get_or HasShortNumbers es (new 0) (λ j l.
-    let inside : j < c.inputs = omega (arith, l, length-map-range_with_len new 0 c.inputs) in
-    let same = get_or-map-range_with_len new 0 c.inputs j j (new 0) inside (omega arith) in
+    let inside : j < n = omega (arith, l, length-map-range_with_len new 0 n) in
+    let same = get_or-map-range_with_len new 0 n j j (new 0) inside (omega arith) in
     subst HasShortNumbers (sym same)
-    (defined_short (handed sums) (new j) (subst (IsDefined (handed sums)) same (All-get_or (IsDefined (handed sums)) es j (new 0) l d)) (average_small c j (omega (arith, inside, w)))))
+    (defined_short (handed sums) (new j) (subst (IsDefined (handed sums)) same (All-get_or (IsDefined (handed sums)) es j (new 0) l d)) (average_small plans j (omega (arith, inside, w)))))
 
 outputs_short : (js : List ℕ) → All (λ (j : ℕ). j < 2 ^ 64) js → All (λ (v : Variable). v.number < 2 ^ 64) (map (variable Sum) js)
 outputs_short js h = All-map (λ (v : Variable). v.number < 2 ^ 64) (variable Sum) js h
 
-pub short_text_law : ShortTextLaw
-short_text_law c sound narrow =
-    let sized = sound.form.sized in
-    let w = few c sound in
-    let s = solves c c.low sound narrow (low_corner c sound) in
+-- a program with a run from the lowest state of the box
+short_text : (c : Numbers) (types : Variable → Kind) (before body : List Statement) (plans : ℕ) (sums inputs : List ℤ) → IsSized (with_last_version c) → All IsSmall before → All IsSmall body →
+    SolvesTo (program_by c types before body plans) c.low sums inputs → HasShortText (program_by c types before body plans)
+short_text c types before body plans sums inputs sized first each s =
+    let w = few c sized in
     let p = length c.offsets in
-    let inputs : c.inputs < 2 ^ 64 = omega (arith, sized.inputs.1) in
+    let many : c.inputs < 2 ^ 64 = omega (arith, sized.inputs.1) in
     let range : All (λ (j : ℕ). j < 2 ^ 64) (range_with_len 0 p) =
     All-from_get_or (λ (j : ℕ). j < 2 ^ 64) (range_with_len 0 p) 0 (λ j l. range_small p j l w.entries) in
     record {
       states = omega (arith, sized.shaped.low, w.states);
       low = λ i l. omega (arith, All-get_or IsNumerator c.low i (pos 0) l sized.low);
       high = λ i l. omega (arith, All-get_or IsNumerator c.high i (pos 0) (omega (arith, l, sized.shaped.low, sized.shaped.high)) sized.high);
-      before = short_done _ _ (program_of c).before s.run.before (in_part (is_needed c) (before_of c) (before_small c w));
+      before = short_done _ _ (left_in (is_needed c) before) s.run.before (in_part (is_needed c) before first);
       repetitions = omega (arith, sized.steps.1);
-      body = short_done _ _ (program_of c).body (s.run.body 0 (omega (arith, sized.steps.0))) (in_part (is_needed c) (repetition_body c) (body_small c w));
+      body = short_done _ _ (left_in (is_needed c) body) (s.run.body 0 (omega (arith, sized.steps.0))) (in_part (is_needed c) body each);
       sums = omega (arith, length-map-range_with_len (variable Sum) 0 p, w.entries);
       outputs = outputs_short (range_with_len 0 p) range;
-      inputs = omega (arith, length-map-range_with_len (average_expression c) 0 c.inputs, inputs);
-      averages = averages_short c (averaged_plan c c.low) inputs s.averaged;
+      inputs = omega (arith, length-map-range_with_len (average_of plans) 0 c.inputs, many);
+      averages = averages_short c.inputs plans sums many s.averaged;
     }
   where
     range_small : (p j : ℕ) → j < length (range_with_len 0 p) → p < 2 ^ 64 → get_or (range_with_len 0 p) j 0 < 2 ^ 64
     range_small p j l h = let inside : j < p = omega (arith, l, length-range_with_len 0 p) in omega (arith, get_or-range_with_len 0 p j 0 inside, inside, h)
+
+-- ---- the laws, of the programs whose runs are known
+pub short_text_law : ProgramLaw → ShortTextLaw
+short_text_law law c sound narrow =
+    let sized = shared Plain c sound.form.sized in
+    let w = few c sized in
+    short_text c _ (before_of c) (repetition_body c) c.steps _ _ sized (before_small c w) (body_small c w) ((law c sound narrow).inside c.low (low_corner c sized))
+
+pub fast_short_text_law : FastProgramLaw → FastShortTextLaw
+fast_short_text_law law c sound narrow =
+    let sized = sound.form.sized.rest in
+    let w = few c sized in
+    short_text c _ (fast_before_of c) (fast_body c) (all_weights c.steps) _ _ sized (fast_before_small c w) (fast_body_small c w) ((law c sound narrow).inside c.low (low_corner c sized))

@@ -1,5 +1,5 @@
 // What the program of a controller does.
-ghost use Rattle.c_program.specs.Laws.{ExpressionTextLaw, ProgramLaw, ProgramTextLaw, ShortTextLaw, StatementTextLaw};
+ghost use Rattle.c_program.specs.Laws.{ExpressionTextLaw, FastShortTextLaw, ProgramLaw, ProgramTextLaw, ShortTextLaw, StatementTextLaw};
 ghost use Rattle.c_program.specs.Worked.{WorkedLines};
 ghost use Rattle.c_program.specs.FastWorked.{FastWorkedLines};
 
@@ -28,6 +28,11 @@ pub fn program_text_law()
 /// Each number in the text of a controller's program is below 2^64, so that the program can be told from its text.
 pub fn short_text_law()
     ensures { ShortTextLaw }
+{}
+
+/// And each in that of a controller of the accelerated machine.
+pub fn fast_short_text_law()
+    ensures { FastShortTextLaw }
 {}
 
 /// The lines of a worked program.
