@@ -12,6 +12,7 @@ pub mod Parts
 pub mod Before
 pub mod Planning
 pub mod Step
+pub mod FastStep
 pub mod Box
 pub mod Rounding
 pub mod LeftIn

@@ -322,20 +322,27 @@ row_within c state plan i r w =
     )
 
 -- ---- a multiplier before it is clamped
-pub moved_made : (c : Numbers) (state plan multipliers : List ℤ) (e : Environment) (i : ℕ) → Ready c state → i < length c.bounds → AreUpToTops c multipliers → AreWithin plan (plan_magnitudes c) →
-    unsigned_abs (lowered_sum c state plan i) ≤ row_absolute_sum c i → e RowSum i ≡ lowered_sum c state plan i → e Multiplier i ≡ at multipliers i →
-    Makes e (moved_expression c i) (at multipliers i +ℤ floor_of (row_sum c state plan i) (2 ^ c.fraction_bits)) (next_magnitude c i)
-moved_made c state plan multipliers e i r l tops w small sum old =
+-- what it is moved by
+pub residual_made : (c : Numbers) (state plan : List ℤ) (e : Environment) (i : ℕ) → Ready c state → i < length c.bounds → AreWithin plan (plan_magnitudes c) →
+    unsigned_abs (lowered_sum c state plan i) ≤ row_absolute_sum c i → e RowSum i ≡ lowered_sum c state plan i →
+    Makes e (lowered_value (variable RowSum i) (c.fraction_bits - row_bits c i)) (floor_of (row_sum c state plan i) (2 ^ c.fraction_bits)) (ceil_div (row_absolute_sum c i) (2 ^ c.fraction_bits))
+residual_made c state plan e i r l w small sum =
     let f = c.fraction_bits in
     let q = row_bits c i in
     let z = row_sum c state plan i in
-    let clamp = unsigned_abs c.clamp in
     let shifted = lowered_made e (variable RowSum i) (lowered_sum c state plan i) (row_absolute_sum c i) (f - q)
     (makes_value e (variable RowSum i) (lowered_sum c state plan i) (row_absolute_sum c i) sum small (omega (arith, r.fit.rows i l))) (omega (arith, r.short)) in
     let twice : floor_of (lowered_sum c state plan i) (2 ^ (f - q)) ≡ floor_of z (2 ^ f) =
     floor_twice z (2 ^ q) (2 ^ (f - q)) ∙ ap (floor_of z) (sym (power_split f q (row_bits_le c i))) in
     let lowered : unsigned_abs (floor_of z (2 ^ f)) ≤ ceil_div (row_absolute_sum c i) (2 ^ f) =
     omega (arith, abs-floor_le_ceil z (2 ^ f) (pow_pos f), ceil_div_mono (unsigned_abs z) (row_absolute_sum c i) (2 ^ f) (pow_pos f) (row_sum_le c state plan i r w)) in
-    makes_plus e (Value (variable Multiplier i)) (lowered_value (variable RowSum i) (f - q)) (at multipliers i) (floor_of z (2 ^ f)) clamp (ceil_div (row_absolute_sum c i) (2 ^ f))
+    record { defined = shifted.defined; is = shifted.is ∙ twice; within = lowered }
+
+pub moved_made : (c : Numbers) (state plan multipliers : List ℤ) (e : Environment) (i : ℕ) → Ready c state → i < length c.bounds → AreUpToTops c multipliers → AreWithin plan (plan_magnitudes c) →
+    unsigned_abs (lowered_sum c state plan i) ≤ row_absolute_sum c i → e RowSum i ≡ lowered_sum c state plan i → e Multiplier i ≡ at multipliers i →
+    Makes e (moved_expression c i) (at multipliers i +ℤ floor_of (row_sum c state plan i) (2 ^ c.fraction_bits)) (next_magnitude c i)
+moved_made c state plan multipliers e i r l tops w small sum old =
+    let clamp = unsigned_abs c.clamp in
+    makes_plus e _ _ _ _ clamp (ceil_div (row_absolute_sum c i) (2 ^ c.fraction_bits))
     (makes_value e (variable Multiplier i) (at multipliers i) clamp old (omega (arith, tops.each i, top_le_clamp c i)) (omega (arith, r.fit.next i l)))
-    (record { defined = shifted.defined; is = shifted.is ∙ twice; within = lowered }) (omega (arith, r.fit.next i l))
+    (residual_made c state plan e i r l w small sum) (omega (arith, r.fit.next i l))
