@@ -277,25 +277,14 @@ first_part c i needed s e =
 pub difference_part : (c : Numbers) (i : ℕ) → left_in (is_needed c) (difference_statements c i) ≡ (if is_row_needed c i then difference_statements c i else [])
 difference_part c i = first_part c i (is_needed c) (Declare (variable Difference i) (Minus (Value (variable Multiplier i)) (Value (variable Multiplier (partner c i))))) refl
 
--- a row's statements, however its multiplier is moved
-pub row_part_by : (c : Numbers) (i : ℕ) (move : List Statement) → left_in (is_needed c) move ≡ (if is_row_needed c i then move else []) →
-    left_in (is_needed c) (gradient_statements c i ++ row_sum_statements c i ++ move) ≡ (if is_row_needed c i then gradient_statements c i ++ row_sum_statements c i ++ move else [])
-row_part_by c i move h =
-    let g = gradient_statements c i in
-    let y = row_sum_statements c i in
-    let gradient = first_part c i (is_needed c) (Declare (variable Gradient i) (plus_plan c i (Constant (pos 0)))) refl in
-    let row = constant_part (is_row_needed c i) y in
-    left_in_append (is_needed c) (g ++ y) move ∙
-    (λ k. (left_in_append (is_needed c) g y ∙ (λ l. gradient l ++ row l) ∙ both_parts (is_row_needed c i) g y) k ++ h k) ∙ both_parts (is_row_needed c i) (g ++ y) move
-
 pub row_part : (c : Numbers) (i : ℕ) → left_in (is_needed c) (row_statements c i) ≡ (if is_row_needed c i then row_statements c i else [])
-row_part c i = row_part_by c i (move_statements c i) (constant_part (is_row_needed c i) (move_statements c i))
-
-pub fast_row_part : (c : Numbers) (i : ℕ) → left_in (is_needed c) (fast_row_statements c i) ≡ (if is_row_needed c i then fast_row_statements c i else [])
-fast_row_part c i = row_part_by c i (fast_move_statements c i) (constant_part (is_row_needed c i) (fast_move_statements c i))
-
-pub mean_part : (c : Numbers) (i : ℕ) → left_in (is_needed c) (mean_statements i) ≡ (if is_row_needed c i then mean_statements i else [])
-mean_part c i = constant_part (is_row_needed c i) (mean_statements i)
+row_part c i =
+    let gradient = first_part c i (is_needed c) (Declare (variable Gradient i) (plus_plan c i (Constant (pos 0)))) refl in
+    let rest = row_sum_statements c i ++ move_statements c i in
+    let move = constant_part (is_row_needed c i) rest in
+    ap (left_in (is_needed c)) (append_assoc (gradient_statements c i) (row_sum_statements c i) (move_statements c i)) ∙
+    left_in_append (is_needed c) (gradient_statements c i) rest ∙ (λ k. gradient k ++ move k) ∙ both_parts (is_row_needed c i) (gradient_statements c i) rest ∙
+    ap (λ (ss : List Statement). if is_row_needed c i then ss else []) (sym (append_assoc (gradient_statements c i) (row_sum_statements c i) (move_statements c i)))
 
 pub before_part : (c : Numbers) → left_in (is_needed c) (before_of c) ≡
     left_in (is_needed c) (groups (loaded_statements c) c.states) ++ groups (entry_base_statements c) (length c.offsets) ++ left_in (is_needed c) (groups (row_base_statements c) (length c.bounds))
@@ -326,35 +315,3 @@ body_part c =
     let sums = whole_groups b sum_statements (length c.offsets) (λ j. refl) in
     let two = left_in_append b (d ++ u) s ∙ (λ k. one k ++ sums k) in
     left_in_append b (d ++ u ++ s) r ∙ ap (λ (ss : List Statement). ss ++ left_in b r) two
-
-pub fast_before_part : (c : Numbers) → left_in (is_needed c) (fast_before_of c) ≡
-    left_in (is_needed c) (before_of c) ++ left_in (is_needed c) (groups (zero_statements Own) (length c.bounds)) ++ left_in (is_needed c) (groups (zero_statements Reached) (length c.bounds))
-    ++ first_weight ∷ []
-fast_before_part c =
-    let b = is_needed c in
-    let m = groups (zero_statements Own) (length c.bounds) in
-    let v = groups (zero_statements Reached) (length c.bounds) in
-    let one = left_in_append b (before_of c) m in
-    let two = left_in_append b (before_of c ++ m) v ∙ ap (λ (ss : List Statement). ss ++ left_in b v) one in
-    left_in_append b (before_of c ++ m ++ v) (first_weight ∷ []) ∙ ap (λ (ss : List Statement). ss ++ first_weight ∷ []) two
-
-pub fast_body_part : (c : Numbers) → left_in (is_needed c) (fast_body c) ≡
-    left_in (is_needed c) (divisor_statement ∷ []) ++ left_in (is_needed c) (groups mean_statements (length c.bounds))
-    ++ left_in (is_needed c) (groups (difference_statements c) (length c.bounds)) ++ groups (entry_statements c) (length c.offsets) ++ groups weighted_sum_statements (length c.offsets)
-    ++ left_in (is_needed c) (groups (fast_row_statements c) (length c.bounds)) ++ next_weight ∷ []
-fast_body_part c =
-    let b = is_needed c in
-    let e = divisor_statement ∷ [] in
-    let l = groups mean_statements (length c.bounds) in
-    let d = groups (difference_statements c) (length c.bounds) in
-    let u = groups (entry_statements c) (length c.offsets) in
-    let s = groups weighted_sum_statements (length c.offsets) in
-    let r = groups (fast_row_statements c) (length c.bounds) in
-    let one = left_in_append b e l in
-    let two = left_in_append b (e ++ l) d ∙ ap (λ (ss : List Statement). ss ++ left_in b d) one in
-    let entries = whole_groups b (entry_statements c) (length c.offsets) (λ j. refl) in
-    let three = left_in_append b (e ++ l ++ d) u ∙ (λ k. two k ++ entries k) in
-    let sums = whole_groups b weighted_sum_statements (length c.offsets) (λ j. refl) in
-    let four = left_in_append b (e ++ l ++ d ++ u) s ∙ (λ k. three k ++ sums k) in
-    let five = left_in_append b (e ++ l ++ d ++ u ++ s) r ∙ ap (λ (ss : List Statement). ss ++ left_in b r) four in
-    left_in_append b (e ++ l ++ d ++ u ++ s ++ r) (next_weight ∷ []) ∙ ap (λ (ss : List Statement). ss ++ next_weight ∷ []) five
