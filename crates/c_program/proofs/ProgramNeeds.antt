@@ -7,7 +7,7 @@ use Rattle.qp_model.specs.machine.Controller.{Numbers}
 use Rattle.qp_model.specs.machine.Machine.{lowering_of}
 use Rattle.qp_model.proofs.AbsoluteLaws.{abs-neg, abs-shifted}
 use Rattle.c_program.specs.Syntax.{Variable, variable, Expression, Statement, groups}
-use Rattle.c_program.specs.Syntax.Family.{Loaded, EntryBase, RowBase, Multiplier, Difference, Entry, Gradient, RowSum, Sum, Own, Reached, Divisor}
+use Rattle.c_program.specs.Syntax.Family.{Loaded, EntryBase, RowBase, Multiplier, Difference, Entry, Gradient, RowSum, Sum, Own, Reached}
 use Rattle.c_program.specs.Syntax.Expression.{Constant, Value, Plus, Minus, Times, Shifted}
 use Rattle.c_program.specs.Syntax.Statement.{Declare}
 use Rattle.c_program.specs.Meaning.{variable_of}

@@ -1,5 +1,5 @@
 -- Each number that the text of a controller's program shows is below 2^64.
-use Rattle.std.proofs.Common.{◌≡◌, ℕ, zero, suc, ◌+◌, ◌-◌, ◌*◌, ◌^◌, ◌<◌, ◌≤◌, ◌==◌, ltb, Bool, true, if◌then◌else◌, get_or, ℤ, pos, ◌*ℤ◌, List, [], ◌∷◌, ◌++◌, length, map, sym, subst, refl, arith}
+use Rattle.std.proofs.Common.{◌≡◌, ℕ, zero, suc, ◌-◌, ◌^◌, ◌<◌, ◌==◌, ltb, Bool, true, if◌then◌else◌, get_or, ℤ, pos, ◌*ℤ◌, List, [], ◌∷◌, ◌++◌, length, map, sym, subst, refl, arith}
 use Rattle.std.specs.Prelude.{All}
 use Rattle.std.specs.List.{range_with_len}
 use Rattle.std.specs.Int.{w32, trailing_zeros}
@@ -21,7 +21,7 @@ use Rattle.c_program.specs.Syntax.{Family, Variable, variable, Kind, Expression,
 use Rattle.c_program.specs.Syntax.Family.{Loaded, RowBase, Multiplier, Entry, RowSum, Moved, Sum, Output, Own, Reached}
 use Rattle.c_program.specs.Syntax.Expression.{Constant, Value, Plus, Minus, Times, Quotient, Remainder, Over, Shifted}
 use Rattle.c_program.specs.Syntax.Statement.{Declare, Assign, AtLeastZero, AtMost}
-use Rattle.c_program.specs.Meaning.{Environment, IsDefined, variable_of, done, IsDone, AreDone, handed, AreAveraged}
+use Rattle.c_program.specs.Meaning.{Environment, IsDefined, variable_of, done, IsDone, AreDone, handed}
 use Rattle.c_program.specs.Needed.{left_in, needed_part}
 use Rattle.c_program.specs.Of.{state_top, multiplier_top, entry_top, row_bits, plan_factor, lowered_base, plus_plan, partner, is_first, is_second, loaded_statements, entry_base_statements, row_base_statements, zero_statements, before_of, difference_statements, gain_of, gain_variable, entry_statements, sum_statements, gradient_statements, row_expression, row_sum_statements, moved_expression, move_statements, row_statements, repetition_body, average_of, shifted_average, divided_average, is_needed}
 use Rattle.c_program.specs.FastOf.{first_weight, fast_before_of, divisor_statement, mean_statements, weighted_sum_statements, fast_moved_expression, reached_expression, fast_move_statements, fast_row_statements, next_weight, fast_body}
