@@ -1,18 +1,17 @@
 -- One repetition of the body makes one step of the accelerated machine.
 use Rattle.std.proofs.Common.{◌≡◌, ℕ, suc, ◌+◌, ◌-◌, ◌*◌, ◌^◌, ◌<◌, ◌≤◌, ℤ, pos, ◌+ℤ◌, ◌*ℤ◌, ◌≤ℤ◌, List, [], ◌∷◌, length, map, unsigned_abs, refl, sym, ap, subst, ◌∙◌, arith, le_refl, mul-pos, inl, inr}
 use Rattle.std.specs.List.{range_with_len}
-use Rattle.std.specs.Int.{int_max, int_min}
+use Rattle.std.specs.Int.{int_max}
 use Rattle.std.proofs.lemmas.Int.{ints, unsigned_abs-mul}
 use Rattle.std.proofs.lemmas.Nat.{mul-le}
 use Rattle.std.proofs.lemmas.Bool.{cases_lt}
 use Rattle.std.proofs.lemmas.List.{get_or_past}
-use Rattle.std.proofs.lemmas.List.FromFn.{length-map-range_with_len, get_or-map-range_with_len}
+use Rattle.std.proofs.lemmas.List.FromFn.{length-map-range_with_len}
 use Rattle.integer_algebra.specs.Division.{floor_of, ceil_div}
 use Rattle.integer_algebra.specs.Sums.{at}
 use Rattle.qp_model.specs.machine.Controller.{Numbers}
 use Rattle.qp_model.specs.machine.Machine.{raised, plan_entry, row_sum}
 use Rattle.qp_model.specs.machine.AbsoluteSums.{row_absolute_sum}
-use Rattle.qp_model.specs.machine.ValuesMet.{FitsWidth}
 use Rattle.qp_model.proofs.AbsoluteLaws.{floor_nonneg}
 use Rattle.qp_model.proofs.MagnitudeLaws.{top_le_clamp}
 use Rattle.overflow_check.specs.FastMachine.{FastIterate, step_weight, all_weights, mean_divisor, fast_top, mean_at, moved_multiplier, fast_step}
@@ -20,15 +19,15 @@ use Rattle.overflow_check.specs.FastController.{moved_magnitude, reached_magnitu
 use Rattle.overflow_check.proofs.ValuesMet.{fits_width}
 use Rattle.fast_machine.specs.FastReady.{LiesUpTo, IsFastReady}
 use Rattle.fast_machine.proofs.WeightSums.{more_weights}
-use Rattle.fast_machine.proofs.FastRuns.{top_le, top_low, kept_up, mean_up, mean_le, moved_item, moved_long, added_item, made_plan_within, step_kept}
-use Rattle.fast_machine.proofs.FastSums.{FastSumsFit, weight_in, weights_with, one_weight, weight_le, tops_within, times_residual_le, moving_le}
-use Rattle.c_program.specs.Syntax.{variable, Expression, Statement, groups}
-use Rattle.c_program.specs.Syntax.Family.{EntryBase, RowBase, Multiplier, Entry, RowSum, Moved, Sum, Own, Reached, Weight, Divisor}
+use Rattle.fast_machine.proofs.FastRuns.{top_le, top_low, kept_up, mean_up, mean_le, moved_item, moved_long, added_item}
+use Rattle.fast_machine.proofs.FastSums.{FastSumsFit, weights_with, one_weight, weight_le, tops_within}
+use Rattle.c_program.specs.Syntax.{variable, Expression, groups}
+use Rattle.c_program.specs.Syntax.Family.{EntryBase, RowBase, Multiplier, Entry, Moved, Sum, Own, Reached, Weight, Divisor}
 use Rattle.c_program.specs.Syntax.Expression.{Constant, Plus, Minus, Times}
 use Rattle.c_program.specs.Syntax.Statement.{Assign}
 use Rattle.c_program.specs.Meaning.{Environment, with_value}
 use Rattle.c_program.specs.Of.{entry_top, multiplier_top, difference_statements, entry_statements}
-use Rattle.c_program.specs.FastOf.{fast_sizes, weight_value, weighted, divisor_statement, mean_expression, mean_statements, weighted_sum_statements, fast_moved_expression, reached_expression, fast_move_statements, fast_row_statements, next_weight, fast_body}
+use Rattle.c_program.specs.FastOf.{fast_sizes, weight_value, weighted, divisor_statement, mean_statements, weighted_sum_statements, fast_moved_expression, reached_expression, fast_move_statements, fast_row_statements, next_weight, fast_body}
 use Rattle.c_program.proofs.Runs.{Runs, runs_append, runs_groups, held_new}
 use Rattle.c_program.proofs.Terms.{Makes, fits64, kind_fits, makes_same, makes_constant, makes_value, makes_plus, makes_minus, makes_multiplied, makes_over}
 use Rattle.c_program.proofs.Pairs.{AreMultipliers}

@@ -17,7 +17,9 @@ pub mod Box
 pub mod Rounding
 pub mod LeftIn
 pub mod ProgramNeeds
+pub mod Solving
 pub mod ProgramLaw
+pub mod FastProgramLaw
 -- ---- the text
 pub mod Lists
 pub mod Rooms

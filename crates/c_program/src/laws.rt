@@ -1,5 +1,5 @@
 // What the program of a controller does.
-ghost use Rattle.c_program.specs.Laws.{ExpressionTextLaw, FastShortTextLaw, ProgramLaw, ProgramTextLaw, ShortTextLaw, StatementTextLaw};
+ghost use Rattle.c_program.specs.Laws.{ExpressionTextLaw, FastProgramLaw, FastShortTextLaw, ProgramLaw, ProgramTextLaw, ShortTextLaw, StatementTextLaw};
 ghost use Rattle.c_program.specs.Worked.{WorkedLines};
 ghost use Rattle.c_program.specs.FastWorked.{FastWorkedLines};
 
@@ -7,6 +7,11 @@ ghost use Rattle.c_program.specs.FastWorked.{FastWorkedLines};
 /// averaged first inputs. From any other state it answers the first coordinate outside.
 pub fn program_law()
     ensures { ProgramLaw }
+{}
+
+/// That of an accelerated controller of at most 64 bits does the same of its machine, whose averaged plan is by the weights.
+pub fn fast_program_law()
+    ensures { FastProgramLaw }
 {}
 
 /// Two expressions never have one text.

@@ -20,7 +20,7 @@ mod writer;
 
 pub use header::write_header;
 pub use laws::{
-    expression_text_law, program_law, program_text_law, short_text_law, statement_text_law,
-    worked_lines,
+    expression_text_law, fast_program_law, fast_short_text_law, fast_worked_lines, program_law,
+    program_text_law, short_text_law, statement_text_law, worked_lines,
 };
 pub use writer::write_program;
