@@ -146,10 +146,12 @@ mean_runs c state k made i e r l s =
 -- ---- the plan at them
 used_ranges : (c : Numbers) (state : List ℤ) (k : ℕ) (made : FastIterate) → FastStepReady c state k made → AreMultipliers c (used_of c k made)
 used_ranges c state k made r = record {
-  tops = record { each = λ i. elim (cases_lt i (length c.bounds)) [
-    | inl l ↦ subst (λ (z : ℤ). unsigned_abs z ≤ multiplier_top c i) (used_at c k made i l) (mean_le c k made.multipliers made.reached i r.ready.nonneg r.before.rows l)
-    | inr l ↦ subst (λ (z : ℤ). unsigned_abs z ≤ multiplier_top c i) (sym (past i l)) (omega arith)
-  ] };
+  tops = record {
+    each = λ i. elim (cases_lt i (length c.bounds)) [
+      | inl l ↦ subst (λ (z : ℤ). unsigned_abs z ≤ multiplier_top c i) (used_at c k made i l) (mean_le c k made.multipliers made.reached i r.ready.nonneg r.before.rows l)
+      | inr l ↦ subst (λ (z : ℤ). unsigned_abs z ≤ multiplier_top c i) (sym (past i l)) (omega arith)
+    ];
+  };
   nonneg = λ i. elim (cases_lt i (length c.bounds)) [
     | inl l ↦ subst (λ (z : ℤ). pos 0 ≤ℤ z) (used_at c k made i l)
         (floor_nonneg (at made.reached i +ℤ pos (step_weight k) *ℤ at made.multipliers i) (mean_divisor k) (mean_up c k made.multipliers made.reached i r.before.rows l).low)
