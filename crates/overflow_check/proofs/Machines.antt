@@ -9,7 +9,7 @@ use Rattle.std.proofs.lemmas.List.FromFn.{get_or-map-range_with_len}
 use Rattle.integer_algebra.specs.Division.{ceil_div}
 use Rattle.qp_model.specs.problem.Range.{LiesIn}
 use Rattle.qp_model.specs.machine.Controller.{Numbers, IsSized}
-use Rattle.qp_model.specs.machine.AbsoluteSums.{entry_absolute_sum, plan_magnitudes, row_absolute_sum, next_magnitude, sum_magnitude, greatest_of, greatest_sum}
+use Rattle.qp_model.specs.machine.AbsoluteSums.{entry_absolute_sum, plan_magnitudes, row_absolute_sum, next_magnitude, sum_magnitude, greatest_of, greatest_sum, IsController}
 use Rattle.qp_model.proofs.AbsoluteLaws.{ceil_div_mono}
 use Rattle.qp_model.proofs.VersionLaws.{states_le, stages_le, limits_le}
 use Rattle.overflow_check.specs.FastMachine.{all_weights}
@@ -37,6 +37,36 @@ controller_from Plain c w s room is =
     record { form = record { sized = grind (arith, common_steps); width = width_within (greatest_sum c) w room is }; room = room; fit = is.holds }
 controller_from Accelerated c w s room is =
     record { form = record { sized = grind (arith, common_steps); width = width_within (greatest_fast_sum c) w room is }; room = room; fit = is.holds }
+
+-- ---- as a controller of the plain machine
+-- so many steps are at most their weights together
+steps_le_weights : (n : ℕ) → n ≤ all_weights n
+unfolding all_weights
+steps_le_weights zero = omega arith
+steps_le_weights (suc n) = omega (arith, mul-le (suc n) 2 (suc n) (suc n + 3) (le_refl (suc n)) (omega arith))
+
+less_next : (c : Numbers) (i : ℕ) → next_magnitude c i ≤ moved_magnitude c i
+less_next c i =
+    let row = ceil_div (row_absolute_sum c i) (2 ^ c.fraction_bits) in
+    omega (arith, mul-le 1 row (c.steps + 1) row (omega arith) (le_refl row))
+
+less_sum : (c : Numbers) (j : ℕ) → sum_magnitude c j ≤ fast_sum_magnitude c j
+less_sum c j =
+    let top = slice_index_or (plan_magnitudes c) j 0 in
+    mul-le c.steps top (all_weights c.steps) top (steps_le_weights c.steps) (le_refl top)
+
+less_greatest : (c : Numbers) → greatest_sum c ≤ greatest_fast_sum c
+less_greatest c =
+    omega (arith, greatest-parts c, fast-parts c, greatest_mono (next_magnitude c) (moved_magnitude c) (length c.bounds) (λ i l. less_next c i), greatest_mono (sum_magnitude c) (fast_sum_magnitude c) (length c.offsets) (λ j l. less_sum c j))
+
+-- a controller of either machine is one of the plain machine, but for its version and words
+pub as_last : (m : Machine) (c : Numbers) → IsControllerFor m c → IsController (with_last_version c)
+as_last Plain c h = record { form = record { sized = shared Plain c h.form.sized; width = h.form.width }; room = h.room; fit = h.fit }
+as_last Accelerated c h = record {
+  form = record { sized = h.form.sized.rest; width = h.form.width };
+  room = omega (arith, less_greatest c, h.room);
+  fit = omega (arith, less_greatest c, h.fit);
+}
 
 -- ---- the greatest sum, by weights
 -- the greatest of what a function that does not fall makes of numbers is what it makes of the greatest of them, or of 0

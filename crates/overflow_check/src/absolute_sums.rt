@@ -3,7 +3,7 @@ ghost use Rattle.std.specs.Prelude.{◌≡◌, ◌≤◌, ◌<◌, ◌+◌, ◌-
 ghost use Rattle.std.specs.Option.{SomeIff};
 ghost use Rattle.integer_algebra.specs.Division.{ceil_div};
 ghost use Rattle.qp_model.specs.machine.Controller.{numbers, IsSized};
-ghost use Rattle.qp_model.specs.machine.AbsoluteSums.{IsController, weighted_abs_sum, state_magnitudes, clamp_magnitudes, entry_absolute_sum, plan_magnitudes, row_absolute_sum, next_magnitude, greatest_of, greatest_sum};
+ghost use Rattle.qp_model.specs.machine.AbsoluteSums.{IsController, weighted_abs_sum, state_magnitudes, clamp_magnitudes, entry_absolute_sum, plan_magnitudes, row_absolute_sum, greatest_of, greatest_sum};
 ghost use Rattle.overflow_check.specs.FastController.{with_last_version};
 ghost use Rattle.overflow_check.specs.Machines as machines;
 ghost use Rattle.overflow_check.specs.Machines.{IsSizedFor, weights_for, greatest_entry_sum, greatest_row_sum, greatest_weighed};
@@ -305,9 +305,9 @@ pub fn plan_sum(parts: &ControllerParts) -> Option<i128>
     plan_sum_for(parts, Machine::Plain)
 }
 
-/// How far plan entry `j` lies from 0 at most in a run from a state of the box, over `2^f`.
+/// How far plan entry `j` lies from 0 at most in a run of either machine from a state of the box, over `2^f`.
 pub fn plan_entry_magnitude(parts: &ControllerParts, j: usize) -> u128
-    requires sound { IsController (numbers parts.now) }
+    requires sound { IsController (with_last_version (numbers parts.now)) }
     requires in_range { j < length parts.now.t.items }
     ensures { result ≡ slice_index_or (plan_magnitudes (numbers parts.now)) j 0 }
 {
@@ -321,7 +321,7 @@ pub fn plan_entry_magnitude(parts: &ControllerParts, j: usize) -> u128
 
 /// How far coordinate `k` of a state of the box lies from 0 at most, over `2^f`.
 pub fn state_magnitude(parts: &ControllerParts, k: usize) -> u128
-    requires sized { IsSized (numbers parts.now) }
+    requires sized { IsSized (with_last_version (numbers parts.now)) }
     requires in_range { k < parts.now.n }
     ensures { result ≡ slice_index_or (state_magnitudes (numbers parts.now)) k 0 }
 {
@@ -329,16 +329,16 @@ pub fn state_magnitude(parts: &ControllerParts, k: usize) -> u128
     states[k]
 }
 
-/// How far multiplier `i` lies from 0 at most before it is clamped. `plan` has the magnitudes of the plan's entries.
-pub fn next_magnitude(parts: &ControllerParts, plan: &[u128], i: usize) -> u128
-    requires sound { IsController (numbers parts.now) }
+/// How far the sum of row `i` lies from 0 at most in a run of either machine, over `2^f`, rounded up. `plan` has the magnitudes of the plan's entries.
+pub fn row_magnitude(parts: &ControllerParts, plan: &[u128], i: usize) -> u128
+    requires sound { IsController (with_last_version (numbers parts.now)) }
     requires plan { plan.now ≡ plan_magnitudes (numbers parts.now) }
     requires in_range { i < length parts.now.bound.items }
-    ensures { result ≡ next_magnitude (numbers parts.now) i }
+    ensures { result ≡ ceil_div (row_absolute_sum (numbers parts.now) i) (2 ^ parts.now.f) }
 {
     let states = state_magnitudes(parts);
     match row_absolute_sum(parts, &states[..parts.n], plan, i) {
-        Some(sum) => parts.clamp.unsigned_abs() + ceil_shift(sum, parts.f),
+        Some(sum) => ceil_shift(sum, parts.f),
         None => unreachable!(),
     }
 }

@@ -9,7 +9,7 @@ mod machine;
 mod word_width;
 
 pub use absolute_sums::{
-    greatest_for, greatest_sum, next_magnitude, plan_entry_magnitude, plan_sum, plan_sum_for,
+    greatest_for, greatest_sum, plan_entry_magnitude, plan_sum, plan_sum_for, row_magnitude,
     state_magnitude,
 };
 pub use controller::{BadParts, Controller, FastController};

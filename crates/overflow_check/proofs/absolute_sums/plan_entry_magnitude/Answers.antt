@@ -4,12 +4,13 @@ use Rattle.integer_algebra.specs.Division.{ceil_div}
 use Rattle.qp_model.specs.machine.Controller.{numbers}
 use Rattle.qp_model.specs.machine.AbsoluteSums.{entry_absolute_sum}
 use Rattle.std.proofs.lemmas.Grind.{common_steps}
+use Rattle.overflow_check.specs.FastController.{with_last_version}
 use Rattle.overflow_check.proofs.SumLaws.{sums_fit}
 use Rattle.overflow_check.proofs.absolute_sums.plan_entry_magnitude.Goals as goal
 
 pub unreachable-requires : goal.unreachable-requires
 unreachable-requires c =
-    c.in-None.ensures ((sums_fit (numbers c.args.parts.now) (2 ^ 126) c.requires.sound.room).entries c.args.j c.requires.in_range)
+    c.in-None.ensures ((sums_fit (with_last_version (numbers c.args.parts.now)) (2 ^ 126) c.requires.sound.room).entries c.args.j c.requires.in_range)
 
 pub returns : goal.returns
 returns c =

@@ -1,8 +1,0 @@
-use Rattle.std.proofs.Common.{◌^◌}
-use Rattle.qp_model.specs.machine.Controller.{numbers}
-use Rattle.overflow_check.proofs.SumLaws.{sums_fit}
-use Rattle.overflow_check.proofs.absolute_sums.next_magnitude.Goals as goal
-
-pub unreachable-requires : goal.unreachable-requires
-unreachable-requires c =
-    c.in-None.ensures ((sums_fit (numbers c.args.parts.now) (2 ^ 126) c.requires.sound.room).rows c.args.i c.requires.in_range)
