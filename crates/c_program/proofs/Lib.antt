@@ -23,6 +23,7 @@ pub mod FastProgramLaw
 -- ---- the text
 pub mod Lists
 pub mod Rooms
+pub mod Held
 pub mod Texts
 pub mod Reading
 pub mod Statements

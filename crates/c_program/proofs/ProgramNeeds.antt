@@ -1,5 +1,5 @@
 -- The needed statements of a controller's program read only needed variables.
-use Rattle.std.proofs.Common.{◌≡◌, ℕ, zero, suc, ◌-◌, ◌*◌, ◌^◌, ◌<◌, ◌==◌, Bool, true, false, true≢false, ◌&&◌, ◌||◌, if◌then◌else◌, ltb, ℤ, pos, ◌*ℤ◌, neg_ℤ, List, [], ◌∷◌, ◌++◌, length, map, unsigned_abs, refl, sym, ap, subst, ◌∙◌, arith, mul-pos, inl, inr, append_assoc}
+use Rattle.std.proofs.Common.{◌≡◌, ℕ, zero, suc, ◌-◌, ◌*◌, ◌^◌, ◌<◌, ◌==◌, Bool, true, false, true≢false, ◌&&◌, ◌||◌, if◌then◌else◌, ltb, ℤ, pos, ◌*ℤ◌, neg_ℤ, List, [], ◌∷◌, ◌++◌, length, map, unsigned_abs, refl, sym, ap, subst, ◌∙◌, arith, mul-pos, inl, inr, append_assoc, append-nil}
 use Rattle.std.proofs.lemmas.Bool.{cond_both, cases_lt, ltb-true, lt-ltb}
 use Rattle.integer_algebra.specs.Sums.{at}
 use Rattle.mat_int.specs.Matrix.{row_of}
@@ -14,6 +14,9 @@ use Rattle.c_program.specs.Meaning.{variable_of}
 use Rattle.c_program.specs.Needed.{left_in}
 use Rattle.c_program.specs.Of.{state_top, multiplier_top, entry_top, plus_products, partner, is_first, is_second, loaded_statements, entry_base_statements, row_base_statements, zero_statements, before_of, difference_statements, gain_of, gain_variable, entry_statements, sum_statements, row_bits, plan_factor, lowered_value, lowered_base, plus_plan, gradient_statements, row_expression, row_sum_statements, move_statements, row_statements, repetition_body, any_below, is_product, is_row_needed, is_coordinate_needed, is_needed, whole_program}
 use Rattle.c_program.specs.FastOf.{first_weight, fast_before_of, divisor_statement, mean_statements, weighted_sum_statements, fast_move_statements, fast_row_statements, next_weight, fast_body, whole_fast_program}
+use Rattle.overflow_check.specs.declared.machine.Machine.{Machine}
+use Rattle.overflow_check.specs.declared.machine.Machine.TheVariants.{Plain, Accelerated}
+use Rattle.c_program.specs.ByMachine.{sum_for, row_for, start_for, means_for, step_for, next_for, before_for, body_for}
 use Rattle.c_program.proofs.Lists.{row_needed, coordinate_needed}
 use Rattle.c_program.proofs.Pairs.{IsPair, pair_there, later_there, same_top}
 use Rattle.c_program.proofs.LeftIn.{ReadsNeeded, AreClosed, IsClosed, AreNeeded, closed_append, closed_groups, left_in_append, whole_groups}
@@ -277,14 +280,19 @@ first_part c i needed s e =
 pub difference_part : (c : Numbers) (i : ℕ) → left_in (is_needed c) (difference_statements c i) ≡ (if is_row_needed c i then difference_statements c i else [])
 difference_part c i = first_part c i (is_needed c) (Declare (variable Difference i) (Minus (Value (variable Multiplier i)) (Value (variable Multiplier (partner c i))))) refl
 
-pub row_part : (c : Numbers) (i : ℕ) → left_in (is_needed c) (row_statements c i) ≡ (if is_row_needed c i then row_statements c i else [])
-row_part c i =
+row_part_by : (c : Numbers) (i : ℕ) (move : List Statement) →
+    left_in (is_needed c) (row_sum_statements c i ++ move) ≡ (if is_row_needed c i then row_sum_statements c i ++ move else []) →
+    left_in (is_needed c) (gradient_statements c i ++ row_sum_statements c i ++ move) ≡ (if is_row_needed c i then gradient_statements c i ++ row_sum_statements c i ++ move else [])
+row_part_by c i move h =
     let gradient = first_part c i (is_needed c) (Declare (variable Gradient i) (plus_plan c i (Constant (pos 0)))) refl in
-    let rest = row_sum_statements c i ++ move_statements c i in
-    let move = constant_part (is_row_needed c i) rest in
-    ap (left_in (is_needed c)) (append_assoc (gradient_statements c i) (row_sum_statements c i) (move_statements c i)) ∙
-    left_in_append (is_needed c) (gradient_statements c i) rest ∙ (λ k. gradient k ++ move k) ∙ both_parts (is_row_needed c i) (gradient_statements c i) rest ∙
-    ap (λ (ss : List Statement). if is_row_needed c i then ss else []) (sym (append_assoc (gradient_statements c i) (row_sum_statements c i) (move_statements c i)))
+    let rest = row_sum_statements c i ++ move in
+    ap (left_in (is_needed c)) (append_assoc (gradient_statements c i) (row_sum_statements c i) move) ∙
+    left_in_append (is_needed c) (gradient_statements c i) rest ∙ (λ k. gradient k ++ h k) ∙ both_parts (is_row_needed c i) (gradient_statements c i) rest ∙
+    ap (λ (ss : List Statement). if is_row_needed c i then ss else []) (sym (append_assoc (gradient_statements c i) (row_sum_statements c i) move))
+
+pub row_part : (m : Machine) (c : Numbers) (i : ℕ) → left_in (is_needed c) (row_for m c i) ≡ (if is_row_needed c i then row_for m c i else [])
+row_part Plain c i = row_part_by c i (move_statements c i) (constant_part (is_row_needed c i) (row_sum_statements c i ++ move_statements c i))
+row_part Accelerated c i = row_part_by c i (fast_move_statements c i) (constant_part (is_row_needed c i) (row_sum_statements c i ++ fast_move_statements c i))
 
 pub before_part : (c : Numbers) → left_in (is_needed c) (before_of c) ≡
     left_in (is_needed c) (groups (loaded_statements c) c.states) ++ groups (entry_base_statements c) (length c.offsets) ++ left_in (is_needed c) (groups (row_base_statements c) (length c.bounds))
@@ -302,16 +310,31 @@ before_part c =
     let last = whole_groups b (zero_statements Sum) (length c.offsets) (λ j. refl) in
     left_in_append b (n ++ a ++ r ++ l) s ∙ (λ k. three k ++ last k)
 
-pub body_part : (c : Numbers) → left_in (is_needed c) (repetition_body c) ≡
-    left_in (is_needed c) (groups (difference_statements c) (length c.bounds)) ++ groups (entry_statements c) (length c.offsets) ++ groups sum_statements (length c.offsets)
-    ++ left_in (is_needed c) (groups (row_statements c) (length c.bounds))
-body_part c =
+pub step_part : (m : Machine) (c : Numbers) → left_in (is_needed c) (step_for m c) ≡
+    left_in (is_needed c) (means_for m c) ++ left_in (is_needed c) (groups (difference_statements c) (length c.bounds)) ++ groups (entry_statements c) (length c.offsets)
+    ++ groups (sum_for m) (length c.offsets) ++ left_in (is_needed c) (groups (row_for m c) (length c.bounds))
+step_part m c =
     let b = is_needed c in
+    let e = means_for m c in
     let d = groups (difference_statements c) (length c.bounds) in
     let u = groups (entry_statements c) (length c.offsets) in
-    let s = groups sum_statements (length c.offsets) in
-    let r = groups (row_statements c) (length c.bounds) in
-    let one = left_in_append b d u ∙ ap (λ (ss : List Statement). left_in b d ++ ss) (whole_groups b (entry_statements c) (length c.offsets) (λ j. refl)) in
-    let sums = whole_groups b sum_statements (length c.offsets) (λ j. refl) in
-    let two = left_in_append b (d ++ u) s ∙ (λ k. one k ++ sums k) in
-    left_in_append b (d ++ u ++ s) r ∙ ap (λ (ss : List Statement). ss ++ left_in b r) two
+    let s = groups (sum_for m) (length c.offsets) in
+    let r = groups (row_for m c) (length c.bounds) in
+    let first = left_in_append b e d in
+    let entries = whole_groups b (entry_statements c) (length c.offsets) (λ j. refl) in
+    let one = left_in_append b (e ++ d) u ∙ (λ k. first k ++ entries k) in
+    let sums = whole_groups b (sum_for m) (length c.offsets) (λ j. refl) in
+    let two = left_in_append b (e ++ d ++ u) s ∙ (λ k. one k ++ sums k) in
+    left_in_append b (e ++ d ++ u ++ s) r ∙ ap (λ (ss : List Statement). ss ++ left_in b r) two
+
+-- ---- the whole of each machine, in the parts that both have and those of its own
+pub before_is : (m : Machine) (c : Numbers) → before_for m c ≡ before_of c ++ start_for m c
+before_is Plain c = sym (append-nil (before_of c))
+before_is Accelerated c =
+    let m = groups (zero_statements Own) (length c.bounds) in
+    let v = groups (zero_statements Reached) (length c.bounds) in
+    ap (λ (ss : List Statement). ss ++ first_weight ∷ []) (append_assoc (before_of c) m v) ∙ append_assoc (before_of c) (m ++ v) (first_weight ∷ [])
+
+pub body_is : (m : Machine) (c : Numbers) → body_for m c ≡ step_for m c ++ next_for m
+body_is Plain c = sym (append-nil (repetition_body c))
+body_is Accelerated c = refl

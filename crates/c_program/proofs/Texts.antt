@@ -10,16 +10,21 @@ use Rattle.integer_algebra.specs.Division.{floor_of}
 use Rattle.integer_algebra.specs.Sums.{at}
 use Rattle.number_text.specs.Lines.{text_of}
 use Rattle.qp_model.specs.machine.Controller.{Numbers}
-use Rattle.c_program.specs.Syntax.{Variable, variable, Expression, Statement, groups}
-use Rattle.c_program.specs.Syntax.Family.{RowBase, Entry, Gradient, RowSum}
-use Rattle.c_program.specs.Syntax.Statement.{Declare}
+use Rattle.c_program.specs.Syntax.{Variable, variable, Kind, Expression, Statement, groups}
+use Rattle.c_program.specs.Syntax.Family.{RowBase, Multiplier, Entry, Gradient, RowSum, Reached, Weight, Divisor}
+use Rattle.c_program.specs.Syntax.Kind.{Narrow}
+use Rattle.c_program.specs.Syntax.Statement.{Declare, Assign}
 use Rattle.c_program.specs.Syntax.Expression.{Constant, Value, Plus, Times, Shifted}
-use Rattle.c_program.specs.Of.{kind_of, plus_products, partner, is_first, is_second, entry_top, row_bits, plan_factor, lowered_value, lowered_base, row_expression, moved_expression, program_of}
+use Rattle.c_program.specs.Of.{plus_products, partner, is_first, is_second, entry_top, row_bits, plan_factor, lowered_value, lowered_base, row_expression}
+use Rattle.overflow_check.specs.declared.machine.Machine.{Machine}
+use Rattle.overflow_check.specs.declared.machine.Machine.TheVariants.{Plain, Accelerated}
+use Rattle.c_program.specs.FastOf.{first_weight, divisor_statement, mean_statements, reached_expression, next_weight}
+use Rattle.c_program.specs.ByMachine.{moved_family, weighted_for, moved_for}
 use Rattle.c_program.specs.Text.{variable_text, kind_text, constant_text, enclosed, closed, expression_text, statement_text, numbered_lines}
 use Rattle.c_program.specs.Needed.{left_in}
 use Rattle.c_program.proofs.Runs.{groups_none}
 use Rattle.c_program.proofs.LeftIn.{left_in_append}
-use Rattle.c_program.specs.Terms.{joined, lowered_text, term_text, product_text, products_text, declared_text, given_end, block_text, row_rest}
+use Rattle.c_program.specs.Terms.{joined, lowered_text, term_text, product_text, products_text, declared_text, given_end, block_text, weight_open, weight_end, row_rest}
 
 -- ---- sums of products
 pub products_none : (c : ℕ → ℤ) (top : ℕ → ℕ) (name : ℕ → List ℕ) (old : List ℕ) → old ≡ old ++ products_text c top name 0
@@ -78,25 +83,25 @@ load_text c n t0 t1 t2 t3 t4 t5 e1 e2 e3 e4 e5 =
     load_pieces t0 (codes "(") c (codes " * ") (codes "(int64_t)") (codes "state[") n (codes "]") (codes ")")
 
 -- a declared variable
-pub declared_line : (c : Numbers) (v : Variable) (a : Expression) (indent kind t0 t1 t2 t3 : List ℕ) → kind ≡ kind_text (kind_of c v.family v.number) →
-    t1 ≡ t0 ++ declared_text indent kind (variable_text v) → t2 ≡ t1 ++ expression_text a → t3 ≡ t2 ++ given_end → t3 ≡ t0 ++ block_text c indent (Declare v a ∷ [])
-declared_line c v a indent kind t0 t1 t2 t3 k e1 e2 e3 =
+pub declared_line : (types : Variable → Kind) (v : Variable) (a : Expression) (indent kind t0 t1 t2 t3 : List ℕ) → kind ≡ kind_text (types v) →
+    t1 ≡ t0 ++ declared_text indent kind (variable_text v) → t2 ≡ t1 ++ expression_text a → t3 ≡ t2 ++ given_end → t3 ≡ t0 ++ block_text types indent (Declare v a ∷ [])
+declared_line types v a indent kind t0 t1 t2 t3 k e1 e2 e3 =
     let end = λ (k : List ℕ). (t0 ++ declared_text indent k (variable_text v)) ++ expression_text a ++ given_end in
     let start : t3 ≡ end kind = e3 ∙ ap (λ (t : List ℕ). t ++ given_end) (e2 ∙ ap (λ (t : List ℕ). t ++ expression_text a) e1) in
     start ∙ ap end k ∙
-    declared_pieces t0 indent (kind_text (kind_of c v.family v.number)) (codes " ") (variable_text v) (codes " = (") (codes ")") (codes "(") (expression_text a) (codes ")") (codes ";") (10 ∷ [])
+    declared_pieces t0 indent (kind_text (types v)) (codes " ") (variable_text v) (codes " = (") (codes ")") (codes "(") (expression_text a) (codes ")") (codes ";") (10 ∷ [])
 
 pub zero_text : codes "INT64_C(0)" ≡ expression_text (Constant (pos 0))
 unfolding digits
 zero_text = refl
 
 -- the same of a sum of products
-pub sum_line : (c : Numbers) (v : Variable) (a : Expression) (k : ℕ → ℤ) (top : ℕ → ℕ) (u : ℕ → Variable) (n : ℕ) (indent kind t0 t1 t2 t3 t4 : List ℕ) → kind ≡ kind_text (kind_of c v.family v.number) →
+pub sum_line : (types : Variable → Kind) (v : Variable) (a : Expression) (k : ℕ → ℤ) (top : ℕ → ℕ) (u : ℕ → Variable) (n : ℕ) (indent kind t0 t1 t2 t3 t4 : List ℕ) → kind ≡ kind_text (types v) →
     t1 ≡ t0 ++ declared_text indent kind (variable_text v) → t2 ≡ t1 ++ expression_text a → t3 ≡ t2 ++ products_text k top (λ i. variable_text (u i)) n → t4 ≡ t3 ++ given_end →
-    t4 ≡ t0 ++ block_text c indent (Declare v (plus_products a k top u n) ∷ [])
-sum_line c v a k top u n indent kind t0 t1 t2 t3 t4 e e1 e2 e3 e4 =
+    t4 ≡ t0 ++ block_text types indent (Declare v (plus_products a k top u n) ∷ [])
+sum_line types v a k top u n indent kind t0 t1 t2 t3 t4 e e1 e2 e3 e4 =
     let products = products_text k top (λ i. variable_text (u i)) n in
-    declared_line c v (plus_products a k top u n) indent kind t0 t1 t3 t4 e e1
+    declared_line types v (plus_products a k top u n) indent kind t0 t1 t3 t4 e e1
     (e3 ∙ ap (λ (t : List ℕ). t ++ products) e2 ∙ append_assoc t1 (expression_text a) products ∙ ap (λ (t : List ℕ). t1 ++ t) (sym (products_read a k top u n))) e4
 
 -- a row of the text as the definition has it
@@ -122,25 +127,25 @@ lowered_same row xs k q tops ys name m e b l h =
     ap (λ (zs : List ℕ). products_text (λ j. floor_of (at xs j) (2 ^ q)) (λ j. get_or zs j 0) name m) l
 
 -- lines after lines
-block_append : (c : Numbers) (indent : List ℕ) (xs ys : List Statement) → block_text c indent (xs ++ ys) ≡ block_text c indent xs ++ block_text c indent ys
-block_append c indent [] ys = refl
-block_append c indent (x ∷ xs) ys =
-    let line = indent ++ statement_text (program_of c).kind x ++ 10 ∷ [] in
-    ap (λ (t : List ℕ). line ++ t) (block_append c indent xs ys) ∙ sym (append_assoc line (block_text c indent xs) (block_text c indent ys))
+block_append : (types : Variable → Kind) (indent : List ℕ) (xs ys : List Statement) → block_text types indent (xs ++ ys) ≡ block_text types indent xs ++ block_text types indent ys
+block_append types indent [] ys = refl
+block_append types indent (x ∷ xs) ys =
+    let line = indent ++ statement_text types x ++ 10 ∷ [] in
+    ap (λ (t : List ℕ). line ++ t) (block_append types indent xs ys) ∙ sym (append_assoc line (block_text types indent xs) (block_text types indent ys))
 
-pub block_none : (c : Numbers) (indent : List ℕ) (f : ℕ → List Statement) (old : List ℕ) → old ≡ old ++ block_text c indent (groups f 0)
+pub block_none : (types : Variable → Kind) (indent : List ℕ) (f : ℕ → List Statement) (old : List ℕ) → old ≡ old ++ block_text types indent (groups f 0)
 unfolding groups
-block_none c indent f old = sym (append-nil old)
+block_none types indent f old = sym (append-nil old)
 
 groups_suc : (f : ℕ → List Statement) (n : ℕ) → groups f (n + 1) ≡ groups f n ++ f n
 unfolding groups
 groups_suc f n = rw add-one refl
 
-pub block_more : (c : Numbers) (indent : List ℕ) (f : ℕ → List Statement) (n : ℕ) (old now new : List ℕ) → now ≡ old ++ block_text c indent (groups f n) →
-    new ≡ now ++ block_text c indent (f n) → new ≡ old ++ block_text c indent (groups f (n + 1))
-block_more c indent f n old now new h e =
-    e ∙ ap (λ (t : List ℕ). t ++ block_text c indent (f n)) h ∙ append_assoc old (block_text c indent (groups f n)) (block_text c indent (f n)) ∙
-    ap (λ (t : List ℕ). old ++ t) (sym (ap (block_text c indent) (groups_suc f n) ∙ block_append c indent (groups f n) (f n)))
+pub block_more : (types : Variable → Kind) (indent : List ℕ) (f : ℕ → List Statement) (n : ℕ) (old now new : List ℕ) → now ≡ old ++ block_text types indent (groups f n) →
+    new ≡ now ++ block_text types indent (f n) → new ≡ old ++ block_text types indent (groups f (n + 1))
+block_more types indent f n old now new h e =
+    e ∙ ap (λ (t : List ℕ). t ++ block_text types indent (f n)) h ∙ append_assoc old (block_text types indent (groups f n)) (block_text types indent (f n)) ∙
+    ap (λ (t : List ℕ). old ++ t) (sym (ap (block_text types indent) (groups_suc f n) ∙ block_append types indent (groups f n) (f n)))
 
 -- ---- pieces
 joined_append : (xs ys : List (List ℕ)) → joined (xs ++ ys) ≡ joined xs ++ joined ys
@@ -173,10 +178,10 @@ lines_more line n old now new h e =
     ap (λ (t : List ℕ). old ++ t) (sym (ap text_of (lines_suc line n) ∙ text_append (numbered_lines line n) (line n ∷ [])))
 
 -- ---- single lines, piece by piece
-pub sum_pieces : (i s n eq k p o c pl u q e l : List ℕ) →
-    i ++ (s ++ (n ++ (eq ++ (k ++ (p ++ (o ++ (c ++ (s ++ (n ++ (pl ++ (c ++ (u ++ (n ++ (q ++ (e ++ (l ++ [])))))))))))))))) ≡
-    (i ++ (s ++ n ++ (eq ++ k ++ p ++ (o ++ (c ++ (s ++ n) ++ pl ++ (c ++ (u ++ n))) ++ q) ++ e))) ++ l ++ []
-sum_pieces i s n eq k p o c pl u q e l = simp append_assoc refl
+pub sum_pieces : (i s n eq k p o c pl w u z q e l : List ℕ) →
+    i ++ (s ++ (n ++ (eq ++ (k ++ (p ++ (o ++ (c ++ (s ++ (n ++ (pl ++ (w ++ (c ++ (u ++ (n ++ (z ++ (q ++ (e ++ (l ++ [])))))))))))))))))) ≡
+    (i ++ (s ++ n ++ (eq ++ k ++ p ++ (o ++ (c ++ (s ++ n) ++ pl ++ (w ++ (c ++ (u ++ n)) ++ z)) ++ q) ++ e))) ++ l ++ []
+sum_pieces i s n eq k p o c pl w u z q e l = simp append_assoc refl
 
 pub comparison_pieces : (or s n b gt high : List ℕ) → or ++ (s ++ (n ++ (b ++ (gt ++ (high ++ []))))) ≡ or ++ (s ++ n ++ b) ++ gt ++ high
 comparison_pieces or s n b gt high = simp (append_assoc, append-nil) refl
@@ -229,13 +234,115 @@ lowered_read v k = each (k == 0)
 closed_lowered : (v : Variable) (k : ℕ) (text : List ℕ) → closed (lowered_value v k) text ≡ text
 closed_lowered v k text = cond_both (k == 0) (Value v) (Shifted (Value v) k) (λ a. closed a text ≡ text) (λ t. refl) (λ f. refl)
 
+-- ---- a step's weight
+weight_text : codes "(int64_t)k0" ≡ expression_text (Value (variable Weight 0))
+unfolding digits
+weight_text = refl
+
+weighted_pieces : (o w x t e : List ℕ) → o ++ (w ++ x ++ t) ++ e ≡ (o ++ (w ++ x)) ++ t ++ e
+weighted_pieces o w x t e = simp append_assoc refl
+
+-- what is added by it, where it stands without parentheses of its own
+pub weighted_read : (m : Machine) (a : Expression) → ((t : List ℕ) → closed a t ≡ t) →
+    closed (weighted_for m a) (expression_text (weighted_for m a)) ≡ weight_open m ++ expression_text a ++ weight_end m
+weighted_read Plain a h = h (expression_text a) ∙ sym (append-nil (expression_text a))
+weighted_read Accelerated a h =
+    ap (λ (t : List ℕ). enclosed (expression_text (Value (variable Weight 0)) ++ codes " * " ++ t)) (h (expression_text a)) ∙
+    ap (λ (k : List ℕ). enclosed (k ++ codes " * " ++ expression_text a)) (sym weight_text) ∙
+    weighted_pieces (codes "(") (codes "(int64_t)k0") (codes " * ") (expression_text a) (codes ")")
+
 -- ---- a multiplier that is moved
-pub moved_read : (c : Numbers) (i : ℕ) →
-    expression_text (moved_expression c i) ≡ (codes "(int64_t)" ++ (codes "l" ++ decimal i)) ++ codes " + " ++ lowered_text (codes "y" ++ decimal i) (c.fraction_bits - row_bits c i)
-moved_read c i =
+pub moved_read : (m : Machine) (c : Numbers) (i : ℕ) →
+    expression_text (moved_for m c i) ≡ (codes "(int64_t)" ++ variable_text (variable (moved_family m) i)) ++ codes " + "
+    ++ (weight_open m ++ lowered_text (codes "y" ++ decimal i) (c.fraction_bits - row_bits c i) ++ weight_end m)
+moved_read m c i =
     let v = variable RowSum i in
     let k = c.fraction_bits - row_bits c i in
-    ap (λ (t : List ℕ). (codes "(int64_t)" ++ (codes "l" ++ decimal i)) ++ codes " + " ++ t) (closed_lowered v k (expression_text (lowered_value v k)) ∙ lowered_read v k)
+    let start = (codes "(int64_t)" ++ variable_text (variable (moved_family m) i)) ++ codes " + " in
+    ap (λ (t : List ℕ). start ++ t) (weighted_read m (lowered_value v k) (closed_lowered v k) ∙ ap (λ (t : List ℕ). weight_open m ++ t ++ weight_end m) (lowered_read v k))
+
+five_pieces : (t0 a b o d e : List ℕ) → ((((t0 ++ a) ++ b) ++ o) ++ d) ++ e ≡ t0 ++ (a ++ b ++ (o ++ d ++ e))
+five_pieces t0 a b o d e = simp append_assoc refl
+
+pub five_more : (t0 t1 t2 t3 t4 t5 a b o d e : List ℕ) → t1 ≡ t0 ++ a → t2 ≡ t1 ++ b → t3 ≡ t2 ++ o → t4 ≡ t3 ++ d → t5 ≡ t4 ++ e → t5 ≡ t0 ++ (a ++ b ++ (o ++ d ++ e))
+five_more t0 t1 t2 t3 t4 t5 a b o d e e1 e2 e3 e4 e5 =
+    let before : t3 ≡ ((t0 ++ a) ++ b) ++ o = e3 ∙ ap (λ (t : List ℕ). t ++ o) (e2 ∙ ap (λ (t : List ℕ). t ++ b) e1) in
+    e5 ∙ ap (λ (t : List ℕ). t ++ e) (e4 ∙ ap (λ (t : List ℕ). t ++ d) before) ∙ five_pieces t0 a b o d e
+
+-- ---- what only the accelerated machine has
+pub first_weight_text : codes "    int32_t k0 = (int32_t)(INT64_C(2));\n" ≡ block_text (λ v. Narrow) (codes "    ") (first_weight ∷ [])
+unfolding digits
+first_weight_text = refl
+
+pub next_weight_text : codes "        k0 = (int32_t)((int64_t)k0 + INT64_C(1));\n" ≡ block_text (λ v. Narrow) (codes "        ") (next_weight ∷ [])
+unfolding digits
+next_weight_text = refl
+
+divisor_pieces : (i k b rest : List ℕ) → i ++ (k ++ (b ++ (k ++ (rest ++ [])))) ≡ i ++ k ++ b ++ k ++ rest
+divisor_pieces i k b rest = simp (append_assoc, append-nil) refl
+
+divisor_line : (i k s n eq p v q nl : List ℕ) → i ++ k ++ (s ++ n ++ eq) ++ k ++ (p ++ v ++ q ++ nl) ≡ (i ++ (k ++ s ++ n ++ (eq ++ k ++ p ++ v ++ q))) ++ nl ++ []
+divisor_line i k s n eq p v q nl = simp (append_assoc, append-nil) refl
+
+pub divisor_text : (types : Variable → Kind) → let k = kind_text (types (variable Divisor 0)) in
+    codes "        " ++ (k ++ (codes " b0 = (" ++ (k ++ (codes ")((((int64_t)k0 - INT64_C(1)) * ((int64_t)k0 + INT64_C(2))));\n" ++ [])))) ≡ block_text types (codes "        ") (divisor_statement ∷ [])
+unfolding digits
+divisor_text types =
+    let k = kind_text (types (variable Divisor 0)) in
+    divisor_pieces (codes "        ") k (codes " b0 = (") (codes ")((((int64_t)k0 - INT64_C(1)) * ((int64_t)k0 + INT64_C(2))));\n") ∙
+    divisor_line (codes "        ") k (codes " ") (codes "b0") (codes " = (") (codes ")") (codes "((((int64_t)k0 - INT64_C(1)) * ((int64_t)k0 + INT64_C(2))))") (codes ";") (10 ∷ [])
+
+divisor_name : codes "b0" ≡ variable_text (variable Divisor 0)
+unfolding digits
+divisor_name = refl
+
+mean_pieces : (i l n eq k p o c v pl w m s d b e nl : List ℕ) →
+    i ++ (l ++ (n ++ (eq ++ (k ++ (p ++ (o ++ (o ++ (o ++ (c ++ (v ++ (n ++ (pl ++ ((o ++ (w ++ s)) ++ (c ++ (m ++ (n ++ (p ++ (p ++ ((d ++ b) ++ (p ++ (p ++ (e ++ (nl ++ []))))))))))))))))))))))) ≡
+    (i ++ (l ++ n ++ (eq ++ k ++ p ++ (o ++ (o ++ (o ++ (c ++ (v ++ n) ++ pl ++ (o ++ (w ++ s ++ (c ++ (m ++ n))) ++ p)) ++ p ++ d ++ b) ++ p) ++ p) ++ e))) ++ nl ++ []
+mean_pieces i l n eq k p o c v pl w m s d b e nl = simp append_assoc refl
+
+-- the line of a mean, from its number, its type, the weight and the divisor
+mean_line : (n k w b : List ℕ) → List ℕ
+mean_line n k w b =
+    (codes "        " ++ (codes "l" ++ n ++ (codes " = (" ++ k ++ codes ")" ++ (codes "(" ++ (codes "(" ++ (codes "(" ++ (codes "(int64_t)" ++ (codes "v" ++ n) ++ codes " + "
+    ++ (codes "(" ++ (w ++ codes " * " ++ (codes "(int64_t)" ++ (codes "m" ++ n))) ++ codes ")")) ++ codes ")" ++ codes " / (int64_t)" ++ b) ++ codes ")") ++ codes ")") ++ codes ";"))) ++ 10 ∷ [] ++ []
+
+written_mean : (n k : List ℕ) →
+    codes "        " ++ (codes "l" ++ (n ++ (codes " = (" ++ (k ++ (codes ")" ++ (codes "(" ++ (codes "(" ++ (codes "(" ++ (codes "(int64_t)" ++ (codes "v" ++ (n ++ (codes " + "
+    ++ (codes "((int64_t)k0 * " ++ (codes "(int64_t)" ++ (codes "m" ++ (n ++ (codes ")" ++ (codes ")" ++ (codes " / (int64_t)b0" ++ (codes ")" ++ (codes ")" ++ (codes ";" ++ (10 ∷ [] ++ []))))))))))))))))))))))) ≡
+    mean_line n k (codes "(int64_t)k0") (codes "b0")
+unfolding mean_line
+written_mean n k =
+    mean_pieces (codes "        ") (codes "l") n (codes " = (") k (codes ")") (codes "(") (codes "(int64_t)") (codes "v") (codes " + ")
+    (codes "(int64_t)k0") (codes "m") (codes " * ") (codes " / (int64_t)") (codes "b0") (codes ";") (10 ∷ [])
+
+read_mean : (types : Variable → Kind) (i : ℕ) →
+    mean_line (decimal i) (kind_text (types (variable Multiplier i))) (expression_text (Value (variable Weight 0))) (variable_text (variable Divisor 0)) ≡ block_text types (codes "        ") (mean_statements i)
+unfolding mean_line
+read_mean types i = refl
+
+pub mean_text : (types : Variable → Kind) (i : ℕ) →
+    codes "        " ++ (codes "l" ++ (decimal i ++ (codes " = (" ++ (kind_text (types (variable Multiplier i)) ++ (codes ")" ++ (codes "(" ++ (codes "(" ++ (codes "(" ++ (codes "(int64_t)" ++ (codes "v" ++ (decimal i ++ (codes " + "
+    ++ (codes "((int64_t)k0 * " ++ (codes "(int64_t)" ++ (codes "m" ++ (decimal i ++ (codes ")" ++ (codes ")" ++ (codes " / (int64_t)b0" ++ (codes ")" ++ (codes ")" ++ (codes ";" ++ (10 ∷ [] ++ [])))))))))))))))))))))))
+    ≡ block_text types (codes "        ") (mean_statements i)
+mean_text types i =
+    let k = kind_text (types (variable Multiplier i)) in
+    written_mean (decimal i) k ∙ ap (λ (w : List ℕ). mean_line (decimal i) k w (codes "b0")) weight_text ∙
+    ap (mean_line (decimal i) k (expression_text (Value (variable Weight 0)))) divisor_name ∙ read_mean types i
+
+reached_pieces : (i l n eq k p o c pl w m s e nl : List ℕ) →
+    i ++ (l ++ (n ++ (eq ++ (k ++ (p ++ (o ++ (c ++ (l ++ (n ++ (pl ++ ((o ++ (w ++ s)) ++ (c ++ (m ++ (n ++ (p ++ (p ++ (e ++ (nl ++ [])))))))))))))))))) ≡
+    (i ++ (l ++ n ++ (eq ++ k ++ p ++ (o ++ (c ++ (l ++ n) ++ pl ++ (o ++ (w ++ s ++ (c ++ (m ++ n))) ++ p)) ++ p) ++ e))) ++ nl ++ []
+reached_pieces i l n eq k p o c pl w m s e nl = simp append_assoc refl
+
+pub reached_text : (types : Variable → Kind) (i : ℕ) →
+    codes "        " ++ (codes "v" ++ (decimal i ++ (codes " = (" ++ (kind_text (types (variable Reached i)) ++ (codes ")" ++ (codes "(" ++ (codes "(int64_t)" ++ (codes "v" ++ (decimal i ++ (codes " + "
+    ++ (codes "((int64_t)k0 * " ++ (codes "(int64_t)" ++ (codes "m" ++ (decimal i ++ (codes ")" ++ (codes ")" ++ (codes ";" ++ ((10 ∷ []) ++ [])))))))))))))))))) ≡
+    block_text types (codes "        ") (Assign (variable Reached i) (reached_expression i) ∷ [])
+unfolding digits
+reached_text types i =
+    reached_pieces (codes "        ") (codes "v") (decimal i) (codes " = (") (kind_text (types (variable Reached i))) (codes ")") (codes "(") (codes "(int64_t)") (codes " + ")
+    (codes "(int64_t)k0") (codes "m") (codes " * ") (codes ";") (10 ∷ [])
 
 pub two_more : (t0 t1 t2 a b : List ℕ) → t1 ≡ t0 ++ a → t2 ≡ t1 ++ b → t2 ≡ t0 ++ (a ++ b)
 two_more t0 t1 t2 a b e1 e2 = e2 ∙ ap (λ (t : List ℕ). t ++ b) e1 ∙ append_assoc t0 a b
@@ -271,10 +378,10 @@ pub back_pieces : (i l n eq k p q w t r s e : List ℕ) →
 back_pieces i l n eq k p q w t r s e = simp append_assoc refl
 
 -- lines of four statements, and of those of two lists
-pub blocks_more : (c : Numbers) (indent : List ℕ) (xs ys : List Statement) (t0 t1 t2 : List ℕ) → t1 ≡ t0 ++ block_text c indent xs → t2 ≡ t1 ++ block_text c indent ys →
-    t2 ≡ t0 ++ block_text c indent (xs ++ ys)
-blocks_more c indent xs ys t0 t1 t2 e1 e2 =
-    two_more t0 t1 t2 (block_text c indent xs) (block_text c indent ys) e1 e2 ∙ ap (λ (t : List ℕ). t0 ++ t) (sym (block_append c indent xs ys))
+pub blocks_more : (types : Variable → Kind) (indent : List ℕ) (xs ys : List Statement) (t0 t1 t2 : List ℕ) → t1 ≡ t0 ++ block_text types indent xs → t2 ≡ t1 ++ block_text types indent ys →
+    t2 ≡ t0 ++ block_text types indent (xs ++ ys)
+blocks_more types indent xs ys t0 t1 t2 e1 e2 =
+    two_more t0 t1 t2 (block_text types indent xs) (block_text types indent ys) e1 e2 ∙ ap (λ (t : List ℕ). t0 ++ t) (sym (block_append types indent xs ys))
 
 -- ---- the whole
 pub lines_then : (xs ys : List (List ℕ)) (t0 t1 t2 : List ℕ) → t1 ≡ t0 ++ text_of xs → t2 ≡ t1 ++ text_of ys → t2 ≡ t0 ++ text_of (xs ++ ys)
@@ -366,14 +473,20 @@ ended h ls t0 t1 t2 e1 e2 =
 
 -- ---- what is needed
 -- groups of which some are left out
-pub needed_none : (c : Numbers) (indent : List ℕ) (needed : Variable → Bool) (f : ℕ → List Statement) (old : List ℕ) → old ≡ old ++ block_text c indent (left_in needed (groups f 0))
-needed_none c indent needed f old = sym (ap (λ (ss : List Statement). old ++ block_text c indent (left_in needed ss)) (groups_none f) ∙ append-nil old)
+pub needed_none : (types : Variable → Kind) (indent : List ℕ) (needed : Variable → Bool) (f : ℕ → List Statement) (old : List ℕ) → old ≡ old ++ block_text types indent (left_in needed (groups f 0))
+needed_none types indent needed f old = sym (ap (λ (ss : List Statement). old ++ block_text types indent (left_in needed ss)) (groups_none f) ∙ append-nil old)
 
-pub needed_more : (c : Numbers) (indent : List ℕ) (needed : Variable → Bool) (f : ℕ → List Statement) (b : Bool) (n : ℕ) (old now new : List ℕ) →
-    left_in needed (f n) ≡ (if b then f n else []) → now ≡ old ++ block_text c indent (left_in needed (groups f n)) → new ≡ now ++ (if b then block_text c indent (f n) else []) →
-    new ≡ old ++ block_text c indent (left_in needed (groups f (n + 1)))
-needed_more c indent needed f b n old now new part h e =
-    let text : (if b then block_text c indent (f n) else []) ≡ block_text c indent (left_in needed (f n)) =
-    cond_both b (f n) [] (λ ss. (if b then block_text c indent (f n) else []) ≡ block_text c indent ss) (λ t. cond-true b _ _ t) (λ t. cond-false b _ _ t) ∙ ap (block_text c indent) (sym part) in
-    blocks_more c indent (left_in needed (groups f n)) (left_in needed (f n)) old now new h (e ∙ ap (λ (t : List ℕ). now ++ t) text) ∙
-    ap (λ (ss : List Statement). old ++ block_text c indent ss) (sym (ap (left_in needed) (groups_suc f n) ∙ left_in_append needed (groups f n) (f n)))
+pub needed_more : (types : Variable → Kind) (indent : List ℕ) (needed : Variable → Bool) (f : ℕ → List Statement) (b : Bool) (n : ℕ) (old now new : List ℕ) →
+    left_in needed (f n) ≡ (if b then f n else []) → now ≡ old ++ block_text types indent (left_in needed (groups f n)) → new ≡ now ++ (if b then block_text types indent (f n) else []) →
+    new ≡ old ++ block_text types indent (left_in needed (groups f (n + 1)))
+needed_more types indent needed f b n old now new part h e =
+    let text : (if b then block_text types indent (f n) else []) ≡ block_text types indent (left_in needed (f n)) =
+    cond_both b (f n) [] (λ ss. (if b then block_text types indent (f n) else []) ≡ block_text types indent ss) (λ t. cond-true b _ _ t) (λ t. cond-false b _ _ t) ∙ ap (block_text types indent) (sym part) in
+    blocks_more types indent (left_in needed (groups f n)) (left_in needed (f n)) old now new h (e ∙ ap (λ (t : List ℕ). now ++ t) text) ∙
+    ap (λ (ss : List Statement). old ++ block_text types indent ss) (sym (ap (left_in needed) (groups_suc f n) ∙ left_in_append needed (groups f n) (f n)))
+
+-- the needed ones of two lists
+pub needed_blocks : (types : Variable → Kind) (indent : List ℕ) (needed : Variable → Bool) (xs ys : List Statement) (t0 t1 t2 : List ℕ) → t1 ≡ t0 ++ block_text types indent (left_in needed xs) →
+    t2 ≡ t1 ++ block_text types indent (left_in needed ys) → t2 ≡ t0 ++ block_text types indent (left_in needed (xs ++ ys))
+needed_blocks types indent needed xs ys t0 t1 t2 e1 e2 =
+    blocks_more types indent (left_in needed xs) (left_in needed ys) t0 t1 t2 e1 e2 ∙ ap (λ (ss : List Statement). t0 ++ block_text types indent ss) (sym (left_in_append needed xs ys))

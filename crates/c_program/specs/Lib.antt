@@ -3,6 +3,7 @@ pub mod Meaning
 pub mod Needed
 pub mod Of
 pub mod FastOf
+pub mod ByMachine
 pub mod Text
 pub mod Laws
 pub mod Worked

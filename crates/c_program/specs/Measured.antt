@@ -1,11 +1,15 @@
 -- The controller that a text is written from, and the lines of its statements.
 use Rattle.std.specs.Prelude.{ℕ, if◌then◌else◌, List, [], length, codes}
 use Rattle.qp_model.specs.machine.Controller.{Numbers, numbers}
-use Rattle.c_program.specs.Syntax.{Statement}
+use Rattle.c_program.specs.Syntax.{Family, Variable, Kind, Statement, CProgram}
+use Rattle.c_program.specs.Syntax.Family.{Multiplier, Own, Reached}
 use Rattle.c_program.specs.Needed.{left_in}
-use Rattle.c_program.specs.Of.{is_needed, is_row_needed, is_coordinate_needed}
+use Rattle.c_program.specs.Of.{Sizes, multiplier_top, is_needed, is_row_needed, is_coordinate_needed}
+use Rattle.c_program.specs.ByMachine.{sizes_for, kinds_for, program_for}
 use Rattle.c_program.specs.Terms.{block_text}
 use Rattle.c_program.specs.declared.measured.Measured.{Measured}
+use Rattle.c_program.specs.declared.measured.Held.{Held}
+use Rattle.c_program.specs.declared.measured.Held.TheVariants.{Planned, Kept, Added}
 
 abbrev pub controller_in : Measured → Numbers
 controller_in m = numbers m.c.now
@@ -16,12 +20,33 @@ row_count m = length (controller_in m).bounds
 abbrev pub entry_count : Measured → ℕ
 entry_count m = length (controller_in m).offsets
 
+-- at most how great its variables are, and their types
+abbrev pub sizes_in : Measured → Sizes
+sizes_in m = sizes_for m.machine (controller_in m)
+
+abbrev pub kinds_in : Measured → Variable → Kind
+kinds_in m = kinds_for m.machine (controller_in m)
+
+abbrev pub program_in : Measured → CProgram
+program_in m = program_for m.machine (controller_in m)
+
+-- the variables that hold this of a row, and at most how great they are
+abbrev pub held_family : Held → Family
+held_family Planned = Multiplier
+held_family Kept = Own
+held_family Added = Reached
+
+abbrev pub held_size : Measured → Held → ℕ → ℕ
+held_size m Planned i = multiplier_top (controller_in m) i
+held_size m Kept i = (sizes_in m).own i
+held_size m Added i = (sizes_in m).reached
+
 -- statements before the loop, and those of its body
 abbrev pub start_text : Measured → List Statement → List ℕ
-start_text m ss = block_text (controller_in m) (codes "    ") ss
+start_text m ss = block_text (kinds_in m) (codes "    ") ss
 
 abbrev pub loop_text : Measured → List Statement → List ℕ
-loop_text m ss = block_text (controller_in m) (codes "        ") ss
+loop_text m ss = block_text (kinds_in m) (codes "        ") ss
 
 -- the needed ones of these
 abbrev pub needed_start_text : Measured → List Statement → List ℕ

@@ -5,10 +5,12 @@ use Rattle.integer_algebra.specs.Sums.{at}
 use Rattle.mat_int.specs.Matrix.{row_of}
 use Rattle.number_text.specs.Lines.{text_of}
 use Rattle.qp_model.specs.machine.Controller.{Numbers}
-use Rattle.c_program.specs.Syntax.{variable, Statement, CProgram}
+use Rattle.overflow_check.specs.declared.machine.Machine.{Machine}
+use Rattle.overflow_check.specs.declared.machine.Machine.TheVariants.{Plain, Accelerated}
+use Rattle.c_program.specs.Syntax.{Variable, variable, Kind, Statement, CProgram}
 use Rattle.c_program.specs.Syntax.Family.{Entry, Gradient}
 use Rattle.c_program.specs.Syntax.Expression.{Value}
-use Rattle.c_program.specs.Of.{multiplier_top, gain_of, gain_variable, partner, is_first, is_second, entry_top, plan_factor, is_product, is_row_needed, program_of}
+use Rattle.c_program.specs.Of.{multiplier_top, gain_of, gain_variable, partner, is_first, is_second, entry_top, plan_factor, is_product, is_row_needed}
 use Rattle.c_program.specs.Text.{variable_text, constant_text, expression_text, statement_lines, shift_line, head_text, numbered_lines, refusal_line}
 
 -- ---- pairs
@@ -64,9 +66,18 @@ declared_text indent kind name = indent ++ kind ++ codes " " ++ given_text kind 
 abbrev pub given_end : List ℕ
 given_end = codes ");" ++ 10 ∷ []
 
--- the lines of statements of a controller's program
-abbrev pub block_text : Numbers → (indent : List ℕ) → List Statement → List ℕ
-block_text c indent ss = text_of (statement_lines (program_of c).kind indent ss)
+-- the lines of statements, by the types of variables
+abbrev pub block_text : (Variable → Kind) → (indent : List ℕ) → List Statement → List ℕ
+block_text types indent ss = text_of (statement_lines types indent ss)
+
+-- what stands before and behind what is added by a step's weight, in the program of a machine
+abbrev pub weight_open : Machine → List ℕ
+weight_open Plain = []
+weight_open Accelerated = codes "((int64_t)k0 * "
+
+abbrev pub weight_end : Machine → List ℕ
+weight_end Plain = []
+weight_end Accelerated = codes ")"
 
 -- the products of row i with the plan
 abbrev pub plan_row_text : Numbers → ℕ → List ℕ

@@ -1,15 +1,19 @@
 // The second function: the averaged first inputs.
-ghost use Rattle.std.specs.Prelude.{◌≡◌, ◌≤◌, ◌++◌, ◌^◌, ◌==◌, true, false, [], ◌∷◌, pos, OnOk, IfOk, string_bytes};
+ghost use Rattle.std.specs.Prelude.{◌≡◌, ◌<◌, ◌≤◌, ◌++◌, ◌^◌, ◌==◌, true, false, [], ◌∷◌, pos, OnOk, IfOk, string_bytes};
 ghost use Rattle.std.specs.Int.{w32, trailing_zeros};
 ghost use Rattle.number_text.specs.Lines.{text_of};
 ghost use Rattle.qp_model.specs.machine.Controller.{numbers};
-ghost use Rattle.qp_model.specs.machine.AbsoluteSums.{IsController};
+ghost use Rattle.overflow_check.specs.declared.machine.Machine.{Machine};
 ghost use Rattle.c_program.specs.Syntax.{variable};
 ghost use Rattle.c_program.specs.Syntax.Family.{Output};
 ghost use Rattle.c_program.specs.Syntax.Expression.{Value};
-ghost use Rattle.c_program.specs.Of.{doubled_rest, average_expression, program_of};
+ghost use Rattle.c_program.specs.Of.{doubled_rest, average_of};
+ghost use Rattle.c_program.specs.ByMachine.{program_for};
 ghost use Rattle.c_program.specs.Text.{constant_text, expression_text, average_line, average_head_text, second_lines, numbered_lines};
+ghost use Rattle.c_program.specs.Measured.{program_in};
 
+use crate::measured::Measured;
+use crate::tops::plans_of;
 use crate::words::push_pieces;
 use qp_model::ControllerParts;
 use std::alloc::{AllocError, Global};
@@ -77,16 +81,16 @@ fn rest_word(alloc: Global, steps: u32, j: usize) -> Result<String, AllocError>
 fn push_shifted(
     alloc: Global,
     text: &mut String,
-    c: &ControllerParts,
+    steps: u32,
     j: usize,
 ) -> Result<(), AllocError>
-    requires { (c.now.steps == 2 ^ trailing_zeros w32 c.now.steps) ≡ true }
-    ensures { OnOk result (string_bytes text.new ≡ string_bytes text.old ++ text_of (average_line j (average_expression (numbers c.now) j) ∷ [])) }
+    requires { (steps == 2 ^ trailing_zeros w32 steps) ≡ true }
+    ensures { OnOk result (string_bytes text.new ≡ string_bytes text.old ++ text_of (average_line j (average_of steps j) ∷ [])) }
 {
     let number = j.to_string(alloc)?;
     let sum = output_word(alloc, j)?;
-    let half = count_word(alloc, c.steps / 2)?;
-    let bits = c.steps.trailing_zeros().to_string(alloc)?;
+    let half = count_word(alloc, steps / 2)?;
+    let bits = steps.trailing_zeros().to_string(alloc)?;
     push_pieces(
         text,
         &[
@@ -113,18 +117,18 @@ fn push_shifted(
 fn push_divided(
     alloc: Global,
     text: &mut String,
-    c: &ControllerParts,
+    steps: u32,
     j: usize,
 ) -> Result<(), AllocError>
-    requires sound { IsController (numbers c.now) }
-    requires other { (c.now.steps == 2 ^ trailing_zeros w32 c.now.steps) ≡ false }
-    ensures { OnOk result (string_bytes text.new ≡ string_bytes text.old ++ text_of (average_line j (average_expression (numbers c.now) j) ∷ [])) }
+    requires some { 0 < steps }
+    requires other { (steps == 2 ^ trailing_zeros w32 steps) ≡ false }
+    ensures { OnOk result (string_bytes text.new ≡ string_bytes text.old ++ text_of (average_line j (average_of steps j) ∷ [])) }
 {
     let number = j.to_string(alloc)?;
     let sum = output_word(alloc, j)?;
-    let rest = rest_word(alloc, c.steps, j)?;
-    let count = count_word(alloc, c.steps)?;
-    let less = count_word(alloc, c.steps - 1)?;
+    let rest = rest_word(alloc, steps, j)?;
+    let count = count_word(alloc, steps)?;
+    let less = count_word(alloc, steps - 1)?;
     push_pieces(
         text,
         &[
@@ -148,31 +152,31 @@ fn push_divided(
     Ok(())
 }
 
-// The line of average `j`.
-fn push_average(
-    alloc: Global,
-    text: &mut String,
-    c: &ControllerParts,
-    j: usize,
-) -> Result<(), AllocError>
-    requires { IsController (numbers c.now) }
-    ensures { OnOk result (string_bytes text.new ≡ string_bytes text.old ++ text_of (average_line j (average_expression (numbers c.now) j) ∷ [])) }
+// The line of average `j` over these steps.
+fn push_average(alloc: Global, text: &mut String, steps: u32, j: usize) -> Result<(), AllocError>
+    requires { 0 < steps }
+    ensures { OnOk result (string_bytes text.new ≡ string_bytes text.old ++ text_of (average_line j (average_of steps j) ∷ [])) }
 {
-    if is_power_of_two(c.steps) {
-        push_shifted(alloc, text, c, j)
+    if is_power_of_two(steps) {
+        push_shifted(alloc, text, steps, j)
     } else {
-        push_divided(alloc, text, c, j)
+        push_divided(alloc, text, steps, j)
     }
 }
 
 // The lines of the averages.
-fn push_averages(alloc: Global, text: &mut String, c: &ControllerParts) -> Result<(), AllocError>
-    requires { IsController (numbers c.now) }
+fn push_averages(
+    alloc: Global,
+    text: &mut String,
+    steps: u32,
+    count: usize,
+) -> Result<(), AllocError>
+    requires { 0 < steps }
     ensures { OnOk result (string_bytes text.new ≡ string_bytes text.old ++
-        text_of (numbered_lines (λ j. average_line j (average_expression (numbers c.now) j)) c.now.p)) }
+        text_of (numbered_lines (λ j. average_line j (average_of steps j)) count)) }
 {
-    for j in 0..c.p {
-        push_average(alloc, text, c, j)?;
+    for j in 0..count {
+        push_average(alloc, text, steps, j)?;
     }
     Ok(())
 }
@@ -184,7 +188,7 @@ pub fn push_average_head(
     c: &ControllerParts,
     name: &str,
 ) -> Result<(), AllocError>
-    ensures { OnOk result (string_bytes text.new ≡ string_bytes text.old ++ average_head_text name.now (program_of (numbers c.now))) }
+    ensures { OnOk result ((m : Machine) → string_bytes text.new ≡ string_bytes text.old ++ average_head_text name.now (program_for m (numbers c.now))) }
 {
     let sums = c.t.len().to_string(alloc)?;
     let inputs = c.p.to_string(alloc)?;
@@ -204,18 +208,12 @@ pub fn push_average_head(
 }
 
 // The second function.
-pub fn push_second(
-    alloc: Global,
-    text: &mut String,
-    c: &ControllerParts,
-    name: &str,
-) -> Result<(), AllocError>
-    requires { IsController (numbers c.now) }
-    ensures { OnOk result (string_bytes text.new ≡ string_bytes text.old ++ text_of (second_lines name.now (program_of (numbers c.now)))) }
+pub fn push_second(from: &Measured, text: &mut String, name: &str) -> Result<(), AllocError>
+    ensures { OnOk result (string_bytes text.new ≡ string_bytes text.old ++ text_of (second_lines name.now (program_in from.now))) }
 {
-    push_average_head(alloc, text, c, name)?;
+    push_average_head(from.alloc, text, from.c, name)?;
     text.push_str("\n{\n")?;
-    push_averages(alloc, text, c)?;
+    push_averages(from.alloc, text, plans_of(from), from.c.p)?;
     text.push_str("}\n")?;
     Ok(())
 }

@@ -2,13 +2,13 @@
 ghost use Rattle.std.specs.Prelude.{◌≡◌, ◌++◌, [], ◌∷◌, OnOk, IfOk, string_bytes};
 ghost use Rattle.number_text.specs.Lines.{text_of};
 ghost use Rattle.qp_model.specs.machine.Controller.{numbers};
-ghost use Rattle.c_program.specs.Of.{program_of};
+ghost use Rattle.overflow_check.specs.declared.machine.Machine.{Machine};
+ghost use Rattle.c_program.specs.ByMachine.{program_for};
 ghost use Rattle.c_program.specs.Text.{guard_lines, size_line, size_lines, function_lines, header_text};
 
 use crate::averages::push_average_head;
 use crate::words::push_pieces;
 use crate::writer::push_head;
-use overflow_check::Controller;
 use qp_model::ControllerParts;
 use std::alloc::{AllocError, Global};
 
@@ -73,7 +73,7 @@ fn push_functions(
     c: &ControllerParts,
     name: &str,
 ) -> Result<(), AllocError>
-    ensures { OnOk result (string_bytes text.new ≡ string_bytes text.old ++ text_of (function_lines name.now (program_of (numbers c.now)))) }
+    ensures { OnOk result ((m : Machine) → string_bytes text.new ≡ string_bytes text.old ++ text_of (function_lines name.now (program_for m (numbers c.now)))) }
 {
     text.push_str("\n#ifdef __cplusplus\nextern \"C\" {\n#endif\n\n")?;
     text.push_str(
@@ -88,14 +88,13 @@ fn push_functions(
     Ok(())
 }
 
-/// The header of the program of a controller, whose functions have this name: its numbers, and how they are called.
-pub fn write_header(alloc: Global, c: &Controller, name: &str) -> Result<String, AllocError>
-    ensures { IfOk result (λ text. string_bytes text ≡ header_text name.now c.now (program_of c.now)) }
+/// The header of the program of a controller of these numbers, whose functions have this name: its numbers, and how they are called. It is the same for either machine.
+pub fn write_header(alloc: Global, c: &ControllerParts, name: &str) -> Result<String, AllocError>
+    ensures { IfOk result (λ text. (m : Machine) → string_bytes text ≡ header_text name.now (numbers c.now) (program_for m (numbers c.now))) }
 {
-    let parts = c.parts();
     let mut text = String::new(alloc);
     push_guard(&mut text, name)?;
-    push_sizes(alloc, &mut text, parts, name)?;
-    push_functions(alloc, &mut text, parts, name)?;
+    push_sizes(alloc, &mut text, c, name)?;
+    push_functions(alloc, &mut text, c, name)?;
     Ok(text)
 }

@@ -6,6 +6,7 @@ mod ending;
 mod header;
 mod laws;
 mod lines;
+mod means;
 mod measured;
 mod needed;
 mod opposite;
@@ -23,4 +24,4 @@ pub use laws::{
     expression_text_law, fast_program_law, fast_short_text_law, fast_worked_lines, program_law,
     program_text_law, short_text_law, statement_text_law, worked_lines,
 };
-pub use writer::write_program;
+pub use writer::{write_fast_program, write_program};

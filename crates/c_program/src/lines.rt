@@ -1,13 +1,13 @@
 // Single lines.
 ghost use Rattle.std.specs.Prelude.{◌≡◌, ◌<◌, ◌^◌, ◌++◌, [], ◌∷◌, OnOk, IfOk, string_bytes, unsigned_abs};
 ghost use Rattle.number_text.specs.Lines.{text_of};
-ghost use Rattle.c_program.specs.Syntax.Family.{Sum};
-ghost use Rattle.c_program.specs.Of.{kind_of, sum_statements};
-ghost use Rattle.c_program.specs.Text.{kind_text, comparison_text, above_text, refusal_text};
-ghost use Rattle.c_program.specs.Measured.{controller_in, loop_text};
+ghost use Rattle.c_program.specs.ByMachine.{sum_for};
+ghost use Rattle.c_program.specs.Text.{comparison_text, above_text, refusal_text};
+ghost use Rattle.c_program.specs.Measured.{entry_count, loop_text};
 
 use crate::measured::Measured;
-use crate::words::{constant_word, push_pieces};
+use crate::tops::sum_top;
+use crate::words::{constant_word, kind_word, push_pieces, weight_end, weight_open};
 use std::alloc::{AllocError, Global};
 
 // The greatest number of a state.
@@ -83,12 +83,15 @@ pub fn push_refusal(
     Ok(())
 }
 
-// The line that adds plan entry `j` to its sum, which has this type.
-pub fn push_sum(from: &Measured, text: &mut String, kind: &str, j: usize) -> Result<(), AllocError>
-    requires { kind.now ≡ kind_text (kind_of (controller_in from.now) Sum j) }
-    ensures { OnOk result (string_bytes text.new ≡ string_bytes text.old ++ loop_text from.now (sum_statements j)) }
+// The line that adds plan entry `j` to its sum by the step's weight.
+pub fn push_sum(from: &Measured, text: &mut String, j: usize) -> Result<(), AllocError>
+    requires in_range { j < entry_count from.now }
+    ensures { OnOk result (string_bytes text.new ≡ string_bytes text.old ++ loop_text from.now (sum_for from.now.machine j)) }
 {
     let number = j.to_string(from.alloc)?;
+    let kind = kind_word(sum_top(from, j));
+    let open = weight_open(from.machine);
+    let end = weight_end(from.machine);
     push_pieces(
         text,
         &[
@@ -103,9 +106,11 @@ pub fn push_sum(from: &Measured, text: &mut String, kind: &str, j: usize) -> Res
             "s",
             number.as_str(),
             " + ",
+            open,
             "(int64_t)",
             "u",
             number.as_str(),
+            end,
             ")",
             ";",
             "\n",

@@ -4,9 +4,10 @@ ghost use Rattle.integer_algebra.specs.Sums.{at};
 ghost use Rattle.mat_int.specs.Matrix.{row_of};
 ghost use Rattle.qp_model.specs.machine.Controller.{numbers};
 ghost use Rattle.qp_model.specs.machine.AbsoluteSums.{IsController};
+ghost use Rattle.overflow_check.specs.FastController.{with_last_version};
 ghost use Rattle.c_program.specs.Of.{any_below, is_product, is_row_needed, is_coordinate_needed};
 ghost use Rattle.c_program.specs.Terms.{reaches_row};
-ghost use Rattle.c_program.specs.Measured.{controller_in};
+ghost use Rattle.c_program.specs.Measured.{controller_in, row_count};
 
 use crate::measured::Measured;
 use crate::opposite::both;
@@ -53,16 +54,28 @@ fn has_column_product(a: &Mat, k: usize, top: u128) -> bool
 
 // Whether multiplier `i` reaches a plan entry.
 pub fn is_row_needed_at(c: &ControllerParts, i: usize) -> bool
-    requires sound { IsController (numbers c.now) }
+    requires sound { IsController (with_last_version (numbers c.now)) }
     requires in_range { i < length c.now.bound.items }
     ensures { result ≡ is_row_needed (numbers c.now) i }
 {
     has_column_product(&c.w_mat, i, multiplier_top(c, i))
 }
 
+// Whether any row is needed.
+pub fn is_any_row_needed(from: &Measured) -> bool
+    ensures { result ≡ any_below (is_row_needed (controller_in from.now)) (row_count from.now) }
+{
+    let mut found = false;
+    for i in 0..from.c.bound.len() {
+        let next = is_row_needed_at(from.c, i);
+        found = either(found, next);
+    }
+    found
+}
+
 // Whether coordinate `k` of the state, of at most this absolute value, reaches the base of row `i`, and that row is needed.
 fn is_in_needed_row(c: &ControllerParts, i: usize, k: usize, top: u128) -> bool
-    requires sound { IsController (numbers c.now) }
+    requires sound { IsController (with_last_version (numbers c.now)) }
     requires row { i < length c.now.bound.items }
     requires coordinate { k < c.now.n }
     ensures { result ≡ reaches_row (numbers c.now) k top i }
@@ -74,7 +87,7 @@ fn is_in_needed_row(c: &ControllerParts, i: usize, k: usize, top: u128) -> bool
 
 // Whether it does so for any row.
 fn is_in_needed_rows(c: &ControllerParts, k: usize, top: u128) -> bool
-    requires sound { IsController (numbers c.now) }
+    requires sound { IsController (with_last_version (numbers c.now)) }
     requires coordinate { k < c.now.n }
     ensures { result ≡ any_below (λ i. reaches_row (numbers c.now) k top i) (length c.now.bound.items) }
 {

@@ -5,6 +5,7 @@ ghost use Rattle.mat_int.specs.Matrix.{row_of};
 ghost use Rattle.qp_model.specs.machine.Controller.{numbers};
 ghost use Rattle.qp_model.specs.machine.Machine.{exponent_of};
 ghost use Rattle.qp_model.specs.machine.AbsoluteSums.{IsController};
+ghost use Rattle.overflow_check.specs.FastController.{with_last_version};
 ghost use Rattle.c_program.specs.Of.{are_negated, are_opposed, first_opposed, partner, is_first, is_second};
 ghost use Rattle.c_program.specs.Terms.{partners_of};
 ghost use Rattle.c_program.specs.Measured.{controller_in, row_count};
@@ -65,7 +66,7 @@ fn are_columns_negated(a: &Mat, k: usize, i: usize) -> bool
 
 // Whether rows `k` and `i` have one exponent.
 fn have_one_exponent(c: &ControllerParts, k: usize, i: usize) -> bool
-    requires sound { IsController (numbers c.now) }
+    requires sound { IsController (with_last_version (numbers c.now)) }
     requires one { k < length c.now.bound.items }
     requires other { i < length c.now.bound.items }
     ensures { result ≡ (exponent_of (numbers c.now) k == exponent_of (numbers c.now) i) }
@@ -75,7 +76,7 @@ fn have_one_exponent(c: &ControllerParts, k: usize, i: usize) -> bool
 
 // Whether rows `k` and `i` are opposite.
 fn are_rows_opposite(c: &ControllerParts, k: usize, i: usize) -> bool
-    requires sound { IsController (numbers c.now) }
+    requires sound { IsController (with_last_version (numbers c.now)) }
     requires one { k < length c.now.bound.items }
     requires other { i < length c.now.bound.items }
     ensures { result ≡ are_opposed (numbers c.now) k i }
@@ -88,7 +89,7 @@ fn are_rows_opposite(c: &ControllerParts, k: usize, i: usize) -> bool
 
 // The first of the rows before row `n + 1` that is opposite to row `i`, from that of the rows before row `n`.
 fn next_opposed(c: &ControllerParts, first: usize, i: usize, n: usize) -> usize
-    requires sound { IsController (numbers c.now) }
+    requires sound { IsController (with_last_version (numbers c.now)) }
     requires first { first ≡ first_opposed (numbers c.now) i n }
     requires one { n < length c.now.bound.items }
     requires other { i < length c.now.bound.items }
@@ -105,7 +106,7 @@ fn next_opposed(c: &ControllerParts, first: usize, i: usize, n: usize) -> usize
 
 // The first row that is opposite to row `i`, and the number of rows where none is.
 fn partner_of(c: &ControllerParts, i: usize) -> usize
-    requires sound { IsController (numbers c.now) }
+    requires sound { IsController (with_last_version (numbers c.now)) }
     requires in_range { i < length c.now.bound.items }
     ensures { result ≡ partner (numbers c.now) i }
 {
@@ -118,7 +119,7 @@ fn partner_of(c: &ControllerParts, i: usize) -> usize
 
 // Those of all rows.
 pub fn partners(alloc: Global, c: &ControllerParts) -> Result<Vec<usize>, AllocError>
-    requires { IsController (numbers c.now) }
+    requires { IsController (with_last_version (numbers c.now)) }
     ensures { IfOk result (λ v. v.items ≡ partners_of (numbers c.now)) }
 {
     let mut partners = Vec::new(alloc);

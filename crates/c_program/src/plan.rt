@@ -3,10 +3,12 @@ ghost use Rattle.std.specs.Prelude.{◌≡◌, ◌<◌, ◌≤◌, ◌+◌, ◌^
 ghost use Rattle.qp_model.specs.machine.Controller.{numbers};
 ghost use Rattle.qp_model.specs.machine.Machine.{lowering_of};
 ghost use Rattle.qp_model.specs.machine.AbsoluteSums.{IsController};
+ghost use Rattle.overflow_check.specs.FastController.{with_last_version};
 ghost use Rattle.c_program.specs.Syntax.{variable, groups};
 ghost use Rattle.c_program.specs.Syntax.Family.{Multiplier};
 ghost use Rattle.c_program.specs.Syntax.Expression.{Value, Minus};
-ghost use Rattle.c_program.specs.Of.{multiplier_top, is_first, gain_of, gain_variable, difference_statements, entry_expression, entry_statements, sum_statements};
+ghost use Rattle.c_program.specs.Of.{multiplier_top, is_first, gain_of, gain_variable, difference_statements, entry_expression, entry_statements};
+ghost use Rattle.c_program.specs.ByMachine.{sum_for};
 ghost use Rattle.c_program.specs.Text.{variable_text, expression_text};
 ghost use Rattle.c_program.specs.Terms.{gain_text, gains_text};
 ghost use Rattle.c_program.specs.Measured.{controller_in, row_count, entry_count, loop_text, needed_loop_text, row_text};
@@ -15,7 +17,7 @@ use crate::lines::push_sum;
 use crate::measured::Measured;
 use crate::needed::is_row_needed_at;
 use crate::opposite::{is_first_at, is_second_at, partner_at};
-use crate::tops::{lowering_at, multiplier_top, sum_top};
+use crate::tops::{lowering_at, multiplier_top};
 use crate::words::{kind_word, push_declared, push_end, push_number, push_scaled, push_value};
 use qp_model::ControllerParts;
 use std::alloc::{AllocError, Global};
@@ -147,7 +149,7 @@ fn push_gains(from: &Measured, text: &mut String, j: usize) -> Result<(), AllocE
 
 // By how many bits a plan entry is shifted.
 fn entry_shift(c: &ControllerParts) -> u32
-    requires { IsController (numbers c.now) }
+    requires { IsController (with_last_version (numbers c.now)) }
     ensures value { result ≡ min (c.now.f + c.now.s) 63 }
     ensures small { result ≤ 63 }
 {
@@ -197,21 +199,12 @@ pub fn push_entries(from: &Measured, text: &mut String) -> Result<(), AllocError
     Ok(())
 }
 
-// The line that adds plan entry `j` to its sum.
-fn push_one_sum(from: &Measured, text: &mut String, j: usize) -> Result<(), AllocError>
-    requires in_range { j < entry_count from.now }
-    ensures { OnOk result (string_bytes text.new ≡ string_bytes text.old ++ loop_text from.now (sum_statements j)) }
-{
-    push_sum(from, text, kind_word(sum_top(from, j)), j)?;
-    Ok(())
-}
-
 // The lines that add the plan to its sums.
 pub fn push_sums(from: &Measured, text: &mut String) -> Result<(), AllocError>
-    ensures { OnOk result (string_bytes text.new ≡ string_bytes text.old ++ loop_text from.now (groups sum_statements (entry_count from.now))) }
+    ensures { OnOk result (string_bytes text.new ≡ string_bytes text.old ++ loop_text from.now (groups (sum_for from.now.machine) (entry_count from.now))) }
 {
     for j in 0..from.c.t.len() {
-        push_one_sum(from, text, j)?;
+        push_sum(from, text, j)?;
     }
     Ok(())
 }

@@ -1,24 +1,25 @@
 // The statements before the loop.
-ghost use Rattle.std.specs.Prelude.{◌≡◌, ◌<◌, ◌-◌, ◌^◌, ◌++◌, pos, length, OnOk, string_bytes, unsigned_abs};
+ghost use Rattle.std.specs.Prelude.{◌≡◌, ℕ, ◌<◌, ◌-◌, ◌^◌, ◌++◌, pos, length, OnOk, decimal, string_bytes, unsigned_abs};
 ghost use Rattle.qp_model.specs.machine.Controller.{numbers};
 ghost use Rattle.qp_model.specs.machine.AbsoluteSums.{IsController};
-ghost use Rattle.c_program.specs.Syntax.{groups};
-ghost use Rattle.c_program.specs.Syntax.Family.{Multiplier, Sum};
+ghost use Rattle.overflow_check.specs.FastController.{with_last_version};
+ghost use Rattle.c_program.specs.Syntax.{variable, groups};
+ghost use Rattle.c_program.specs.Syntax.Family.{Sum};
 ghost use Rattle.c_program.specs.Of.{loaded_expression, loaded_statements, entry_base_statements, row_base_statements, zero_statements};
-ghost use Rattle.c_program.specs.Text.{expression_text};
-ghost use Rattle.c_program.specs.Measured.{controller_in, row_count, entry_count, start_text, needed_start_text, row_text, coordinate_text};
+ghost use Rattle.c_program.specs.Text.{variable_text, expression_text};
+ghost use Rattle.c_program.specs.Measured.{controller_in, held_family, row_count, entry_count, start_text, needed_start_text, row_text, coordinate_text};
 
-use crate::measured::Measured;
+use crate::measured::{Held, Measured};
 use crate::needed::{is_coordinate_needed_at, is_row_needed_at};
 use crate::sums::{push_row, push_scaled_row};
-use crate::tops::{bound_at, multiplier_top, offset_at, sum_top};
+use crate::tops::{bound_at, held_kind, offset_at, sum_top};
 use crate::words::{kind_word, push_constant, push_declared, push_end, push_number};
 use qp_model::ControllerParts;
 use std::alloc::AllocError;
 
 // `2^(f-g)`.
 fn grid_step(c: &ControllerParts) -> i128
-    requires { IsController (numbers c.now) }
+    requires { IsController (with_last_version (numbers c.now)) }
     ensures value { result ≡ pos (2 ^ (c.now.f - c.now.g)) }
     ensures small { unsigned_abs result < 2 ^ 127 }
 {
@@ -138,44 +139,54 @@ pub fn push_row_bases(from: &Measured, text: &mut String) -> Result<(), AllocErr
     Ok(())
 }
 
-// The line of multiplier `i`.
-fn push_multiplier(from: &Measured, text: &mut String, i: usize) -> Result<(), AllocError>
-    requires in_range { i < row_count from.now }
-    ensures { OnOk result (string_bytes text.new ≡ string_bytes text.old ++ start_text from.now (zero_statements Multiplier i)) }
+// The letter of what is held of rows.
+pub fn held_letter(held: Held) -> &'static str
+    ensures { (i : ℕ) → result.now ++ decimal i ≡ variable_text (variable (held_family held) i) }
 {
-    push_declared(
-        from.alloc,
-        text,
-        "    ",
-        kind_word(multiplier_top(from.c, i)),
-        "l",
-        i,
-    )?;
+    match held {
+        Held::Planned => "l",
+        Held::Kept => "m",
+        Held::Added => "v",
+    }
+}
+
+// The line of what is held of row `i`.
+fn push_zero(from: &Measured, text: &mut String, held: Held, i: usize) -> Result<(), AllocError>
+    requires in_range { i < row_count from.now }
+    ensures { OnOk result (string_bytes text.new ≡ string_bytes text.old ++ start_text from.now (zero_statements (held_family held) i)) }
+{
+    let kind = held_kind(from, held, i);
+    push_declared(from.alloc, text, "    ", kind, held_letter(held), i)?;
     text.push_str("INT64_C(0)")?;
     push_end(text)?;
     Ok(())
 }
 
 // The same where the row is needed.
-fn push_needed_multiplier(from: &Measured, text: &mut String, i: usize) -> Result<(), AllocError>
+fn push_needed_zero(
+    from: &Measured,
+    text: &mut String,
+    held: Held,
+    i: usize,
+) -> Result<(), AllocError>
     requires in_range { i < row_count from.now }
     ensures { OnOk result (string_bytes text.new ≡ string_bytes text.old ++
-        row_text from.now i (start_text from.now (zero_statements Multiplier i))) }
+        row_text from.now i (start_text from.now (zero_statements (held_family held) i))) }
 {
     if is_row_needed_at(from.c, i) {
-        push_multiplier(from, text, i)
+        push_zero(from, text, held, i)
     } else {
         Ok(())
     }
 }
 
-// The lines of the multipliers.
-pub fn push_multipliers(from: &Measured, text: &mut String) -> Result<(), AllocError>
+// The lines of what is held of rows.
+pub fn push_zeros(from: &Measured, text: &mut String, held: Held) -> Result<(), AllocError>
     ensures { OnOk result (string_bytes text.new ≡ string_bytes text.old ++
-        needed_start_text from.now (groups (zero_statements Multiplier) (row_count from.now))) }
+        needed_start_text from.now (groups (zero_statements (held_family held)) (row_count from.now))) }
 {
     for i in 0..from.c.bound.len() {
-        push_needed_multiplier(from, text, i)?;
+        push_needed_zero(from, text, held, i)?;
     }
     Ok(())
 }

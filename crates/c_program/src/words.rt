@@ -3,9 +3,10 @@ ghost use Rattle.std.specs.Prelude.{◌≡◌, ◌≢◌, ◌<◌, ◌≤◌, �
 ghost use Rattle.std.specs.Fmt.{signed_decimal};
 ghost use Rattle.c_program.specs.Text.{constant_text, kind_text};
 ghost use Rattle.c_program.specs.Of.{kind_for};
-ghost use Rattle.c_program.specs.Terms.{joined, lowered_text, term_text, product_text, given_text, given_end, declared_text};
+ghost use Rattle.c_program.specs.Terms.{joined, lowered_text, term_text, product_text, given_text, given_end, declared_text, weight_open, weight_end};
 
 use frac_scaled::scaled;
+use overflow_check::Machine;
 use std::alloc::{AllocError, Global};
 
 // A number.
@@ -232,4 +233,24 @@ pub fn push_pieces(text: &mut String, pieces: &[&str]) -> Result<(), AllocError>
         text.push_str(piece)?;
     }
     Ok(())
+}
+
+// What stands before what is added by a step's weight.
+pub fn weight_open(machine: Machine) -> &'static str
+    ensures { result.now ≡ weight_open machine }
+{
+    match machine {
+        Machine::Plain => "",
+        Machine::Accelerated => "((int64_t)k0 * ",
+    }
+}
+
+// And behind it.
+pub fn weight_end(machine: Machine) -> &'static str
+    ensures { result.now ≡ weight_end machine }
+{
+    match machine {
+        Machine::Plain => "",
+        Machine::Accelerated => ")",
+    }
 }

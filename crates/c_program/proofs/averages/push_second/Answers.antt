@@ -4,17 +4,19 @@ use Rattle.number_text.specs.Lines.{text_of}
 use Rattle.qp_model.specs.machine.Controller.{numbers}
 use Rattle.c_program.specs.Syntax.{Expression}
 use Rattle.c_program.specs.Syntax.Expression.{Constant}
-use Rattle.c_program.specs.Of.{average_expression, program_of}
+use Rattle.c_program.specs.Of.{average_of}
+use Rattle.c_program.specs.ByMachine.{plans_for}
 use Rattle.c_program.specs.Text.{numbered_lines, average_line, average_head_text}
+use Rattle.c_program.specs.Measured.{program_in}
 use Rattle.c_program.proofs.Texts.{lines_then, lines_same, opened}
 use Rattle.c_program.proofs.averages.push_second.Goals as goal
 
 pub returns : goal.returns
 returns c =
-    let n = numbers c.args.c.now in
-    let p = program_of n in
+    let n = numbers c.args.from.now.c.now in
+    let p = program_in c.args.from.now in
     let old = string_bytes c.args.text.now in
-    let new = average_expression n in
+    let new = average_of (plans_for c.args.from.now.machine n) in
     let a = average_head_text c.args.name.now p ∷ codes "{" ∷ [] in
     let b = numbered_lines (λ j. average_line j (new j)) n.inputs in
     let t1 = string_bytes c.push_str.new.self in
@@ -24,6 +26,6 @@ returns c =
     lines_same (λ j. average_line j (new j)) line n.inputs (λ k l. ap (λ (e : Expression). average_line k e) (sym (get_or-map-range_with_len new 0 n.inputs k k (Constant (pos 0)) l (omega arith)))) ∙
     ap (λ (k : ℕ). numbered_lines line k) (sym (length-map-range_with_len new 0 n.inputs)) in
     lines_then (a ++ b) (codes "}" ∷ []) old t2 (string_bytes c.push_str-2.new.self)
-    (lines_then a b old t1 t2 (opened (average_head_text c.args.name.now p) old (string_bytes c.push_average_head.new.text) t1 c.in_ok-push_average_head.ensures c.in_ok-push_str.ensures.bytes)
-    c.in_ok-push_averages.ensures) c.in_ok-push_str-2.ensures.bytes ∙
+    (lines_then a b old t1 t2 (opened (average_head_text c.args.name.now p) old (string_bytes c.push_average_head.new.text) t1 (c.in_ok-push_average_head.ensures c.args.from.now.machine) c.in_ok-push_str.ensures.bytes)
+    (c.in_ok-push_averages.ensures ∙ ap (λ (k : ℕ). t1 ++ text_of (numbered_lines (λ j. average_line j (average_of k j)) n.inputs)) c.plans_of.ensures.value)) c.in_ok-push_str-2.ensures.bytes ∙
     ap (λ (ls : List (List ℕ)). old ++ text_of (a ++ ls ++ codes "}" ∷ [])) same

@@ -12,7 +12,7 @@ use Rattle.c_program.proofs.averages.push_shifted.Goals as goal
 
 pub returns : goal.returns
 returns c =
-    let steps = c.args.c.now.steps in
+    let steps = c.args.steps in
     let k = trailing_zeros w32 steps in
     let sum = Value (variable Output c.args.j) in
     let half = constant_text (pos (steps / 2)) in

@@ -1,13 +1,13 @@
 use Rattle.std.proofs.Common.{◌++◌, ◌∷◌, [], codes, string_bytes}
 use Rattle.qp_model.specs.machine.Controller.{numbers}
-use Rattle.c_program.specs.Of.{program_of}
+use Rattle.c_program.specs.ByMachine.{program_for}
 use Rattle.c_program.specs.Text.{head_text, average_head_text}
 use Rattle.c_program.proofs.Texts.{lines_then, ended}
 use Rattle.c_program.proofs.header.push_functions.Goals as goal
 
 pub returns : goal.returns
-returns c =
-    let p = program_of (numbers c.args.c.now) in
+returns c = λ m.
+    let p = program_for m (numbers c.args.c.now) in
     let name = c.args.name.now in
     let old = string_bytes c.args.text.now in
     let first = head_text name p in
@@ -24,4 +24,4 @@ returns c =
     let t6 = string_bytes c.push_str-4.new.self in
     lines_then (a ++ b ++ (first ++ codes ";") ∷ d) ((second ++ codes ";") ∷ e) old t4 t6
     (lines_then (a ++ b) ((first ++ codes ";") ∷ d) old t2 t4 (lines_then a b old t1 t2 c.in_ok-push_str.ensures.bytes c.in_ok-push_str-2.ensures.bytes)
-    (ended first d t2 t3 t4 c.in_ok-push_head.ensures c.in_ok-push_str-3.ensures.bytes)) (ended second e t4 t5 t6 c.in_ok-push_average_head.ensures c.in_ok-push_str-4.ensures.bytes)
+    (ended first d t2 t3 t4 c.in_ok-push_head.ensures c.in_ok-push_str-3.ensures.bytes)) (ended second e t4 t5 t6 (c.in_ok-push_average_head.ensures m) c.in_ok-push_str-4.ensures.bytes)

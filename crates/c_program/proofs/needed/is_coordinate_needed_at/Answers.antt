@@ -2,6 +2,7 @@ use Rattle.std.proofs.Common.{◌≡◌, ◌∙◌, ◌&&◌, ◌||◌, ℕ, Lis
 use Rattle.integer_algebra.specs.Sums.{at}
 use Rattle.mat_int.specs.Matrix.{row_of}
 use Rattle.qp_model.specs.machine.Controller.{numbers}
+use Rattle.overflow_check.specs.FastController.{with_last_version}
 use Rattle.overflow_check.proofs.Sizes.{length-state_reach}
 use Rattle.c_program.specs.Of.{any_below, is_product, is_row_needed, state_top}
 use Rattle.c_program.proofs.Lists.{coordinate_needed}
@@ -11,14 +12,14 @@ pub has_column_product-entry-requires : goal.has_column_product-entry-requires
 has_column_product-entry-requires c =
     let n = numbers c.args.from.now.c.now in
     let sized = c.args.from.now.sound.form.sized in
-    let long : length c.args.from.now.states.now ≡ n.states = ap (λ (xs : List ℕ). length xs) c.args.from.now.state_tops ∙ length-state_reach n sized in
+    let long : length c.args.from.now.states.now ≡ n.states = ap (λ (xs : List ℕ). length xs) c.args.from.now.state_tops ∙ length-state_reach (with_last_version n) sized in
     omega (arith, long, c.requires.in_range, sized.shaped.state_gains.cols)
 
 pub is_in_needed_rows-row-requires-clause-coordinate : goal.is_in_needed_rows-row-requires-clause-coordinate
 is_in_needed_rows-row-requires-clause-coordinate c =
     let n = numbers c.args.from.now.c.now in
     let sized = c.args.from.now.sound.form.sized in
-    let long : length c.args.from.now.states.now ≡ n.states = ap (λ (xs : List ℕ). length xs) c.args.from.now.state_tops ∙ length-state_reach n sized in
+    let long : length c.args.from.now.states.now ≡ n.states = ap (λ (xs : List ℕ). length xs) c.args.from.now.state_tops ∙ length-state_reach (with_last_version n) sized in
     omega (arith, long, c.requires.in_range)
 
 pub returns : goal.returns

@@ -7,6 +7,7 @@ use Rattle.c_program.specs.Syntax.Statement.{Declare}
 use Rattle.c_program.specs.Of.{kind_for, partner}
 use Rattle.c_program.specs.Text.{kind_text, expression_text}
 use Rattle.c_program.specs.Terms.{block_text}
+use Rattle.c_program.specs.Measured.{kinds_in}
 use Rattle.c_program.proofs.Texts.{declared_line}
 use Rattle.c_program.proofs.plan.push_difference.Goals as goal
 
@@ -15,8 +16,8 @@ returns c =
     let n = numbers c.args.from.now.c.now in
     let difference = λ (k : ℕ). Minus (Value (variable Multiplier c.args.i)) (Value (variable Multiplier k)) in
     let value = difference (partner n c.args.i) in
-    declared_line n (variable Difference c.args.i) value (codes "        ") c.kind_word.result.now (string_bytes c.args.text.now) (string_bytes c.push_declared.new.text)
+    declared_line (kinds_in c.args.from.now) (variable Difference c.args.i) value (codes "        ") c.kind_word.result.now (string_bytes c.args.text.now) (string_bytes c.push_declared.new.text)
     (string_bytes c.push_difference_value.new.text) (string_bytes c.push_end.new.text) (c.kind_word.ensures ∙ ap (λ (top : ℕ). kind_text (kind_for top)) c.multiplier_top.ensures)
     c.in_ok-push_declared.ensures
     (c.in_ok-push_difference_value.ensures ∙ ap (λ (k : ℕ). string_bytes c.push_declared.new.text ++ expression_text (difference k)) c.partner_at.ensures) c.in_ok-push_end.ensures ∙
-    ap (λ (b : Bool). string_bytes c.args.text.now ++ block_text n (codes "        ") (if b then Declare (variable Difference c.args.i) value ∷ [] else [])) (sym c.requires.first)
+    ap (λ (b : Bool). string_bytes c.args.text.now ++ block_text (kinds_in c.args.from.now) (codes "        ") (if b then Declare (variable Difference c.args.i) value ∷ [] else [])) (sym c.requires.first)

@@ -1,16 +1,21 @@
 use Rattle.std.proofs.Common.{◌≡◌, ◌++◌, ◌∙◌, ℕ, List, ap, string_bytes, codes, decimal, rules, [], ◌∷◌}
-use Rattle.qp_model.specs.machine.Controller.{numbers}
-use Rattle.c_program.specs.Of.{kind_for, multiplier_top}
-use Rattle.c_program.specs.Text.{kind_text}
+use Rattle.c_program.specs.Syntax.{Family, variable}
+use Rattle.c_program.specs.Text.{variable_text, kind_text}
+use Rattle.c_program.specs.ByMachine.{moved_family}
+use Rattle.c_program.specs.Measured.{held_family, kinds_in}
 use Rattle.c_program.proofs.Texts.{back_pieces}
 use Rattle.c_program.proofs.rows.push_back.Goals as goal
 
 pub returns : goal.returns
 returns c =
-    let n = numbers c.args.from.now.c.now in
-    let k : c.kind_word-kind.result.now ≡ kind_text (kind_for (multiplier_top n c.args.i)) = c.kind_word-kind.ensures ∙ ap (λ (top : ℕ). kind_text (kind_for top)) c.multiplier_top.ensures in
-    let a : c.as_str.result.now ≡ decimal c.args.i = search rules in
-    let b : c.as_str-2.result.now ≡ decimal c.args.i = search rules in
-    c.in_ok-push_pieces.ensures ∙ ap (λ (t : List ℕ). string_bytes c.args.text.now ++ t) (rw (a, b, k)
-    (back_pieces (codes "        ") (codes "l") (decimal c.args.i) (codes " = (") (kind_text (kind_for (multiplier_top n c.args.i))) (codes ")") (codes "(") (codes "(int64_t)") (codes "t") (codes ")")
-    (codes ";") (10 ∷ [])))
+    let i = c.args.i in
+    let old = string_bytes c.args.text.now in
+    let letter = c.held_letter-letter.result.now in
+    let line = λ (kind name : List ℕ). old ++ ((codes "        " ++ (name ++ (codes " = (" ++ kind ++ codes ")" ++ (codes "(" ++ (codes "(int64_t)" ++ (codes "t" ++ decimal i)) ++ codes ")") ++ codes ";"))) ++ 10 ∷ [] ++ []) in
+    let a : c.as_str.result.now ≡ decimal i = search rules in
+    let b : c.as_str-2.result.now ≡ decimal i = search rules in
+    c.in_ok-push_pieces.ensures ∙ ap (λ (t : List ℕ). old ++ t) (rw (a, b)
+    (back_pieces (codes "        ") letter (decimal i) (codes " = (") c.held_kind-kind.result.now (codes ")") (codes "(") (codes "(int64_t)") (codes "t") (codes ")") (codes ";") (10 ∷ []))) ∙
+    ap (λ (kind : List ℕ). line kind (letter ++ decimal i)) c.held_kind-kind.ensures ∙
+    ap (line (kind_text (kinds_in c.args.from.now (variable (held_family c.moved_held-held.result) i)))) (c.held_letter-letter.ensures i) ∙
+    ap (λ (f : Family). line (kind_text (kinds_in c.args.from.now (variable f i))) (variable_text (variable f i))) c.moved_held-held.ensures

@@ -4,12 +4,13 @@ use Rattle.c_program.specs.Syntax.{variable}
 use Rattle.c_program.specs.Syntax.Family.{Loaded}
 use Rattle.c_program.specs.Of.{kind_for, loaded_expression}
 use Rattle.c_program.specs.Text.{kind_text}
+use Rattle.c_program.specs.Measured.{kinds_in}
 use Rattle.c_program.proofs.Texts.{declared_line}
 use Rattle.c_program.proofs.start.push_loaded.Goals as goal
 
 pub returns : goal.returns
 returns c =
     let n = numbers c.args.from.now.c.now in
-    declared_line n (variable Loaded c.args.k) (loaded_expression n c.args.k) (codes "    ") c.kind_word.result.now (string_bytes c.args.text.now) (string_bytes c.push_declared.new.text)
+    declared_line (kinds_in c.args.from.now) (variable Loaded c.args.k) (loaded_expression n c.args.k) (codes "    ") c.kind_word.result.now (string_bytes c.args.text.now) (string_bytes c.push_declared.new.text)
     (string_bytes c.push_load.new.text) (string_bytes c.push_end.new.text)
     (c.kind_word.ensures ∙ ap (λ (tops : List ℕ). kind_text (kind_for (get_or tops c.args.k 0))) c.args.from.now.state_tops) c.in_ok-push_declared.ensures c.in_ok-push_load.ensures c.in_ok-push_end.ensures

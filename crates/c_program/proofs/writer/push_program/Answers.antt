@@ -4,7 +4,9 @@ use Rattle.number_text.specs.Lines.{text_of}
 use Rattle.qp_model.specs.machine.Controller.{numbers}
 use Rattle.c_program.specs.Syntax.{Variable, variable}
 use Rattle.c_program.specs.Syntax.Family.{State, Sum}
-use Rattle.c_program.specs.Of.{before_of, repetition_body, is_needed, program_of}
+use Rattle.c_program.specs.Of.{is_needed}
+use Rattle.c_program.specs.ByMachine.{before_for, body_for}
+use Rattle.c_program.specs.Measured.{program_in}
 use Rattle.c_program.specs.Text.{statement_lines, numbered_lines, refusal_line, output_line, second_lines}
 use Rattle.c_program.specs.Needed.{left_in}
 use Rattle.c_program.specs.Terms.{opening_lines, repetition_line}
@@ -14,14 +16,14 @@ use Rattle.c_program.proofs.writer.push_program.Goals as goal
 pub returns : goal.returns
 returns c =
     let n = numbers c.args.from.now.c.now in
-    let p = program_of n in
+    let p = program_in c.args.from.now in
     let m = length n.offsets in
     let old = string_bytes c.args.text.now in
     let a = opening_lines c.args.name.now p in
     let b = numbered_lines (refusal_line p) (length n.low) in
-    let d = statement_lines p.kind (codes "    ") (left_in (is_needed n) (before_of n)) in
+    let d = statement_lines p.kind (codes "    ") (left_in (is_needed n) (before_for c.args.from.now.machine n)) in
     let e = repetition_line p ∷ [] in
-    let f = statement_lines p.kind (codes "        ") (left_in (is_needed n) (repetition_body n)) in
+    let f = statement_lines p.kind (codes "        ") (left_in (is_needed n) (body_for c.args.from.now.machine n)) in
     let g = codes "    }" ∷ [] in
     let h = numbered_lines (λ j. output_line j (variable Sum j)) m in
     let t1 = string_bytes c.push_opening.new.text in

@@ -7,6 +7,7 @@ use Rattle.qp_model.specs.machine.Controller.{numbers}
 use Rattle.qp_model.proofs.VersionLaws.{states_le}
 use Rattle.overflow_check.proofs.Sizes.{numerator_read}
 use Rattle.c_program.specs.Text.{refusal_text}
+use Rattle.overflow_check.specs.FastController.{with_last_version}
 use Rattle.c_program.proofs.Lists.{at_any}
 use Rattle.c_program.proofs.writer.push_refusal_of.Goals as goal
 
@@ -25,7 +26,7 @@ push_refusal-requires-clause-high c =
 pub push_refusal-requires-clause-short : goal.push_refusal-requires-clause-short
 push_refusal-requires-clause-short c =
     let s = c.args.from.now.sound.form.sized in
-    omega (arith, c.requires.in_range, s.shaped.low, s.states.1, states_le (numbers c.args.from.now.c.now) s)
+    omega (arith, c.requires.in_range, s.shaped.low, s.states.1, states_le (with_last_version (numbers c.args.from.now.c.now)) s)
 
 pub returns : goal.returns
 returns c =
