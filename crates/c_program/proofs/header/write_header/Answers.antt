@@ -15,5 +15,5 @@ returns c = λ m.
     let a = guard_lines name in
     let b = size_lines name n in
     lines_then (a ++ b) (function_lines name (program_for m n)) t0 t2 (string_bytes c.push_functions.new.text)
-    (lines_then a b t0 t1 t2 c.in_ok-push_guard.ensures c.in_ok-push_sizes.ensures) c.in_ok-push_functions.ensures m ∙
+    (lines_then a b t0 t1 t2 c.in_ok-push_guard.ensures c.in_ok-push_sizes.ensures) (c.in_ok-push_functions.ensures m) ∙
     ap (λ (t : List ℕ). t ++ header_text name n (program_for m n)) c.new-text.ensures.bytes
