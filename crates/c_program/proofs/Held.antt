@@ -1,16 +1,14 @@
 -- What is held of rows, and how great it is.
-use Rattle.std.proofs.Common.{◌≡◌, ℕ, ◌+◌, ◌*◌, ◌/◌, ◌^◌, ◌≤◌, ◌<◌, List, [], ◌∷◌, if◌then◌else◌, length, unsigned_abs, refl, arith, le_refl}
+use Rattle.std.proofs.Common.{◌≡◌, ℕ, ◌+◌, ◌*◌, ◌/◌, ◌^◌, ◌≤◌, ◌<◌, [], if◌then◌else◌, length, unsigned_abs, refl, arith, le_refl}
 use Rattle.std.proofs.lemmas.Nat.{mul-le}
 use Rattle.std.specs.Prelude.{slice_index_or}
-use Rattle.integer_algebra.specs.Division.{ceil_div}
 use Rattle.qp_model.specs.machine.Controller.{Numbers}
-use Rattle.qp_model.specs.machine.AbsoluteSums.{IsController, plan_magnitudes, row_absolute_sum}
+use Rattle.qp_model.specs.machine.AbsoluteSums.{IsController, plan_magnitudes}
 use Rattle.overflow_check.specs.FastMachine.{all_weights}
-use Rattle.overflow_check.specs.FastController.{with_last_version, IsFastController, moved_magnitude, reached_magnitude, fast_sum_magnitude, greatest_fast_sum}
+use Rattle.overflow_check.specs.FastController.{with_last_version, IsFastController, moved_magnitude, reached_magnitude, fast_sum_magnitude}
 use Rattle.overflow_check.specs.declared.machine.Machine.{Machine}
 use Rattle.overflow_check.specs.declared.machine.Machine.TheVariants.{Plain, Accelerated}
 use Rattle.overflow_check.proofs.Greatest.{fast-parts, le-greatest}
-use Rattle.c_program.specs.Syntax.{Statement}
 use Rattle.c_program.specs.Needed.{left_in}
 use Rattle.c_program.specs.Of.{zero_statements, is_row_needed, is_needed}
 use Rattle.c_program.specs.ByMachine.{sizes_for, plans_for}

@@ -78,12 +78,7 @@ fn rest_word(alloc: Global, steps: u32, j: usize) -> Result<String, AllocError>
 }
 
 // The line of average `j` over steps that are a power of two.
-fn push_shifted(
-    alloc: Global,
-    text: &mut String,
-    steps: u32,
-    j: usize,
-) -> Result<(), AllocError>
+fn push_shifted(alloc: Global, text: &mut String, steps: u32, j: usize) -> Result<(), AllocError>
     requires { (steps == 2 ^ trailing_zeros w32 steps) ≡ true }
     ensures { OnOk result (string_bytes text.new ≡ string_bytes text.old ++ text_of (average_line j (average_of steps j) ∷ [])) }
 {
@@ -114,12 +109,7 @@ fn push_shifted(
 }
 
 // The line of average `j` over any other steps.
-fn push_divided(
-    alloc: Global,
-    text: &mut String,
-    steps: u32,
-    j: usize,
-) -> Result<(), AllocError>
+fn push_divided(alloc: Global, text: &mut String, steps: u32, j: usize) -> Result<(), AllocError>
     requires some { 0 < steps }
     requires other { (steps == 2 ^ trailing_zeros w32 steps) ≡ false }
     ensures { OnOk result (string_bytes text.new ≡ string_bytes text.old ++ text_of (average_line j (average_of steps j) ∷ [])) }

@@ -82,7 +82,8 @@ pub fn plans_of(from: &Measured) -> u32
 {
     match from.machine {
         Machine::Plain => from.c.steps,
-        Machine::Accelerated => (u64::from(from.c.steps) * (u64::from(from.c.steps) + 3) / 2) as u32,
+        Machine::Accelerated => (u64::from(from.c.steps) * (u64::from(from.c.steps) + 3)
+            / 2) as u32,
     }
 }
 

@@ -1,7 +1,6 @@
 use Rattle.std.proofs.Common.{◌≡◌, ◌++◌, ◌∙◌, ℕ, List, ap, string_bytes, codes, decimal, rules, [], ◌∷◌}
 use Rattle.c_program.specs.Syntax.{Family, variable}
 use Rattle.c_program.specs.Text.{variable_text, kind_text}
-use Rattle.c_program.specs.ByMachine.{moved_family}
 use Rattle.c_program.specs.Measured.{held_family, kinds_in}
 use Rattle.c_program.proofs.Texts.{back_pieces}
 use Rattle.c_program.proofs.rows.push_back.Goals as goal

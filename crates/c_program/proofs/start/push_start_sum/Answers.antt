@@ -1,5 +1,4 @@
 use Rattle.std.proofs.Common.{ℕ, List, ◌++◌, ◌∙◌, pos, ap, codes, string_bytes}
-use Rattle.qp_model.specs.machine.Controller.{numbers}
 use Rattle.c_program.specs.Syntax.{variable}
 use Rattle.c_program.specs.Syntax.Family.{Sum}
 use Rattle.c_program.specs.Syntax.Expression.{Constant}

@@ -1,5 +1,4 @@
 use Rattle.std.proofs.Common.{◌≡◌, ◌++◌, codes, string_bytes}
-use Rattle.qp_model.specs.machine.Controller.{numbers}
 use Rattle.c_program.specs.Syntax.{groups}
 use Rattle.c_program.specs.Syntax.Family.{Sum}
 use Rattle.c_program.specs.Of.{zero_statements}

@@ -1,9 +1,8 @@
-use Rattle.std.proofs.Common.{◌≡◌, ◌*◌, ◌^◌, ◌≤◌, ◌<◌, ◌∙◌, ℕ, ℤ, pos, ◌*ℤ◌, unsigned_abs, FitsSigned, to_z, of_z, ap, rules, arith}
+use Rattle.std.proofs.Common.{◌^◌, ◌∙◌, ℕ, ℤ, pos, ◌*ℤ◌, FitsSigned, to_z, of_z, ap, rules, arith}
 use Rattle.std.specs.Int.{w128}
 use Rattle.std.proofs.lemmas.Int.{to_z-of_z, fits_signed_from_abs}
 use Rattle.integer_algebra.specs.Division.{floor_of}
 use Rattle.qp_model.specs.machine.Controller.{Numbers, numbers}
-use Rattle.overflow_check.specs.FastMachine.{fast_top}
 use Rattle.overflow_check.specs.FastController.{IsFastController}
 use Rattle.fast_machine.proofs.FastRuns.{twice_abs, top_le}
 use Rattle.c_program.proofs.Held.{twice_clamp_room}

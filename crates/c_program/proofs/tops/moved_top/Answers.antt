@@ -1,8 +1,7 @@
-use Rattle.std.proofs.Common.{◌≡◌, ◌+◌, ◌*◌, ◌^◌, ◌≤◌, ◌<◌, ◌∙◌, ℤ, unsigned_abs, FitsSigned, ap, rules, arith}
+use Rattle.std.proofs.Common.{◌≡◌, ◌∙◌, ℤ, unsigned_abs, FitsSigned, ap, rules, arith}
 use Rattle.std.specs.Int.{w128}
 use Rattle.std.proofs.lemmas.Int.{to_z-of_z}
 use Rattle.qp_model.specs.machine.Controller.{numbers}
-use Rattle.overflow_check.specs.FastController.{moved_magnitude}
 use Rattle.c_program.proofs.Rooms.{fit_of}
 use Rattle.c_program.proofs.Held.{fast_moved_room}
 use Rattle.c_program.proofs.tops.moved_top.Goals as goal

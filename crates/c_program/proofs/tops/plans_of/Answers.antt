@@ -1,4 +1,4 @@
-use Rattle.std.proofs.Common.{◌≡◌, sym}
+use Rattle.std.proofs.Common.{sym}
 use Rattle.qp_model.specs.machine.Controller.{numbers}
 use Rattle.c_program.proofs.Held.{weights_fit}
 use Rattle.c_program.proofs.tops.plans_of.Goals as goal

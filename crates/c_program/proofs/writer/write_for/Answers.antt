@@ -1,4 +1,4 @@
-use Rattle.std.proofs.Common.{◌≡◌, ◌++◌, ◌∙◌, ℕ, List, ap, subst, string_bytes}
+use Rattle.std.proofs.Common.{◌≡◌, ◌++◌, ◌∙◌, ℕ, List, ap, subst}
 use Rattle.qp_model.specs.machine.Controller.{Numbers, numbers}
 use Rattle.overflow_check.specs.FastController.{IsFastController}
 use Rattle.overflow_check.specs.Machines.{IsControllerFor}
