@@ -1,9 +1,17 @@
 -- What `c` does by its script, and what it leaves.
-use Rattle.std.proofs.Common.{◌≡◌, inl, inr, ℕ, List, Option, Some, None, refl, ap, arith}
+use Rattle.std.proofs.Common.{◌≡◌, ◌≤◌, inl, inr, ℕ, List, Option, Some, None, refl, ap, arith}
 use Rattle.std.specs.Prelude.{IfSome, IsSomeAnd}
+use Rattle.std.proofs.lemmas.List.FromFn.{length-map-range_with_len}
 use Rattle.io_edge.specs.Faults.{Files}
 use Rattle.qp_model.specs.machine.Controller.{Numbers}
+use Rattle.overflow_check.specs.FastMachine.{all_weights}
+use Rattle.c_program.specs.Of.{average_of, program_of}
+use Rattle.c_program.specs.Text.{header_text}
 use Rattle.c_program.proofs.ProgramLaw.{program_law}
+use Rattle.c_program.proofs.FastProgramLaw.{fast_program_law}
+use Rattle.controller_file.specs.AnyText.{any_numbers, IsAnyControllerText}
+use Rattle.controller_file.specs.declared.any_controller.AnyController.{AnyController}
+use Rattle.controller_file.specs.declared.any_controller.AnyController.TheVariants.{Plain, Fast}
 use Rattle.command_line.specs.Words.{word_of}
 use Rattle.command_line.specs.Does.{IsTelling}
 use Rattle.command_line.specs.Script.{ends, leaves_at, leaves_of}
@@ -15,7 +23,7 @@ use Rattle.command_line.proofs.TwoTexts.{some_weaker}
 use Rattle.command_line.specs.declared.status.Status.{Status}
 use Rattle.command_line.specs.declared.status.Status.TheVariants.{Done, TooWideForC}
 use Rattle.command_files.proofs.Stopping.{controllers_refused}
-use Rattle.command_c.specs.Compiled.{ProgramCalls, AreProgramTexts, compile_act, compile_work, IsCompiled}
+use Rattle.command_c.specs.Compiled.{program_width, any_program, ProgramCalls, IsAnyProgram, AreProgramTexts, compile_act, compile_work, IsCompiled}
 
 -- ---- what a controller calls for
 wide_refusal : (width : ℕ) (s : Status) → s ≡ TooWideForC width → IsRefusal s
@@ -25,22 +33,32 @@ program_telling : (c : Numbers) (s : Status) → ProgramCalls c s → IsTelling 
 program_telling c s (inl wide) = (wide_refusal c.width s wide.1).telling
 program_telling c s (inr narrow) = done_telling s narrow.1
 
+-- ---- the header
+-- the number of inputs alone stands in it of the averages
+pub one_header : (name : List ℕ) (k : AnyController) → header_text name (any_numbers k) (program_of (any_numbers k)) ≡ header_text name (any_numbers k) (any_program k)
+one_header name (Plain c) = refl
+one_header name (Fast c) = rw (length-map-range_with_len (average_of c.steps) 0 c.inputs, length-map-range_with_len (average_of (all_weights c.steps)) 0 c.inputs) refl
+
 -- ---- its script
 pub compile_sound : IsSoundWork compile_work
-compile_sound = record { sound = (omega arith, controllers_refused 1, whole (λ c. ends (compile_act c)), program_telling); first = inl refl }
+compile_sound = record { sound = (omega arith, controllers_refused 1, whole (λ k. ends (compile_act k)), (λ k. program_telling (any_numbers k))); first = inl refl }
 
 -- ---- what it left
+program_there : (k : AnyController) (bytes : List ℕ) → IsAnyControllerText bytes k → (any_numbers k).width ≤ program_width → IsAnyProgram k
+program_there (Plain c) bytes right narrow = program_law c right.controller narrow
+program_there (Fast c) bytes right narrow = fast_program_law c right.controller narrow
+
 pub compiled : (words : List (List ℕ)) (s : Status) (held now : Option Files) → s ≡ Done → leaves_of compile_work.script words s held now → IfSome held (λ files. IsSomeAnd now (IsCompiled words files))
 compiled words s None now is left = tt
 compiled words s (Some files) now is left = go (left_told words s files now compile_work.script left)
   where
     go : leaves_at compile_work.script (λ i. files (word_of words i)) words s (Some files) now → IsSomeAnd now (IsCompiled words files)
     go (inl none) = absurd (none.done is)
-    go (inr (c, right, left_two)) =
-        some_weaker now (λ new. Two (AreProgramTexts (word_of words 2) c) (BothStand files new (word_of words 3) (word_of words 4))) (IsCompiled words files) (λ new two. record {
+    go (inr (k, right, left_two)) =
+        some_weaker now (λ new. Two (AreProgramTexts (word_of words 2) k) (BothStand files new (word_of words 3) (word_of words 4))) (IsCompiled words files) (λ new two. record {
           source = two.text;
           header = two.report;
-          texts = record { numbers = c; right = right; program = program_law c right.right.controller two.are.narrow; is_source = two.are.is_source; is_header = two.are.is_header };
+          texts = record { read = k; right = right; program = program_there k right.bytes right.right two.are.narrow; is_source = two.are.is_source; is_header = two.are.is_header };
           source_file = two.true_of.first;
           header_file = two.true_of.second;
           others = two.true_of.others;

@@ -2,17 +2,22 @@
 use Rattle.std.specs.Prelude.{◌≡◌, ◌≢◌, ◌⊎◌, ℕ, ◌≤◌, ◌<◌, List, Option, Some}
 use Rattle.io_edge.specs.Faults.{Files}
 use Rattle.qp_model.specs.machine.Controller.{Numbers}
+use Rattle.c_program.specs.Syntax.{CProgram}
 use Rattle.c_program.specs.Of.{program_of}
+use Rattle.c_program.specs.FastOf.{fast_program_of}
 use Rattle.c_program.specs.Text.{program_text, header_text}
-use Rattle.c_program.specs.Laws.{IsProgram}
+use Rattle.c_program.specs.Laws.{IsProgram, IsFastProgram}
+use Rattle.controller_file.specs.AnyText.{any_numbers}
+use Rattle.controller_file.specs.declared.any_controller.AnyController.{AnyController}
+use Rattle.controller_file.specs.declared.any_controller.AnyController.TheVariants.{Plain, Fast}
 use Rattle.command_line.specs.Words.{word_of}
 use Rattle.command_line.specs.Limit.{file_limit}
 use Rattle.command_line.specs.Answers.{FileHolds}
 use Rattle.command_line.specs.Deeds.{Deeds}
 use Rattle.command_line.specs.Script.{Act, ends, reads, Work, deeds_of_work}
 use Rattle.command_line.specs.TwoTexts.{two_texts, two_work}
-use Rattle.command_files.specs.Texts.{ControllerRight}
-use Rattle.command_files.specs.Reading.{controller_kind}
+use Rattle.command_files.specs.Texts.{AnyControllerRight}
+use Rattle.command_files.specs.Reading.{any_controller_kind}
 use Rattle.command_line.specs.declared.status.Status.{Status}
 use Rattle.command_line.specs.declared.status.Status.TheVariants.{Done, TooWideForC}
 
@@ -24,33 +29,42 @@ program_width = 64
 abbrev pub ProgramCalls : Numbers → Status → Type 0
 ProgramCalls c s = ((program_width < c.width) × (s ≡ TooWideForC c.width)) ⊎ ((c.width ≤ program_width) × (s ≡ Done))
 
+-- ---- the program of a controller of either machine
+abbrev pub any_program : AnyController → CProgram
+any_program (Plain c) = program_of c
+any_program (Fast c) = fast_program_of c
+
+-- Run from any grid state of the box, C defines each statement of it; it answers 0, and puts out the numerators of the averaged plan, as `solve` prints them, and of these the
+-- averaged first inputs. From any other state it answers the first coordinate outside the box, and puts out nothing.
+abbrev pub IsAnyProgram : AnyController → Type 0
+IsAnyProgram (Plain c) = IsProgram c
+IsAnyProgram (Fast c) = IsFastProgram c
+
 -- ---- what it does: it reads a controller, and writes the texts of its program
 -- the texts of a controller's program with this name
-pub record AreProgramTexts (name : List ℕ) (c : Numbers) (source header : List ℕ) : Type 0 where
-  pub narrow : c.width ≤ program_width
-  pub is_source : source ≡ program_text name (program_of c)
-  pub is_header : header ≡ header_text name c (program_of c)
+pub record AreProgramTexts (name : List ℕ) (k : AnyController) (source header : List ℕ) : Type 0 where
+  pub narrow : (any_numbers k).width ≤ program_width
+  pub is_source : source ≡ program_text name (any_program k)
+  pub is_header : header ≡ header_text name (any_numbers k) (any_program k)
 
-abbrev pub compile_act : Numbers → Act
-compile_act c = two_texts (ProgramCalls c) (λ words. AreProgramTexts (word_of words 2) c) 3 4
+abbrev pub compile_act : AnyController → Act
+compile_act k = two_texts (ProgramCalls (any_numbers k)) (λ words. AreProgramTexts (word_of words 2) k) 3 4
 
 abbrev pub compile_work : Work
-compile_work = two_work (reads 1 controller_kind (λ c. ends (compile_act c))) 3 4
+compile_work = two_work (reads 1 any_controller_kind (λ k. ends (compile_act k))) 3 4
 
 -- its row of the table of commands
 abbrev pub compile_deeds : Deeds
 compile_deeds = deeds_of_work compile_work
 
 -- ---- what is written
--- The source and the header of the program, with this name, of the controller that a file holds. Run from any grid state of the box, C defines each statement of the
--- program; it answers 0, and puts out the numerators of the averaged plan, as `solve` prints them, and of these the averaged first inputs. From any other state it answers the
--- first coordinate outside the box, and puts out nothing.
+-- the source and the header of the program, with this name, of the controller, of any version, that a file holds
 pub record AreCompiledFrom (controller : Option (List ℕ)) (name source header : List ℕ) : Type 0 where
-  pub numbers : Numbers
-  pub right : FileHolds file_limit (ControllerRight numbers) controller
-  pub program : IsProgram numbers
-  pub is_source : source ≡ program_text name (program_of numbers)
-  pub is_header : header ≡ header_text name numbers (program_of numbers)
+  pub read : AnyController
+  pub right : FileHolds file_limit (AnyControllerRight read) controller
+  pub program : IsAnyProgram read
+  pub is_source : source ≡ program_text name (any_program read)
+  pub is_header : header ≡ header_text name (any_numbers read) (any_program read)
 
 -- the third name holds the source and the fourth the header, of the controller that the first held; every other name holds what it held
 pub record IsCompiled (words : List (List ℕ)) (files new : Files) : Type 0 where
