@@ -1,11 +1,14 @@
 -- What `c` does by its script, and what it leaves.
-use Rattle.std.proofs.Common.{◌≡◌, ◌≤◌, inl, inr, ℕ, List, Option, Some, None, refl, ap, arith}
+use Rattle.std.proofs.Common.{◌≡◌, ◌≤◌, inl, inr, ℕ, List, Option, Some, None, refl, ap, ◌∙◌, arith}
 use Rattle.std.specs.Prelude.{IfSome, IsSomeAnd}
-use Rattle.std.proofs.lemmas.List.FromFn.{length-map-range_with_len}
 use Rattle.io_edge.specs.Faults.{Files}
 use Rattle.qp_model.specs.machine.Controller.{Numbers}
-use Rattle.overflow_check.specs.FastMachine.{all_weights}
-use Rattle.c_program.specs.Of.{average_of, program_of}
+use Rattle.overflow_check.specs.declared.machine.Machine.{Machine}
+use Rattle.overflow_check.specs.declared.machine.Machine.TheVariants as Machines
+use Rattle.overflow_check.specs.declared.machine.Machine.TheVariants.{Accelerated}
+use Rattle.c_program.specs.Of.{program_of}
+use Rattle.c_program.specs.FastOf.{fast_program_of}
+use Rattle.c_program.specs.ByMachine.{program_for}
 use Rattle.c_program.specs.Text.{header_text}
 use Rattle.c_program.proofs.ProgramLaw.{program_law}
 use Rattle.c_program.proofs.FastProgramLaw.{fast_program_law}
@@ -34,10 +37,11 @@ program_telling c s (inl wide) = (wide_refusal c.width s wide.1).telling
 program_telling c s (inr narrow) = done_telling s narrow.1
 
 -- ---- the header
--- the number of inputs alone stands in it of the averages
-pub one_header : (name : List ℕ) (k : AnyController) → header_text name (any_numbers k) (program_of (any_numbers k)) ≡ header_text name (any_numbers k) (any_program k)
-one_header name (Plain c) = refl
-one_header name (Fast c) = rw (length-map-range_with_len (average_of c.steps) 0 c.inputs, length-map-range_with_len (average_of (all_weights c.steps)) 0 c.inputs) refl
+-- that of either machine's program is that of its own
+pub header_there : (name text : List ℕ) (n : Numbers) (k : AnyController) → n ≡ any_numbers k → ((m : Machine) → text ≡ header_text name n (program_for m n)) →
+    text ≡ header_text name (any_numbers k) (any_program k)
+header_there name text n (Plain c) e h = h Machines.Plain ∙ ap (λ (n : Numbers). header_text name n (program_of n)) e
+header_there name text n (Fast c) e h = h Accelerated ∙ ap (λ (n : Numbers). header_text name n (fast_program_of n)) e
 
 -- ---- its script
 pub compile_sound : IsSoundWork compile_work

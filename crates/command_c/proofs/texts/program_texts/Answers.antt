@@ -1,8 +1,6 @@
-use Rattle.std.proofs.Common.{◌∙◌, ap, arith}
-use Rattle.qp_model.specs.machine.Controller.{Numbers}
-use Rattle.c_program.specs.Of.{program_of}
-use Rattle.c_program.specs.Text.{header_text}
-use Rattle.command_c.proofs.Written.{one_header}
+use Rattle.std.proofs.Common.{◌∙◌, ap, string_bytes, arith}
+use Rattle.qp_model.specs.machine.Controller.{Numbers, numbers}
+use Rattle.command_c.proofs.Written.{header_there}
 use Rattle.command_c.proofs.texts.program_texts.Goals as goal
 
 pub returns-clause-texts : goal.returns-clause-texts
@@ -12,5 +10,5 @@ returns-clause-texts c =
     record {
       narrow = omega (arith, c.if-width-gt-PROGRAM_WIDTH.false, ap (λ (n : Numbers). n.width) read);
       is_source = ap (λ v. v.items) c.into_bytes.ensures.value ∙ c.in_ok-source.ensures;
-      is_header = ap (λ v. v.items) c.into_bytes-2.ensures.value ∙ c.in_ok-header.ensures ∙ ap (λ (n : Numbers). header_text name n (program_of n)) read ∙ one_header name c.args.controller.now;
+      is_header = ap (λ v. v.items) c.into_bytes-2.ensures.value ∙ header_there name (string_bytes c.in_ok-header.header) (numbers c.parts_of-parts.result.now) c.args.controller.now read c.in_ok-header.ensures;
     }
