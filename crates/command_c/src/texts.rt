@@ -27,11 +27,7 @@ fn parts_of(controller: &AnyController) -> &ControllerParts
 }
 
 // The source of its program.
-fn source_of(
-    alloc: Global,
-    controller: &AnyController,
-    name: &str,
-) -> Result<String, AllocError>
+fn source_of(alloc: Global, controller: &AnyController, name: &str) -> Result<String, AllocError>
     requires { (any_numbers controller.now).width ≤ program_width }
     ensures { IfOk result (λ text. string_bytes text ≡ program_text name.now (any_program controller.now)) }
 {
@@ -42,11 +38,7 @@ fn source_of(
 }
 
 /// The source of a controller's program with this name, and its header; or the status that tells why there are none.
-pub fn program_texts(
-    alloc: Global,
-    controller: &AnyController,
-    name: &str,
-) -> Result<Texts, Status>
+pub fn program_texts(alloc: Global, controller: &AnyController, name: &str) -> Result<Texts, Status>
     ensures texts { IfOk result (λ t. AreProgramTexts name.now controller.now t.first.items t.second.items) }
     ensures called { IfOk result (λ _. IsAnswer (ProgramCalls (any_numbers controller.now)) Status.Done) }
     ensures unmade { IfErr result (IsUnmade (ProgramCalls (any_numbers controller.now))) }

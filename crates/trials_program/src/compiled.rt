@@ -1,5 +1,5 @@
-// `c` of the first worked controller: its two files, what it refuses, and calls that fail. The texts are those of the worked program.
-use crate::texts::{HEADER, LINES, text_of};
+// `c` of the first worked controller, and of one of the accelerated machine: the two files, what it refuses, and calls that fail. The texts are those of the worked program.
+use crate::texts::{FAST_LINES, HEADER, LINES, text_of};
 use command_c::write_c;
 use command_line::{Command, Status, command_of};
 use io_edge::Words;
@@ -126,5 +126,45 @@ fn are_refused(alloc: Global, store: &mut MemStore) -> Result<bool, Fail> {
 fn refusals(rt: HostRuntime) -> Result<(), Fail> {
     let mut store = with_wide(rt.alloc())?;
     assert!(rt; are_refused(rt.alloc(), &mut store)?);
+    Ok(())
+}
+
+// The controller of the accelerated machine whose program is followed line by line.
+const FAST: &str = "mpc-controller 3
+size 1 1 1 3
+bits 9 0 1 22
+steps 3
+clamp 2048
+words 12
+exps 0 1 1
+lo 0
+hi 1
+P 256
+T 0
+W 128 -128 128
+G 512
+G -512
+G 512
+E 0
+E 0
+E 512
+b 512 512 128
+end
+";
+
+// Whether its source is the worked one.
+fn is_fast_compiled(alloc: Global) -> Result<bool, Fail> {
+    let source = text_of(alloc, &FAST_LINES)?;
+    let mut store = given(alloc)?;
+    store.hold("fast", FAST.as_bytes())?;
+    Ok(
+        tells::<Compiling>(alloc, "c fast fast out r", &mut store, "")?
+            && held(alloc, &mut store, "out")?.as_slice() == source.as_bytes(),
+    )
+}
+
+#[test]
+fn accelerated(rt: HostRuntime) -> Result<(), Fail> {
+    assert!(rt; is_fast_compiled(rt.alloc())?);
     Ok(())
 }

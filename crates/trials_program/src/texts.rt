@@ -53,7 +53,71 @@ pub static LINES: [&str; 45] = [
     "}",
 ];
 
-/// The lines of its header.
+/// The lines of the worked source of the accelerated machine.
+pub static FAST_LINES: [&str; 60] = [
+    "#include \"fast.h\"",
+    "",
+    "typedef char fast_shifts_round_down[((-INT64_C(3)) >> 1) == (-INT64_C(2)) ? 1 : -1];",
+    "",
+    "int fast_solve(const int32_t state[1], int64_t sums[1])",
+    "{",
+    "    if (state[0] < INT64_C(0) || state[0] > INT64_C(1)) { return 1; }",
+    "    int32_t x0 = (int32_t)((INT64_C(512) * (int64_t)state[0]));",
+    "    int64_t a0 = (int64_t)(INT64_C(0) + (INT64_C(512) * (int64_t)x0));",
+    "    int64_t r0 = (int64_t)((-INT64_C(262144)));",
+    "    int64_t r1 = (int64_t)((-INT64_C(262144)));",
+    "    int64_t r2 = (int64_t)((-INT64_C(65536)) + (INT64_C(512) * (int64_t)x0));",
+    "    int32_t l0 = (int32_t)(INT64_C(0));",
+    "    int32_t l1 = (int32_t)(INT64_C(0));",
+    "    int32_t l2 = (int32_t)(INT64_C(0));",
+    "    int32_t s0 = (int32_t)(INT64_C(0));",
+    "    int32_t m0 = (int32_t)(INT64_C(0));",
+    "    int32_t m1 = (int32_t)(INT64_C(0));",
+    "    int32_t m2 = (int32_t)(INT64_C(0));",
+    "    int32_t v0 = (int32_t)(INT64_C(0));",
+    "    int32_t v1 = (int32_t)(INT64_C(0));",
+    "    int32_t v2 = (int32_t)(INT64_C(0));",
+    "    int32_t k0 = (int32_t)(INT64_C(2));",
+    "    for (int32_t step = 0; step < 3; step++) {",
+    "        int32_t b0 = (int32_t)((((int64_t)k0 - INT64_C(1)) * ((int64_t)k0 + INT64_C(2))));",
+    "        l0 = (int32_t)((((int64_t)v0 + ((int64_t)k0 * (int64_t)m0)) / (int64_t)b0));",
+    "        l1 = (int32_t)((((int64_t)v1 + ((int64_t)k0 * (int64_t)m1)) / (int64_t)b0));",
+    "        l2 = (int32_t)((((int64_t)v2 + ((int64_t)k0 * (int64_t)m2)) / (int64_t)b0));",
+    "        int32_t d1 = (int32_t)((int64_t)l1 - (int64_t)l2);",
+    "        int32_t u0 = (int32_t)(INT64_C(0) - (((int64_t)a0 + (INT64_C(256) * (int64_t)l0) + ((-INT64_C(128)) * (int64_t)d1)) >> 10));",
+    "        s0 = (int32_t)((int64_t)s0 + ((int64_t)k0 * (int64_t)u0));",
+    "        int32_t y0 = (int32_t)((((int64_t)r0) >> 9) + (INT64_C(1) * (int64_t)u0));",
+    "        int32_t t0 = (int32_t)((int64_t)m0 + ((int64_t)k0 * (int64_t)y0));",
+    "        if (t0 < 0) { t0 = 0; }",
+    "        if (t0 > INT64_C(2048)) { t0 = (int32_t)(INT64_C(2048)); }",
+    "        m0 = (int32_t)((int64_t)t0);",
+    "        v0 = (int32_t)((int64_t)v0 + ((int64_t)k0 * (int64_t)m0));",
+    "        int64_t g1 = (int64_t)(INT64_C(0) + ((-INT64_C(1)) * (int64_t)u0));",
+    "        int32_t y1 = (int32_t)((((int64_t)r1) >> 9) + (int64_t)g1);",
+    "        int32_t t1 = (int32_t)((int64_t)m1 + ((int64_t)k0 * (int64_t)y1));",
+    "        if (t1 < 0) { t1 = 0; }",
+    "        if (t1 > INT64_C(4096)) { t1 = (int32_t)(INT64_C(4096)); }",
+    "        m1 = (int32_t)((int64_t)t1);",
+    "        v1 = (int32_t)((int64_t)v1 + ((int64_t)k0 * (int64_t)m1));",
+    "        int32_t y2 = (int32_t)((((int64_t)r2) >> 9) - (int64_t)g1);",
+    "        int32_t t2 = (int32_t)((int64_t)m2 + ((int64_t)k0 * (int64_t)y2));",
+    "        if (t2 < 0) { t2 = 0; }",
+    "        if (t2 > INT64_C(4096)) { t2 = (int32_t)(INT64_C(4096)); }",
+    "        m2 = (int32_t)((int64_t)t2);",
+    "        v2 = (int32_t)((int64_t)v2 + ((int64_t)k0 * (int64_t)m2));",
+    "        k0 = (int32_t)((int64_t)k0 + INT64_C(1));",
+    "    }",
+    "    sums[0] = (int64_t)s0;",
+    "    return 0;",
+    "}",
+    "",
+    "void fast_first_inputs(const int64_t sums[1], int64_t inputs[1])",
+    "{",
+    "    inputs[0] = ((int64_t)sums[0] / INT64_C(9)) + (((INT64_C(2) * ((int64_t)sums[0] % INT64_C(9))) + INT64_C(9)) >> 63) - ((INT64_C(8) - (INT64_C(2) * ((int64_t)sums[0] % INT64_C(9)))) >> 63);",
+    "}",
+];
+
+/// The lines of the first one's header.
 pub static HEADER: [&str; 27] = [
     "#ifndef first_H",
     "#define first_H",
@@ -116,7 +180,7 @@ fn first_program(rt: HostRuntime) -> Result<(), Fail> {
 fn first_header(rt: HostRuntime) -> Result<(), Fail> {
     let alloc = rt.alloc();
     let c = controller(alloc, 1, 32768, 26, [1, 1, 1])?;
-    let text = write_header(alloc, &c, "first")?;
+    let text = write_header(alloc, c.parts(), "first")?;
     assert!(rt; has_lines(alloc, text.as_str(), &HEADER)?);
     Ok(())
 }
