@@ -1,6 +1,6 @@
 """From a model to a controller that is judged: each step shown as the command that it runs, so that you can go on by hand where you like.
 
-    ./mpc design MODEL FOLDER [--as-it-is | --stay] [--same-cost] [--generate | --accelerated] [--gap PART] [--turns N] [--seconds S] [--corners N] [--random N] [--states N] [--seed N]
+    ./mpc design MODEL FOLDER [--as-it-is | --stay] [--same-cost] [--generate | --accelerated | --plain] [--gap PART] [--turns N] [--seconds S] [--corners N] [--random N] [--states N] [--seed N]
 
 In FOLDER, which is made where it isn't there, stand then
 
@@ -25,8 +25,8 @@ and where no loop is to leave the box, by --stay or by `stay` in the model's `[b
 and where the model's `[box]` has `disturbed`, range.csv is the range of it under which loops settle.
 
     --generate    makes the controller that keeps far from its limits, by `generate` or `stay`: of more steps, mostly far more, and with real violations far below the printed ones
-    --accelerated makes the controller for the accelerated machine, of version 3 (./mpc draft --accelerated): of far fewer steps where a run takes many. No certificate is
-                  searched that its loops settle. Not with --stay
+    --accelerated makes the controller for the accelerated machine, of version 3 (./mpc draft --accelerated): of far fewer steps where a run takes many
+    --plain       keeps the plain machine, of version 2. With neither, version 3 is taken where its C takes less than four fifths of the cycles, and that is said
     --as-it-is    takes the model's own coordinates and box, whatever its loops do
     --stay        searches limits on the next state, coordinates and a box for which faces hold
     --same-cost   keeps the model's cost and stages where no loop is to leave the box and a run would take longer than a stage, in place of trying others
@@ -55,17 +55,20 @@ from .common.libraries import PACKAGES, PYTHON, Refusal, need, run
 need(*PACKAGES)
 from .common import files, usage
 from .common.arguments import Parser, count, positive, turns
+from .common.c_costs import saves
 from .common.design_text import read_design
 from .common.launcher import LAUNCHER
 from .common.machines import is_accelerated, refuse_accelerated
 from .common.models import Model, grid_disturbances, read_model
-from .common.texts import records_text
+from .common.texts import controller_of, records_text
 
 MADE = ["fitted.toml", "design.toml", "policy.csv", "reference.csv", "controller.txt", "report.txt", "states.csv", "loop.txt", "exact.txt", "loop.svg", "judged.txt", "explained.txt", "report.html"]
 STAYS = ["faces.csv", "disturbances.csv"]
 SETTLES = ["settle.csv", "settled.txt"]
 RANGE, COVERED = "range.csv", "covered.toml"
 LEFT_THE_BOX = 12
+# version 3 is taken by itself where a run takes less than this part of the plain machine's cycles
+CHOSEN = 0.8
 # what is said where no certificate is found, of the plain machine and of the accelerated one
 UNSETTLED = ("no certificate was found that loops settle: what ./mpc settles says above is in the way", "that loops settle was not asked: `settle` reads controllers of versions 1 and 2")
 
@@ -154,10 +157,21 @@ def covering(steps: Steps, model: str, given: Namespace) -> str:
 
 
 def make(steps: Steps, model: str, given: Namespace, stays: bool) -> None:
-    """The design, its policy, its faces where no loop is to leave the box, and its controller: a lean one, but where the other is asked for."""
+    """The design, its policy, its faces where no loop is to leave the box, and its controller: a lean one, but where the other is asked for, of the machine that is asked for, or that takes less."""
+    if given.generate:
+        make_with(steps, model, given, stays, [])
+        return
+    make_with(steps, model, given, stays, ["--accelerated" if given.accelerated else "--lean"])
+    made = controller_of(files.read_bytes(steps.path("controller.txt")).decode())
+    if not (given.plain or is_accelerated(made.version)) and saves(made, CHOSEN):
+        print(f"    of K = {made.steps}, which the accelerated machine needs far fewer than: by its C's cycles a run takes less than {CHOSEN:.0%} of the time, so version 3 is taken (else --plain)", flush=True)
+        make_with(steps, model, given, stays, ["--accelerated"])
+
+
+def make_with(steps: Steps, model: str, given: Namespace, stays: bool, kind: list[str]) -> None:
+    """The same of one machine."""
     design, policy, reference = map(steps.path, ("design.toml", "policy.csv", "reference.csv"))
     made = [steps.path("controller.txt"), steps.path("report.txt")]
-    kind = [] if given.generate else ["--accelerated"] if given.accelerated else ["--lean"]
     steps.must("draft", model, design, "--gap", str(given.gap), *kind)
     steps.must("policy", design, policy, *([] if given.generate else ["--lean", reference]), "--turns", "0")
     texts = [design, policy] if given.generate else [design, policy, reference]
@@ -280,6 +294,7 @@ def main() -> int:
     machine = parser.add_mutually_exclusive_group()
     machine.add_argument("--generate", action="store_true")
     machine.add_argument("--accelerated", action="store_true")
+    machine.add_argument("--plain", action="store_true")
     parser.add_argument("--gap", type=positive, default=0.1, metavar="PART")
     parser.add_argument("--turns", type=turns, default=50, metavar="N")
     parser.add_argument("--seconds", type=positive, default=60.0, metavar="S")

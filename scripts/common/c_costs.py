@@ -158,10 +158,10 @@ def other_cycle_words(controller, steps):
     return f", {told}; version 3 takes less from K = {pays} of version 2 on"
 
 
-def saves(controller):
-    """Whether a run of version 3 would take less than this one of the plain machine, as far as can be said."""
+def saves(controller, part=1.0):
+    """Whether a run of version 3 would take less than this part of this one of the plain machine, as far as can be said."""
     try:
-        return accelerated_cycles(controller, accelerated_steps(controller.steps)) < plain_cycles(controller, controller.steps)
+        return accelerated_cycles(controller, accelerated_steps(controller.steps)) < part * plain_cycles(controller, controller.steps)
     except Refusal:
         return False
 

@@ -6,21 +6,23 @@ import signal
 import subprocess
 import time
 import tomllib
+import types
 import unittest
 import unittest.mock
 
 from scripts.common.libraries import PACKAGES, missing
 from scripts.common.model_text import model_text
 
-from .worked import EXAMPLES, FIRST, SIX, TOP, as_command, folder_with
+from .worked import EXAMPLES, FIRST, FIRST_LEAN_CONTROLLER, SIX, TOP, as_command, folder_with
 
 LACKING = missing(*PACKAGES)
 if not LACKING:
     from scripts import coordinates, design, reach, states
+    from scripts.common import files
     from scripts.common.design_text import design_of
     from scripts.common.models import Model
     from scripts.common.programs import Programs, reach_of
-    from scripts.common.texts import read_text, records_of
+    from scripts.common.texts import controller_of, read_text, records_of
     from scripts.draft import draft
 
 MASS = """period = 0.2
@@ -189,6 +191,35 @@ class WholeWay(unittest.TestCase):
         self.assertTrue(low == -high < 0)
         # where it is too much, loops without it
         self.assertEqual(self.settled((12, ""), (0, "every loop\n"), model=model, program=False)[1], [script + under, script])
+
+    def machines(self, steps, *options):
+        """The commands by which a controller is made, the plain one of which has so many steps."""
+        texts = {"--lean": FIRST_LEAN_CONTROLLER.replace("steps 1\n", f"steps {steps}\n").replace("bits 6 0 1 16", "bits 6 0 1 30"), "--accelerated": "mpc-controller 3\n"}
+        folder, paths = folder_with(self, model=MASS)
+        ran = []
+
+        def run(made, *words, to=None):
+            ran.append(" ".join(os.path.basename(word) for word in words))
+            if words[0] == "draft":
+                files.write(made.path("controller.txt"), texts[words[-1]])
+            return design.Step(0, "")
+
+        given = design.Namespace(generate=False, accelerated="--accelerated" in options, plain="--plain" in options, gap=0.1)
+        version = lambda text: types.SimpleNamespace(version=3) if text == texts["--accelerated"] else controller_of(text)
+        with unittest.mock.patch.object(design.Steps, "run", run), unittest.mock.patch.object(design, "controller_of", version), contextlib.redirect_stdout(io.StringIO()) as said:
+            design.make(design.Steps(folder), paths["model"], given, False)
+        return [line.split(" --gap 0.1 ")[1] for line in ran if line.startswith("draft")], "version 3 is taken" in said.getvalue(), ran
+
+    def test_takes_the_machine_that_takes_less(self):
+        # far more steps than the accelerated machine would need, and a few
+        both = ["--lean", "--accelerated"]
+        self.assertEqual(self.machines(20000)[:2], (both, True))
+        ran = self.machines(20000)[2]
+        self.assertEqual((ran[3], ran[4:]), ("draft model design.toml --gap 0.1 --accelerated", ran[1:3]))
+        self.assertEqual(self.machines(50)[:2], (both[:1], False))
+        # where one is asked for, that one
+        self.assertEqual(self.machines(20000, "--plain")[:2], (both[:1], False))
+        self.assertEqual(self.machines(50, "--accelerated")[:2], (both[1:], False))
 
     def test_starts_after_one_that_leaves(self):
         # of four starts the first leaves after a turn, and the third at once; the launcher ends at each
