@@ -1,11 +1,13 @@
 """An independent model of the program that `c` writes: the source and the header of a controller of at most 64 bits, in C99.
 
-All in exact whole numbers, by the definitions of crates/c_program/specs (`Of`, `Needed` and `Text`), and with no code of the program's. An expression is a pair of its text and of
+All in exact whole numbers, by the definitions of crates/c_program/specs (`Of`, `FastOf`, `Needed` and `Text`), and with no code of the program's. An expression is a pair of its text and of
 whether it is a sum, which stands in parentheses where it is an operand of a product or the second of a sum.
 """
 import re
 
 from .control import absolute_sums
+from .forms import ceil_div
+from .machines import Accelerated
 
 MOST_WIDTH = 64
 
@@ -43,6 +45,10 @@ def divided(a, sign, k):
     return f"({closed(a)} {sign} {constant(k)[0]})", False
 
 
+def over(a, name):
+    return f"({closed(a)} / {value(name)[0]})", False
+
+
 def shifted(a, k):
     return f"(({a[0]}) >> {k})", False
 
@@ -57,7 +63,9 @@ class Program:
 
     def __init__(self, c):
         self.c = c
-        self.state_tops, _, self.entry_tops, _, self.row_tops, self.sum_tops = absolute_sums(c)
+        self.state_tops, _, self.entry_tops, rows, moved, self.sum_tops = absolute_sums(c)
+        # what a row's sum comes to beside a multiplier, and this on its way to the next one
+        self.row_tops, self.moved_tops = [c.clamp + ceil_div(v, 2**c.f) for v in rows], moved[: c.m]
         self.lowering = [c.s - exponent for exponent in c.exps]
         self.tops = [c.clamp >> k for k in self.lowering]
         self.partners = [next((k for k in range(c.m) if self.are_opposite(k, i)), c.m) for i in range(c.m)]
@@ -118,35 +126,101 @@ class Program:
             return plus(base, value(f"g{i}"))
         return minus(base, value(f"g{self.partners[i]}")) if self.is_second[i] else self.of_plan(base, i)
 
-    def body(self):
-        c = self.c
+    def differences(self):
         for i in self.rows:
             if self.is_first[i]:
                 yield self.declared(self.kind(self.tops[i]), f"d{i}", minus(value(f"l{i}"), value(f"l{self.partners[i]}")))
+
+    def plan(self):
+        c = self.c
         names = [f"{'d' if self.is_first[i] else 'l'}{i}" for i in range(c.m)]
         for j in range(c.nu):
             gains = [0 if self.is_second[i] else c.w_mat[j][i] << self.lowering[i] for i in range(c.m)]
             moved = shifted(self.with_products(value(f"a{j}"), gains, self.tops, names), min(c.f + c.s, 63))
             yield self.declared(self.kind(self.entry_tops[j]), f"u{j}", minus(constant(0), moved))
-        for j in range(c.nu):
-            yield self.assigned(self.kind(self.sum_tops[j]), f"s{j}", plus(value(f"s{j}"), value(f"u{j}")))
+
+    def weighted(self, a):
+        """As often as the step counts."""
+        return a
+
+    def sums(self):
+        for j in range(self.c.nu):
+            yield self.assigned(self.kind(self.sum_tops[j]), f"s{j}", plus(value(f"s{j}"), self.weighted(value(f"u{j}"))))
+
+    def residual(self, i):
+        """The statements of a row's sum, and what it is over 2^f."""
+        if self.is_first[i]:
+            yield self.declared("int64_t", f"g{i}", self.of_plan(constant(0), i))
+        yield self.declared(self.kind(self.row_tops[i] << self.c.f - self.shared[i]), f"y{i}", self.row(i))
+
+    def moved(self, i, name, most):
+        """Those that move the multiplier of this name, which is at most so great."""
+        kind, top = self.kind(self.moved_tops[i]), constant(most)
+        yield self.declared(kind, f"t{i}", plus(value(name), self.weighted(lowered(f"y{i}", self.c.f - self.shared[i]))))
+        yield f"if (t{i} < 0) {{ t{i} = 0; }}"
+        yield f"if (t{i} > {top[0]}) {{ {self.assigned(kind, f't{i}', top)} }}"
+        yield self.assigned(self.kind(most), name, value(f"t{i}"))
+
+    def body(self):
+        yield from self.differences()
+        yield from self.plan()
+        yield from self.sums()
         for i in self.rows:
-            if self.is_first[i]:
-                yield self.declared("int64_t", f"g{i}", self.of_plan(constant(0), i))
-            kind, top, rest = self.kind(self.row_tops[i]), constant(self.tops[i]), c.f - self.shared[i]
-            yield self.declared(self.kind(self.row_tops[i] << rest), f"y{i}", self.row(i))
-            yield self.declared(kind, f"t{i}", plus(value(f"l{i}"), lowered(f"y{i}", rest)))
-            yield f"if (t{i} < 0) {{ t{i} = 0; }}"
-            yield f"if (t{i} > {top[0]}) {{ {self.assigned(kind, f't{i}', top)} }}"
-            yield self.assigned(self.kind(self.tops[i]), f"l{i}", value(f"t{i}"))
+            yield from self.residual(i)
+            yield from self.moved(i, f"l{i}", self.tops[i])
+
+    @property
+    def counted(self):
+        """What the weights of all steps come to."""
+        return self.c.total
 
     def average(self, j):
-        steps, total = self.c.steps, value(f"sums[{j}]")
+        steps, total = self.counted, value(f"sums[{j}]")
         if steps & (steps - 1) == 0:
             return shifted(plus(total, constant(steps // 2)), steps.bit_length() - 1)
         rest = times(constant(2), divided(total, "%", steps))
         raised = plus(divided(total, "/", steps), shifted(plus(rest, constant(steps)), 63))
         return minus(raised, shifted(minus(constant(steps - 1), rest), 63))
+
+
+class AcceleratedProgram(Program):
+    """Those of the accelerated machine, whose plan is made at means: these are where the plain machine has its multipliers."""
+
+    def __init__(self, c):
+        super().__init__(c)
+        self.own_tops = [2 * c.clamp >> k for k in self.lowering]
+        self.reached = self.kind(2 * c.clamp * c.total)
+
+    def before(self):
+        yield from super().before()
+        for i in self.rows:
+            yield self.declared(self.kind(self.own_tops[i]), f"m{i}", constant(0))
+        for i in self.rows:
+            yield self.declared(self.reached, f"v{i}", constant(0))
+        yield self.declared("int32_t", "k0", constant(2))
+
+    def weighted(self, a):
+        return times(value("k0"), a)
+
+    def body(self):
+        reached = lambda i: plus(value(f"v{i}"), self.weighted(value(f"m{i}")))
+        if self.rows:
+            kind = self.kind(Accelerated.mean_divisor(self.c.steps))
+            yield self.declared(kind, "b0", times(minus(value("k0"), constant(1)), plus(value("k0"), constant(2))))
+        for i in self.rows:
+            yield self.assigned(self.kind(self.tops[i]), f"l{i}", over(reached(i), "b0"))
+        yield from self.differences()
+        yield from self.plan()
+        yield from self.sums()
+        for i in self.rows:
+            yield from self.residual(i)
+            yield from self.moved(i, f"m{i}", self.own_tops[i])
+            yield self.assigned(self.reached, f"v{i}", reached(i))
+        yield self.assigned("int32_t", "k0", plus(value("k0"), constant(1)))
+
+
+def program_of(c):
+    return AcceleratedProgram(c) if c.version == 3 else Program(c)
 
 
 def heads(name, c):
@@ -163,7 +237,7 @@ def refusal(i, low, high):
 
 
 def source_lines(name, c):
-    program, (solve, first_inputs) = Program(c), heads(name, c)
+    program, (solve, first_inputs) = program_of(c), heads(name, c)
     yield from (f'#include "{name}.h"', "", f"typedef char {name}_shifts_round_down[((-INT64_C(3)) >> 1) == (-INT64_C(2)) ? 1 : -1];", "", solve, "{")
     yield from map(refusal, range(c.n), c.lo, c.hi)
     yield from (f"    {line}" for line in program.before())

@@ -154,7 +154,7 @@ class Gains:
 
 class Program:
     """The words are texts, the first of them the command; `read` gives a name's bytes, or None where it can't be read; `write` tells whether a name could be
-    written. `run` gives a controller's sums from a state, `played` a listing's words; designs and controllers are of these versions, but those that `list` and `c` read, or of those that the
+    written. `run` gives a controller's sums from a state, `played` a listing's words; designs and controllers are of these versions, but those that `list` reads, or of those that the
     command takes."""
 
     def __init__(self, words, read, write, gains, run=control.run, played=listing.played, put=None, versions=None):
@@ -290,7 +290,7 @@ class Program:
             self.put(control.plan_line(cell, row, self.run))
 
     def c(self):
-        c = self.text(1, control.read_controller)
+        c = self.controller(1)
         if c.w > compiled.MOST_WIDTH:
             raise Refused(22, c.w)
         self.write_texts(*zip(OUTPUTS["c"], compiled.texts_of(self.words[2], c)))

@@ -6,7 +6,9 @@ The shares of what is counted were fitted to what `bench/target/costs.py` measur
 from __future__ import annotations
 
 from collections import Counter
+from dataclasses import replace
 
+from .machines import Accelerated
 from .strict_texts import absolute_sums, ceil_div
 from .texts import Controller
 
@@ -24,6 +26,9 @@ START = {
     "row's coefficient": (5.2, 15.8, 1.9),
 }
 STEP = {
+    "accelerated row": (0.0, 0.0, 0.0),
+    "accelerated row of 64 bits": (0.0, 0.0, 0.0),
+    "accelerated step": (0.0, 0.0, 0.0),
     "entry": (0.7, 5.1, 12.6),
     "entry's digit of 64 bits": (6.5, 17.4, 0.6),
     "entry's product": (4.9, 13.7, 0.1),
@@ -74,7 +79,10 @@ class Rows:
         self.shared = [max(k for k in range(c.bits + 1) if all(v % (1 << k) == 0 for v in row)) for row in c.G]
         self.written = [i for i in range(c.rows) if self.tops[i] and any(row[i] for row in c.W)]
         self.left = self.binding()
-        # both of a pair are left, or neither counts as one
+        self.pair()
+
+    def pair(self) -> None:
+        """Both of a pair are left, or neither counts as one."""
         self.firsts = [i for i in self.left if i < self.partners[i] and self.partners[i] in self.left]
         self.seconds = [self.partners[i] for i in self.firsts]
 
@@ -169,3 +177,24 @@ class StraightCosts:
     @property
     def ram(self) -> int:
         return 8 * (self.c.entries + ceil_div(round(self.share(2)), 8))
+
+
+class AcceleratedCosts(StraightCosts):
+    """The same of a controller of version 3: gcc leaves out no row, since it doesn't follow a division."""
+
+    def __init__(self, c: Controller):
+        super().__init__(replace(c, version=2))
+        total = Accelerated.total(c.steps)
+        residuals = [most - c.clamp for most in self.moved]
+        self.moved = Accelerated.multiplier_sums(c.clamp, c.steps, residuals)[: c.rows]
+        self.sums = [total * most for most in self.plan]
+        self.rows.left = self.rows.written
+        self.rows.pair()
+        self.start, self.step = self.counted_start(), self.counted_step()
+
+    def counted_step(self) -> Counter[str]:
+        c, rows, count = self.c, self.rows, super().counted_step()
+        count["accelerated step"] = 1
+        count["accelerated row"] = len(rows.left)
+        count["accelerated row of 64 bits"] = sum(is_long(2 * c.clamp >> k) for k in map(rows.lowered.__getitem__, rows.left))
+        return count

@@ -41,6 +41,32 @@ BODY = """    for (int32_t step = 0; step < 4; step++) {
         int32_t d0 = (int32_t)((int64_t)l0 - (int64_t)l1);
         int32_t u0 = (int32_t)(INT64_C(0) - (((int64_t)a0 + (INT64_C(256) * (int64_t)d0) + (INT64_C(256) * (int64_t)l2)) >> 11));
 """
+# a worked controller of the accelerated machine: a row with an exponent of its own, and a pair; and the head of a step of its program
+FAST = b"""mpc-controller 3
+size 1 1 1 3
+bits 9 0 1 22
+steps 3
+clamp 2048
+words 12
+exps 0 1 1
+lo 0
+hi 1
+P 256
+T 0
+W 128 -128 128
+G 512
+G -512
+G 512
+E 0
+E 0
+E 512
+b 512 512 128
+end
+"""
+FAST_BODY = """    for (int32_t step = 0; step < 3; step++) {
+        int32_t b0 = (int32_t)((((int64_t)k0 - INT64_C(1)) * ((int64_t)k0 + INT64_C(2))));
+        l0 = (int32_t)((((int64_t)v0 + ((int64_t)k0 * (int64_t)m0)) / (int64_t)b0));
+"""
 
 
 def line_of(c, state):
@@ -49,7 +75,7 @@ def line_of(c, state):
     if outside:
         return [outside]
     sums = control.run(c, state)
-    return [0, *sums, *[(2 * v + c.steps) // (2 * c.steps) for v in sums[: c.p]]]
+    return [0, *sums, *[(2 * v + c.total) // (2 * c.total) for v in sums[: c.p]]]
 
 
 def states_of(c, pick, count):
@@ -69,6 +95,12 @@ class Texts(unittest.TestCase):
         self.assertIn(BODY, written["t"])
         self.assertIn("\n    inputs[0] = (((int64_t)sums[0] + INT64_C(2)) >> 2);\n}\n", written["t"])
         self.assertIn("\n#define first_STEPS 4\n#define first_BITS 10\n", written["h"])
+
+    def test_accelerated(self):
+        status, line, _, written = told("c c fast t h", c=FAST)
+        self.assertEqual((status, line), (0, ""))
+        self.assertIn(FAST_BODY, written["t"])
+        self.assertIn("\n    inputs[0] = ((int64_t)sums[0] / INT64_C(9)) + ", written["t"])
 
     def test_refusals(self):
         for words in ("c c 1a t h", "c c A t h", "c c a c h", "c c a t c", "c c a t t", "c c a t", "c c " + "a" * 32 + " t h"):
@@ -109,6 +141,19 @@ class Programs(unittest.TestCase):
                 self.runs_as_the_machine(c, pick, 2, ["-fsanitize=undefined", "-fno-sanitize-recover"])
                 tried.append(c.w)
         self.assertGreater(len(tried), 3)
+
+    def test_accelerated(self):
+        c = control.read_controller(FAST, (3,))
+        self.assertEqual(control.run(c, [1]), [-2480])
+        self.runs_as_the_machine(c, random.Random(1), 0)
+        pick, tried = random.Random(5), 0
+        while tried < 12:
+            _, c = cases.random_controller(pick, versions=(3,))
+            c.steps = pick.choice([1, 2, 3, 7, 20, 60])
+            c.w = control.least_width(c) or 128
+            if c.w <= compiled.MOST_WIDTH:
+                self.runs_as_the_machine(c, pick, 2, ["-fsanitize=undefined", "-fno-sanitize-recover"])
+                tried += 1
 
     def test_what_is_left_out(self):
         """Rows that move no plan entry, and coordinates that move nothing, leave no variable that isn't used."""
