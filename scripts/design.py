@@ -158,12 +158,12 @@ def covering(steps: Steps, model: str, given: Namespace) -> str:
 
 def make(steps: Steps, model: str, given: Namespace, stays: bool) -> None:
     """The design, its policy, its faces where no loop is to leave the box, and its controller: a lean one, but where the other is asked for, of the machine that is asked for, or that takes less."""
-    if given.generate:
-        make_with(steps, model, given, stays, [])
+    if given.generate or given.accelerated:
+        make_with(steps, model, given, stays, [] if given.generate else ["--accelerated"])
         return
-    make_with(steps, model, given, stays, ["--accelerated" if given.accelerated else "--lean"])
-    made = controller_of(files.read_bytes(steps.path("controller.txt")).decode())
-    if not (given.plain or is_accelerated(made.version)) and saves(made, CHOSEN):
+    make_with(steps, model, given, stays, ["--lean"])
+    made = None if given.plain else controller_of(files.read_bytes(steps.path("controller.txt")).decode())
+    if made and not is_accelerated(made.version) and saves(made, CHOSEN):
         print(f"    of K = {made.steps}, which the accelerated machine needs far fewer than: by its C's cycles a run takes less than {CHOSEN:.0%} of the time, so version 3 is taken (else --plain)", flush=True)
         make_with(steps, model, given, stays, ["--accelerated"])
 

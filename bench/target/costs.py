@@ -2,17 +2,18 @@
 
 The controllers have random numbers in the shape of a design's: rows on inputs that count one entry, rows on states that count all entries before them, most in pairs of opposite rows.
 For each kind of words it prints the least and the greatest ratio of what is said to what is measured, of cycles and of flash; RAM of tables must be the same. The straight C, of controllers of at most
-64 bits, is the model's in checks/fuzz, which has the program's bytes. Needs gcc-arm-none-eabi, qemu-system-arm and cc.
+64 bits and of the same numbers as controllers of version 3, is the model's in checks/fuzz, which has the program's bytes. Needs gcc-arm-none-eabi, qemu-system-arm and cc.
 """
 import random
 import sys
 import tempfile
 
 from checks.fuzz import compiled, control
+from checks.fuzz.machines import ALL_VERSIONS
 from scripts.common.c_costs import Costs
-from scripts.common.straight_costs import MOST_WIDTH, StraightCosts
+from scripts.common.straight_costs import MOST_WIDTH, AcceleratedCosts, StraightCosts
 from scripts.common.texts import Controller
-from scripts.tests.controllers import text_of, with_width
+from scripts.tests.controllers import accelerated, text_of, with_width
 
 from . import board
 
@@ -69,9 +70,9 @@ def ratios(controller):
 
 def straight_ratios(controller):
     """The same of its straight C, and of RAM."""
-    said = StraightCosts(controller)
+    said = (AcceleratedCosts if controller.version == 3 else StraightCosts)(controller)
     with tempfile.TemporaryDirectory() as folder:
-        source, header = compiled.texts_of("mpc", control.read_controller(text_of(controller).encode()))
+        source, header = compiled.texts_of("mpc", control.read_controller(text_of(controller).encode(), ALL_VERSIONS))
         for name, text in (("mpc.c", source), ("mpc.h", header)):
             board.write(folder, name, text.decode())
         board.solve(folder, controller, [controller.hi], "m4", straight=True)
@@ -89,7 +90,7 @@ def main():
     if board.lacking():
         sys.exit(f"costs.py: nothing was measured: apt-get install {' '.join(board.lacking())}")
     count, r = int(sys.argv[1]) if len(sys.argv) > 1 else 4, random.Random(47)
-    straight = []
+    straight, fast = [], []
     for name, sizes in KINDS.items():
         found = []
         while len(found) < count:
@@ -98,8 +99,12 @@ def main():
                 found.append(ratios(controller))
                 if controller.width <= MOST_WIDTH:
                     straight.append(straight_ratios(controller))
+                    other = accelerated(controller)
+                    if other is not None and other.width <= MOST_WIDTH:
+                        fast.append(straight_ratios(other))
         told(name, found)
     told(f"straight C of {len(straight)} of these", straight)
+    told(f"straight C of {len(fast)} as controllers of version 3", fast)
 
 
 if __name__ == "__main__":

@@ -1,13 +1,15 @@
-"""run.py PROGRAM [--boards m4,m7] [--examples motor,pmsm] [--optimise -O3] [--by generate] [--eva SECONDS]: what the C of the examples' controllers costs on emulated boards.
+"""run.py PROGRAM [--boards m4,m7] [--examples motor,pmsm] [--optimise -O3] [--by generate] [--accelerated] [--part N] [--eva SECONDS]: what the C of the examples' controllers costs on emulated boards.
 
 For each example PROGRAM makes the controller by `lean`, or by `generate`, and the plans of its states; its C, as tables and as the program of `c` where there is one, runs on the boards, must print
-the same sums, and is counted: exact instructions of a run, cycles by the table of instructions of the Cortex-M4 without wait states (of m4 alone), flash, RAM of work and sums. With --eva Frama-C's Eva is asked whether
+the same sums, and is counted: exact instructions of a run, cycles by the table of instructions of the Cortex-M4 without wait states (of m4 alone), flash, RAM of work and sums. With --accelerated
+the controllers are of version 3, of which there are no tables; with --part N the targets of all are an N-th of the examples'. With --eva Frama-C's Eva is asked whether
 any value leaves its type, from every state that 32 bits hold and through all steps, for at most so many seconds each.
 
 Needs gcc-arm-none-eabi and qemu-system-arm (--eva: frama-c-base); says so where they aren't installed.
 """
 import argparse
 import os
+import re
 import subprocess
 import sys
 import tempfile
@@ -25,12 +27,23 @@ TABLED = "m4"
 COUNTS = {"antenna": 2, "rendezvous": 1}
 
 
-def made(program, name, folder, by):
+def asked(example, folder, accelerated, part):
+    """The design of an example, for the accelerated machine and with a part of its targets, where that is asked for."""
+    with open(os.path.join(example, "design.toml"), encoding="utf-8") as file:
+        text = file.read()
+    if accelerated:
+        text = re.sub(r"(?m)^version = [12]$", "version = 3", text, count=1)
+    text = re.sub(r"(?ms)^(\[targets\].*?^den = )(\d+)$", lambda found: f"{found[1]}{int(found[2]) * part}", text, count=1)
+    board.write(folder, "design.toml", text)
+    return os.path.join(folder, "design.toml")
+
+
+def made(program, name, folder, by, accelerated, part):
     """The controller of an example, its states and the sums of their plans; and whether the program writes its C."""
     example = os.path.join(board.TOP, "examples", name)
     controller, states = os.path.join(folder, "controller"), os.path.join(example, "state.csv" if name == "first" else "states.csv")
     plans = ["policy.csv"] if by == "generate" else ["lean.csv", "reference.csv"]
-    subprocess.run([program, by, *(os.path.join(example, file) for file in ["design.toml", *plans]), controller, os.path.join(folder, "report")], check=True)
+    subprocess.run([program, by, asked(example, folder, accelerated, part), *(os.path.join(example, file) for file in plans), controller, os.path.join(folder, "report")], check=True)
     written = subprocess.run([program, "c", controller, "mpc", os.path.join(folder, "mpc.c"), os.path.join(folder, "mpc.h")], capture_output=True, text=True)
     if written.returncode not in (0, TOO_WIDE):
         raise SystemExit(f"run.py: {name}: {written.stderr.strip()}")
@@ -39,7 +52,7 @@ def made(program, name, folder, by):
         rows = [[int(v) for v in line.split(",")] for line in file.read().split()]
     with open(controller, encoding="ascii") as file:
         count = COUNTS.get(name, len(rows))
-        return safe_controller(file.read()), rows[:count], [[int(v) for v in line.split()[1:]] for line in plans[:count]], written.returncode == 0
+        return safe_controller(file.read(), 3), rows[:count], [[int(v) for v in line.split()[1:]] for line in plans[:count]], written.returncode == 0
 
 
 def measured(folder, controller, states, sums, name, which, optimise, straight):
@@ -79,6 +92,8 @@ def main():
     parser.add_argument("--examples", default=",".join(EXAMPLES))
     parser.add_argument("--optimise", default="-O2")
     parser.add_argument("--by", choices=["lean", "generate"], default="lean")
+    parser.add_argument("--accelerated", action="store_true")
+    parser.add_argument("--part", type=int, default=1, metavar="N")
     parser.add_argument("--eva", type=int, default=0, metavar="SECONDS")
     given = parser.parse_args()
     if not given.eva and board.lacking():
@@ -87,12 +102,12 @@ def main():
         print("| Example | Board | Width | K | Instructions a run | a step | Cycles | Flash | RAM |\n|---|---|---|---|---|---|---|---|---|")
     for name in given.examples.split(","):
         with tempfile.TemporaryDirectory() as folder:
-            controller, states, sums, has_program = made(os.path.abspath(given.program), name, folder, given.by)
+            controller, states, sums, has_program = made(os.path.abspath(given.program), name, folder, given.by, given.accelerated, given.part)
             if given.eva:
                 print(eva(controller, name, given.eva), flush=True)
                 continue
             for which in given.boards.split(","):
-                for straight in [True, False] if has_program else [False]:
+                for straight in [True] * has_program + [False] * (not given.accelerated):
                     print(measured(folder, controller, states, sums, name, which, given.optimise, straight), flush=True)
 
 

@@ -15,9 +15,10 @@ import subprocess
 import sys
 import tempfile
 
+from scripts.common.machines import machine_of
 from scripts.common.strict_texts import absolute_sums, ceil_div, safe_controller
 from scripts.tests import c_trials
-from scripts.tests.controllers import first_inputs, random_controller, run, text_of, with_width
+from scripts.tests.controllers import accelerated, first_inputs, random_controller, run, text_of, with_width
 
 try:
     from . import reading
@@ -42,7 +43,7 @@ MOST_WIDTH = 64
 
 def at_end(c, r):
     """A controller with one number brought to the end of its type, or by 1 beside it, and which; None where that takes more than 64 bits."""
-    end, what = 2**31 - 1 + r.choice([-1, 0, 0, 1, 1, 2]), r.choice(["clamp", "entry", "moved", "sum", "row", "state"])
+    end, what = 2**31 - 1 + r.choice([-1, 0, 0, 1, 1, 2]), r.choice(["clamp", "entry", "moved", "sum", "row", "state", *["twice the clamp", "reached"] * (c.version == 3)])
     i, j = r.randrange(c.rows), r.randrange(c.entries)
     _, _, plan, rows, moved, _ = absolute_sums(c)
     to = lambda number, most: r.choice([-1, 1]) * (abs(number) + most)
@@ -51,11 +52,15 @@ def at_end(c, r):
         c.clamp = (end << lowered) + r.randrange(1 << lowered)
     elif what == "entry":
         c.T[j] = to(c.T[j], end - plan[j])
+    elif what == "twice the clamp":
+        c.clamp = end + r.randrange(2) >> 1 << c.step - c.exps[i]
+    elif what == "reached":
+        c.clamp = r.choice([end, 2**63 - 1]) // (2 * machine_of(3).total(c.steps)) + r.choice([0, 1])
     elif what == "sum":
         c.steps = r.choice([1, 2, 3, 8, c.steps])
-        c.T[j] = to(c.T[j], end // c.steps + r.choice([0, 1]) - plan[j])
+        c.T[j] = to(c.T[j], end // machine_of(c.version).total(c.steps) + r.choice([0, 1]) - plan[j])
     elif what == "moved":
-        c.b[i] = to(c.b[i], end - moved[i])
+        c.b[i] = to(c.b[i], (end - moved[i]) // (c.steps + 1 if c.version == 3 else 1))
     elif what == "row":
         c.b[i] = to(c.b[i], ((2**63 - 1 - rows[i]) >> c.bits) - r.choice([0, 0, 1]))
     else:
@@ -67,6 +72,8 @@ def drawn(r):
     """Random controllers of at most 64 bits, each with what was brought to an end."""
     while True:
         c, what = random_controller(r.randrange(10**9)), "nothing"
+        if c is not None and r.random() < 0.4:
+            c = accelerated(c)
         if c is not None and r.random() < 0.5:
             c, what = at_end(c, r)
         if c is not None and c.width <= MOST_WIDTH:
@@ -76,7 +83,7 @@ def drawn(r):
 def read_controllers(paths):
     for path in paths:
         with open(path, encoding="ascii") as file:
-            yield safe_controller(file.read()), "nothing"
+            yield safe_controller(file.read(), 3), "nothing"
 
 
 # ---- what must be answered

@@ -10,7 +10,7 @@ from .c_words import LONG, NARROW, PARTS, WIDE, Form
 from .design_text import plain
 from .libraries import Refusal
 from .machines import accelerated_steps, is_accelerated
-from .straight_costs import HELD, MOST_WIDTH, STEP, StraightCosts
+from .straight_costs import HELD, MOST_WIDTH, STEP, AcceleratedCosts, StraightCosts
 
 # cycles of a step for each product of the plan's entries, and for each entry
 ENTRIES = {NARROW: (3.9, 16), "two": (3.4, 30), "four": (2.9, 44), LONG: (14, 20), WIDE: (55, 190)}
@@ -21,9 +21,8 @@ START = {NARROW: (11, 15), "two": (17, 18), "four": (11, 230), LONG: (11, 15), W
 # bytes of code: of everything, more by the words of entries and of rows, for each product that is written out, and for loops
 CODE, ENTRY_CODE, ROW_CODE = 800, {NARROW: 0, "two": 190, "four": 80, LONG: 60, WIDE: 230}, {NARROW: 0, "two": 80, "four": 780, LONG: 100, WIDE: 1100}
 PRODUCT_CODE, SINGLES_CODE, COUNTS_CODE = 15, 92, 61
-# cycles of a product and of a row of at most 64 bits, and what each row and a step take more in an accelerated run: the division of means, and two lists more. C made by hand of three examples at five
-# targets took 0.8 to 1.2 times as many (gcc 12 -O2, by the same table of cycles); no C of this machine is written yet
-A_PRODUCT, A_ROW, ACCELERATED_ROW, ACCELERATED_STEP = 2.5, 9, 55, 40
+# cycles that each row and a step take more in an accelerated run of more than 64 bits, of which no C is written: the division of means, and two lists more
+ACCELERATED_ROW, ACCELERATED_STEP = 115, 40
 # steps of the plain machine with which the accelerated one takes less, however much more of its own each takes
 MOST_PAYING = 10**6
 
@@ -108,11 +107,12 @@ def plain_cycles(controller, steps):
 
 
 def accelerated_cycles(controller, steps):
-    """And one of the accelerated machine: by its products, opposite rows sharing theirs, and its rows, none of which is left out."""
-    form = Form(controller)
-    rows = len(form.rows) + len(form.seconds)
-    step = A_PRODUCT * sum(form.products()) + A_ROW * rows if controller.width <= MOST_WIDTH else Costs(controller).step_cycles()
-    return steps * (step + ACCELERATED_ROW * rows + ACCELERATED_STEP)
+    """And one of the accelerated machine."""
+    c = replace(controller, version=3, steps=steps)
+    if c.width <= MOST_WIDTH:
+        return AcceleratedCosts(c).cycles
+    form = Form(replace(c, version=2))
+    return steps * (Costs(replace(c, version=2)).step_cycles() + ACCELERATED_ROW * (len(form.rows) + len(form.seconds)) + ACCELERATED_STEP)
 
 
 def c_words(controller, period, clock):
@@ -126,13 +126,22 @@ def c_words(controller, period, clock):
 def plain_words(controller, period, clock):
     costs = costs_of(controller)
     yield straight_words(costs.rows) if controller.width <= MOST_WIDTH else table_words(costs.form)
-    yield f"{cycle_words(controller, costs.cycles, period, clock)}; about {rounded(costs.flash)} bytes of flash, {costs.ram} of RAM"
+    yield f"{cycle_words(controller, costs.cycles, period, clock)}; {size_words(costs)}"
 
 
 def accelerated_words(controller, period, clock):
-    """The same of a controller of version 3, as an estimate."""
-    cycles = accelerated_cycles(controller, controller.steps)
-    yield f"{cycle_words(controller, cycles, period, clock)}; an estimate, since no C is written yet of this machine: each row takes {ACCELERATED_ROW} cycles more than in the plain one"
+    """The same of a controller of version 3; of one of more than 64 bits an estimate."""
+    cycles = cycle_words(controller, accelerated_cycles(controller, controller.steps), period, clock)
+    if controller.width <= MOST_WIDTH:
+        costs = AcceleratedCosts(controller)
+        yield straight_words(costs.rows)
+        yield f"{cycles}; {size_words(costs)}"
+    else:
+        yield f"{cycles}; an estimate, since of version 3 no C of more than {MOST_WIDTH} bits is written: each row takes {ACCELERATED_ROW} cycles more than in the plain machine"
+
+
+def size_words(costs):
+    return f"about {rounded(costs.flash)} bytes of flash, {costs.ram} of RAM"
 
 
 def cycle_words(controller, cycles, period, clock):

@@ -6,9 +6,7 @@ The shares of what is counted were fitted to what `bench/target/costs.py` measur
 from __future__ import annotations
 
 from collections import Counter
-from dataclasses import replace
 
-from .machines import Accelerated
 from .strict_texts import absolute_sums, ceil_div
 from .texts import Controller
 
@@ -26,9 +24,10 @@ START = {
     "row's coefficient": (5.2, 15.8, 1.9),
 }
 STEP = {
-    "accelerated row": (0.0, 0.0, 0.0),
-    "accelerated row of 64 bits": (0.0, 0.0, 0.0),
-    "accelerated step": (0.0, 0.0, 0.0),
+    "accelerated product": (2.9, 5.0, 0.6),
+    "accelerated row": (113.4, 66.3, 5.8),
+    "accelerated row of 64 bits": (9.4, 3.7, 0.0),
+    "accelerated step": (42.2, 89.6, 25.0),
     "entry": (0.7, 5.1, 12.6),
     "entry's digit of 64 bits": (6.5, 17.4, 0.6),
     "entry's product": (4.9, 13.7, 0.1),
@@ -183,18 +182,14 @@ class AcceleratedCosts(StraightCosts):
     """The same of a controller of version 3: gcc leaves out no row, since it doesn't follow a division."""
 
     def __init__(self, c: Controller):
-        super().__init__(replace(c, version=2))
-        total = Accelerated.total(c.steps)
-        residuals = [most - c.clamp for most in self.moved]
-        self.moved = Accelerated.multiplier_sums(c.clamp, c.steps, residuals)[: c.rows]
-        self.sums = [total * most for most in self.plan]
+        self.c, self.rows = c, Rows(c)
         self.rows.left = self.rows.written
         self.rows.pair()
+        self.reach, _, self.plan, _, self.moved, self.sums = absolute_sums(c)
         self.start, self.step = self.counted_start(), self.counted_step()
 
     def counted_step(self) -> Counter[str]:
-        c, rows, count = self.c, self.rows, super().counted_step()
-        count["accelerated step"] = 1
-        count["accelerated row"] = len(rows.left)
-        count["accelerated row of 64 bits"] = sum(is_long(2 * c.clamp >> k) for k in map(rows.lowered.__getitem__, rows.left))
-        return count
+        count = super().counted_step()
+        products = sum(n for what, n in count.items() if "product" in what)
+        long = sum(is_long(2 * self.c.clamp >> self.rows.lowered[i]) for i in self.rows.left)
+        return count + Counter({"accelerated step": 1, "accelerated row": len(self.rows.left), "accelerated row of 64 bits": long, "accelerated product": products})

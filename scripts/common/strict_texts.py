@@ -3,14 +3,14 @@ import json
 import re
 
 from .libraries import Refusal
-from .machines import refuse_accelerated
+from .machines import machine_of, refuse_accelerated
 from .texts import REPORT_LINES, SCALE, Controller, controller_of
 
 NUMBER = re.compile(r"0|-?[1-9][0-9]*")
 COUNT = re.compile(r"0|[1-9][0-9]{0,38}")
 NUMERATOR = 2**31 - 1
 # the greatest numbers of states, inputs, stages and rows, by version
-SIZES = {1: (4, 3, 20, 252), 2: (6, 3, 30, 372)}
+SIZES = {1: (4, 3, 20, 252), 2: (6, 3, 30, 372), 3: (6, 3, 30, 372)}
 
 
 class Lines:
@@ -49,21 +49,22 @@ def within(*ranges):
     return lambda numbers: all(low <= v <= high for v, (low, high) in zip(numbers, ranges))
 
 
-def strict_controller(text):
-    """The controller of a text in form; Refusal with the first line that no controller text has there."""
+def strict_controller(text, last=2):
+    """The controller of a text in form, of a version up to the last; Refusal with the first line that no controller text has there."""
     lines = Lines(text)
-    if text.startswith("mpc-controller 3\n"):
-        refuse_accelerated(3, "C is written of controllers of")
-    (version,) = lines.take("mpc-controller", 1, "mpc-controller and the version, 1 or 2", within((1, 2)))
-    sizes = SIZES[version]
+    if last < 3 and text.startswith("mpc-controller 3\n"):
+        refuse_accelerated(3, "this takes controllers of")
+    (version,) = lines.take("mpc-controller", 1, f"mpc-controller and the version, from 1 to {last},", within((1, last)))
+    sizes, machine = SIZES[version], machine_of(version)
     n, p, stages, m = lines.take("size", 4, f"size, states up to {sizes[0]}, inputs up to 3, stages up to {sizes[2]} and rows up to {sizes[3]}", within(*[(1, most) for most in sizes]))
     in_range = lambda v: 0 <= v[1] <= 24 and v[1] <= v[0] <= 48 and 0 <= v[2] <= 40 and 2 <= v[3] <= 128
     (_, _, s, _) = lines.take("bits", 4, "bits, f from g to 48, g up to 24, s up to 40 and the width from 2 to 128", in_range)
-    lines.take("steps", 1, "steps, from 1 to 4194304", within((1, 4194304)))
+    lines.take("steps", 1, f"steps, from 1 to {machine.most_steps}", within((1, machine.most_steps)))
     lines.take("clamp", 1, "clamp, from 0 to 2^126", within((0, 2**126)))
     entries = p * stages
-    lines.take("words", 1, f"words {n + m + 2 * entries}", lambda v: v == [n + m + 2 * entries])
-    if version == 2:
+    words = n + machine.lists * m + 2 * entries
+    lines.take("words", 1, f"words {words}", lambda v: v == [words])
+    if version > 1:
         lines.take("exps", m, f"exps and {m} numbers up to {s}", within(*[(0, s)] * m))
     low = lines.take("lo", n, f"lo and {n} numbers up to {NUMERATOR}", within(*[(-NUMERATOR, NUMERATOR)] * n))
     lines.take("hi", n, f"hi and {n} numbers up to {NUMERATOR}, each at least its lo,", within(*[(least, NUMERATOR) for least in low]))
@@ -83,19 +84,20 @@ def ceil_div(a, b):
 
 def absolute_sums(c: Controller):
     """The absolute sums by which the program accepts a controller (docs/METHOD.md): X of the state, A of the plan's sums, U of the plan, B of the rows' sums, d of the
-    multipliers before they are clamped, e of the sums of a run."""
+    multipliers before they are clamped (in version 3 behind them what is reached of them), e of the sums of a run."""
     reach = [max(abs(low), abs(high)) << (c.bits - c.grid) for low, high in zip(c.lo, c.hi)]
     size = lambda row, most: sum(abs(v) * x for v, x in zip(row, most))
     entry_sums = [((size(c.P[j], reach) + (abs(c.T[j]) << c.bits)) << c.step) + size(c.W[j], [c.clamp] * c.rows) for j in range(c.entries)]
     plan = [ceil_div(v, 1 << (c.bits + c.step)) for v in entry_sums]
     row_sums = [size(c.G[i], plan) + size(c.E[i], reach) + (abs(c.b[i]) << c.bits) for i in range(c.rows)]
-    moved = [c.clamp + ceil_div(v, 1 << c.bits) for v in row_sums]
-    return reach, entry_sums, plan, row_sums, moved, [c.steps * v for v in plan]
+    machine = machine_of(c.version)
+    moved = machine.multiplier_sums(c.clamp, c.steps, [ceil_div(v, 1 << c.bits) for v in row_sums])
+    return reach, entry_sums, plan, row_sums, moved, [machine.total(c.steps) * v for v in plan]
 
 
-def safe_controller(text):
-    """The controller of a text that `solve` accepts."""
-    controller = strict_controller(text)
+def safe_controller(text, last=2):
+    """The controller of a text that `solve` accepts, of a version up to the last."""
+    controller = strict_controller(text, last)
     greatest = max(max(sums) for sums in absolute_sums(controller))
     if greatest > min(2**126, 2 ** (controller.width - 1) - 1):
         raise Refusal(f"an absolute sum of {greatest.bit_length()} bits and a sign doesn't fit the width that it says, {controller.width}: no controller that generate made")

@@ -1,6 +1,7 @@
-"""Random controllers of both versions, of every tier of words that the C has, and the machine that they run on, by its formulas."""
+"""Random controllers of all versions, of every tier of words that the C has, and the machines that they run on, by their formulas."""
 import random
 
+from scripts.common.machines import machine_of
 from scripts.common.strict_texts import absolute_sums
 from scripts.common.texts import Controller
 
@@ -37,6 +38,12 @@ def random_controller(seed):
     return with_width(c)
 
 
+def accelerated(c):
+    """The same numbers as a controller of version 3."""
+    c.version, c.words = 3, c.states + 3 * c.rows + 2 * c.entries
+    return with_width(c)
+
+
 def oppose(c, r):
     """Makes every other row the opposite of the one before it, and now and then one that reaches no entry."""
     for i in range(0, c.rows - 1, 2):
@@ -58,25 +65,37 @@ def with_width(c):
 def text_of(c):
     """The text of a controller."""
     lines = [["mpc-controller", c.version], ["size", c.states, c.inputs, c.stages, c.rows], ["bits", c.bits, c.grid, c.step, c.width], ["steps", c.steps], ["clamp", c.clamp]]
-    lines += [["words", c.words]] + ([["exps", *c.exps]] if c.version == 2 else []) + [["lo", *c.lo], ["hi", *c.hi]]
+    lines += [["words", c.words]] + ([["exps", *c.exps]] if c.version > 1 else []) + [["lo", *c.lo], ["hi", *c.hi]]
     for word, rows in (("P", c.P), ("T", [c.T]), ("W", c.W), ("G", c.G), ("E", c.E), ("b", [c.b])):
         lines += [[word, *row] for row in rows]
     return "".join(" ".join(map(str, line)) + "\n" for line in [*lines, ["end"]])
 
 
-def step(c, state, multipliers):
-    """The plan of a step and the multipliers after it (docs/METHOD.md)."""
+def planned(c, state, multipliers):
+    """The plan at multipliers, and each row's residual of it (docs/METHOD.md)."""
     loaded = [v << (c.bits - c.grid) for v in state]
     dot = lambda row, values: sum(a * v for a, v in zip(row, values))
     raised = [v << (c.step - e) for v, e in zip(multipliers, c.exps)]
     sums = [((dot(c.P[j], loaded) + (c.T[j] << c.bits)) << c.step) + dot(c.W[j], raised) for j in range(c.entries)]
     plan = [-(v >> (c.bits + c.step)) for v in sums]
-    moved = [v + ((dot(c.G[i], plan) + dot(c.E[i], loaded) - (c.b[i] << c.bits)) >> c.bits) for i, v in enumerate(multipliers)]
-    return plan, [min(c.clamp >> (c.step - e), max(0, v)) for v, e in zip(moved, c.exps)]
+    return plan, [(dot(c.G[i], plan) + dot(c.E[i], loaded) - (c.b[i] << c.bits)) >> c.bits for i in range(c.rows)]
+
+
+def moved(c, clamp, multipliers, residuals):
+    """Multipliers after a step, each within the clamp by its row's exponent."""
+    return [min(clamp >> (c.step - e), max(0, old + v)) for old, v, e in zip(multipliers, residuals, c.exps)]
+
+
+def step(c, state, multipliers):
+    """The plan of a step and the multipliers after it."""
+    plan, residuals = planned(c, state, multipliers)
+    return plan, moved(c, c.clamp, multipliers, residuals)
 
 
 def run(c, state):
     """The sums of a run."""
+    if c.version == 3:
+        return accelerated_run(c, state)
     multipliers, sums = [0] * c.rows, [0] * c.entries
     for _ in range(c.steps):
         plan, multipliers = step(c, state, multipliers)
@@ -84,6 +103,19 @@ def run(c, state):
     return sums
 
 
+def accelerated_run(c, state):
+    """Of the accelerated machine: each plan is made at the means of the multipliers by their weights, and counts by its own."""
+    multipliers, reached, sums = [0] * c.rows, [0] * c.rows, [0] * c.entries
+    for weight in range(2, c.steps + 2):
+        add = lambda some, others: [a + weight * b for a, b in zip(some, others)]
+        means = [v // ((weight - 1) * (weight + 2)) for v in add(reached, multipliers)]
+        plan, residuals = planned(c, state, means)
+        multipliers = moved(c, 2 * c.clamp, multipliers, [weight * v for v in residuals])
+        reached, sums = add(reached, multipliers), add(sums, plan)
+    return sums
+
+
 def first_inputs(c, sums):
     """The averaged first inputs over 2^f, to the nearest, ties upward."""
-    return [(2 * v + c.steps) // (2 * c.steps) for v in sums[: c.inputs]]
+    total = machine_of(c.version).total(c.steps)
+    return [(2 * v + total) // (2 * total) for v in sums[: c.inputs]]

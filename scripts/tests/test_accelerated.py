@@ -16,6 +16,7 @@ from scripts.common.corners import cost_limit, steps_of
 from scripts.common.design_text import design_of, read_design
 from scripts.common.libraries import PACKAGES, Refusal, missing
 from scripts.common.machines import Accelerated, Plain, accelerated_steps, plain_steps
+from scripts.common.straight_costs import AcceleratedCosts
 from scripts.common.strict_texts import strict_controller
 from scripts.common.texts import controller_of, records_of, report_of
 from scripts.explain import explain
@@ -146,7 +147,7 @@ class Texts(unittest.TestCase):
         self.assertEqual(matching.controller_difference(controller, replace(found, version=2)), "its version is 3, and that of the design 2")
 
     def test_no_c(self):
-        with self.assertRaisesRegex(Refusal, "^C is written of controllers of versions 1 and 2: `lean` without faces, `solve` and `loop` alone know the accelerated machine of version 3$"):
+        with self.assertRaisesRegex(Refusal, "^this takes controllers of versions 1 and 2: `lean` without faces, `solve` and `loop` alone know the accelerated machine of version 3$"):
             strict_controller(made(FIRST)[1])
 
 
@@ -171,11 +172,15 @@ class Explained(unittest.TestCase):
         told = self.told(controller=controller)
         # multipliers to 2 * 2048 and their sums to 9 times that, means to 2048
         self.assertIn("multipliers 14, their sums by weights 17, means 13, plan", next(line for line in told if line.startswith("signed words")))
-        # three rows of which two are opposite, of 6 products that share 2
-        cycles = c_costs.accelerated_cycles(controller_of(controller), 3)
-        self.assertEqual(cycles, 3 * (2.5 * 4 + 3 * (9 + 55) + 40))
-        self.assertRegex("\n".join(told), r"on a Cortex-M4 about 730 cycles a run, .*; an estimate, since no C is written yet of this machine: each row takes 55 cycles more")
-        self.assertFalse(any(line.startswith("as C") or "flash" in line for line in told))
+        found = controller_of(controller)
+        costs = AcceleratedCosts(found)
+        self.assertEqual((costs.step["accelerated row"], costs.step["accelerated product"]), (3, 2))
+        self.assertEqual(c_costs.accelerated_cycles(found, 3), costs.cycles)
+        self.assertRegex("\n".join(told), rf"as C \(./mpc c\): no tables; .*\n.*on a Cortex-M4 about {c_costs.rounded(costs.cycles)} cycles a run, .*; about [0-9,]+ bytes of flash, {costs.ram} of RAM")
+        # of more than 64 bits no C is written
+        wide = "\n".join(self.told(controller=controller.replace("bits 9 0 1 22", "bits 9 0 1 65")))
+        self.assertRegex(wide, rf"an estimate, since of version 3 no C of more than 64 bits is written: each row takes {c_costs.ACCELERATED_ROW} cycles more")
+        self.assertFalse("as C" in wide or "flash" in wide)
 
     def test_what_the_plain_machine_would_take(self):
         found, controller, report = made(COARSE)
@@ -203,7 +208,7 @@ class Explained(unittest.TestCase):
         # of a controller beside it, cycles
         controller = FIRST_LEAN_CONTROLLER.replace("steps 1\n", "steps 20000\n").replace("bits 6 0 1 16", "bits 6 0 1 30")
         (line,) = [line for line in self.told(controller=controller) if line.startswith("version ")]
-        self.assertRegex(line, r"^version 3 \(`lean` without faces\) would take at most 282 steps, about 68,000 cycles by an estimate; version 3 takes less from K = \d+ of version 2 on")
+        self.assertRegex(line, r"^version 3 \(`lean` without faces\) would take at most 282 steps, about [0-9,]+ cycles by an estimate; version 3 takes less from K = \d+ of version 2 on")
         # of few steps where it takes fewer cycles
         few = controller.replace("steps 20000\n", "steps 50\n")
         saved = lambda told: any(line.startswith("version 3") for line in told)
@@ -243,7 +248,7 @@ class Made(unittest.TestCase):
         self.assertEqual(fast, Accelerated.steps(Fraction(plain)))
         share = lambda version: staying.share_of(replace(example("motor"), version=version), 10, 0.005, 100)
         # eight rows
-        self.assertAlmostEqual(share(3) - share(2), 10 * (8 * 55 + 40) / (0.005 * 100e6))
+        self.assertAlmostEqual(share(3) - share(2), 10 * (8 * c_costs.ACCELERATED_ROW + c_costs.ACCELERATED_STEP) / (0.005 * 100e6))
 
     def test_judged(self):
         """By the denominators of `solve`'s lines: 4608 is 9 times 2^9."""
@@ -272,8 +277,8 @@ class Refused(unittest.TestCase):
             ("faces are of designs of", "faces", paths["d"], paths["p"], out),
             ("no loop leaves the box by faces, which are of models of", "staying", paths["m"], out),
             ("`settle` reads controllers of", "settles", paths["d"], paths["c"], out),
-            ("C is written of controllers of", "c_source", paths["c"], "--name", "mpc", "--out", os.path.dirname(out)),
-            ("C is written of controllers of", "nearest", paths["c"], "mpc", os.path.dirname(out)),
+            ("this takes controllers of", "c_source", paths["c"], "--name", "mpc", "--out", os.path.dirname(out)),
+            ("this takes controllers of", "nearest", paths["c"], "mpc", os.path.dirname(out)),
             ("no loop leaves the box by faces, which are of models of", "design", paths["n"], out, "--accelerated", "--stay"),
             ("no loop leaves the box by faces, which are of models of", "design", paths["o"], out, "--accelerated"),
             ("`generate` makes controllers of", "design", paths["m"], out, "--generate"),
@@ -292,7 +297,7 @@ class WholeWay(unittest.TestCase):
     def test_what_is_run(self):
         folder, _ = folder_with(self, **{"design.toml": third(COARSE)})
         steps, ran = design.Steps(folder), []
-        given = Namespace(generate=False, accelerated=True, gap=0.1)
+        given = Namespace(generate=False, accelerated=True, plain=False, gap=0.1)
         with unittest.mock.patch.object(design.Steps, "run", lambda _, *words, to=None: ran.append([os.path.basename(word) for word in words]) or design.Step(0, "")):
             design.make(steps, "model.toml", given, False)
         self.assertEqual(ran, [["draft", "model.toml", "design.toml", "--gap", "0.1", "--accelerated"], ["policy", "design.toml", "policy.csv", "--lean", "reference.csv", "--turns", "0"],
