@@ -18,13 +18,13 @@ use Rattle.qp_model.specs.declared.design_parts.DesignParts.{DesignParts}
 use Rattle.qp_model.specs.problem.Trajectory.{trajectory}
 use Rattle.qp_model.specs.problem.Box.{IsGridState}
 use Rattle.qp_model.specs.problem.Residual.{residual, residual_scale}
-use Rattle.qp_model.specs.machine.Controller.{Numbers, IsSized}
+use Rattle.qp_model.specs.machine.Controller.{Numbers}
 use Rattle.qp_model.specs.machine.AbsoluteSums.{IsController}
 use Rattle.qp_model.specs.bounds.Built.{HasSizesOf}
-use Rattle.qp_model.specs.machine.Machine.{IsAdmissible, IsInside, average_denominator, averaged_plan}
+use Rattle.qp_model.specs.machine.Machine.{IsAdmissible, averaged_plan}
 use Rattle.qp_model.specs.bounds.Printed.{Printed}
-use Rattle.qp_model.specs.bounds.Certified.{IsCertified, IsCertifiedAt, ExceedsAtMost}
-use Rattle.qp_model.specs.machine.Successor.{grid_scale, next_sum, next_over, successor, state_after}
+use Rattle.qp_model.specs.bounds.Certified.{IsCertified, IsCertifiedAt, KeepsBounds, ExceedsAtMost}
+use Rattle.qp_model.specs.machine.Successor.{next_sum, next_over, successor, state_after}
 use Rattle.stay_check.specs.FirstRows.{first_row_count, first_row}
 use Rattle.stay_check.specs.Staying.{next_grid_state, AreShifts, ExceedsNoFirstRowBy, KeepsInBox}
 use Rattle.stay_check.specs.LoopStay.{CoversPrinted, shifted_successor, state_under, AreShiftsUpTo, IsKeptAt, LoopUnderLaw, LoopStayLaw, UnshiftedLaw}
@@ -51,25 +51,26 @@ round_scaled c z d h k =
     down : (c z d : ℤ) → (z *ℤ (c *ℤ d)) ≤ℤ ((c *ℤ z) *ℤ d)
     down c z d = le_by (≤ℤ_refl z) (by_ring (c ∷ z ∷ d ∷ []) (search quotes depth 60 fits 20000) refl)
 
--- ---- the successor is the nearest grid state to the averaged plan's state of stage 1
-scale_some : (c : Numbers) → IsSized c → 1 ≤ grid_scale c
-scale_some c s = one-le-mul s.steps.0 (pow_positive 2 (c.fraction_bits - c.grid_bits) (omega arith))
-
-over_is : (c : Numbers) → IsSized c → average_denominator c ≡ 2 ^ c.grid_bits * grid_scale c
-over_is c s =
-    let split : c.fraction_bits - c.grid_bits + c.grid_bits ≡ c.fraction_bits = omega (arith, s.fraction_bits) in
-    ap (λ n. c.steps * 2 ^ n) (sym split) ∙ ap (λ n. c.steps * n) (pow-add 2 (c.fraction_bits - c.grid_bits) c.grid_bits) ∙ turn c.steps (2 ^ (c.fraction_bits - c.grid_bits)) (2 ^ c.grid_bits)
+-- ---- the next state is the nearest grid state to the state of stage 1 of a plan over weight 2^f
+over_is : (weight f g : ℕ) → g ≤ f → weight * 2 ^ f ≡ 2 ^ g * (weight * 2 ^ (f - g))
+over_is weight f g h =
+    let split : f - g + g ≡ f = omega (arith, h) in
+    ap (λ n. weight * 2 ^ n) (sym split) ∙ ap (λ n. weight * n) (pow-add 2 (f - g) g) ∙ turn weight (2 ^ (f - g)) (2 ^ g)
   where
     turn : (k a b : ℕ) → k * (a * b) ≡ b * (k * a)
     turn k a b = omega (arith, mul_assoc k a b, mul_comm (k * a) b)
 
-nearest : (d : Design) (c : Numbers) (xi : List ℤ) (i : ℕ) → 1 ≤ d.plant_denominator → IsSized c → c.grid_bits ≡ d.grid →
-    next_grid_state d (pos (average_denominator c)) (at xi) (at (averaged_plan c xi)) i ≡ round_of (next_sum d c xi i) (next_over d c)
-nearest d c xi i a s g =
-    joined (average_denominator c) (2 ^ d.grid) (grid_scale c) d.plant_denominator _ _ _
-    (over_is c s ∙ ap (λ n. 2 ^ n * grid_scale c) g)
-    (next_state d (pos (average_denominator c)) (at xi) (at (averaged_plan c xi)) i)
-    (pow_positive 2 d.grid (omega arith)) (scale_some c s) a
+-- coordinate i over 2^grid: of the state's part times the scale, and the inputs' over the plan's denominator
+abbrev pub next_by : Design → (scale : ℕ) → (xi u : ℕ → ℤ) → ℕ → ℤ
+next_by d scale xi u i = round_of (image d.states d.plant_a xi i *ℤ pos scale +ℤ image d.inputs d.plant_b u i) (d.plant_denominator * scale)
+
+nearest : (d : Design) (weight f g : ℕ) (xi u : ℕ → ℤ) (i : ℕ) → 1 ≤ d.plant_denominator → 1 ≤ weight → g ≤ f → g ≡ d.grid →
+    next_grid_state d (pos (weight * 2 ^ f)) xi u i ≡ next_by d (weight * 2 ^ (f - g)) xi u i
+nearest d weight f g xi u i a some h same =
+    joined (weight * 2 ^ f) (2 ^ d.grid) (weight * 2 ^ (f - g)) d.plant_denominator _ _ _
+    (over_is weight f g h ∙ ap (λ n. 2 ^ n * (weight * 2 ^ (f - g))) same)
+    (next_state d (pos (weight * 2 ^ f)) xi u i)
+    (pow_positive 2 d.grid (omega arith)) (one-le-mul some (pow_positive 2 (f - g) (omega arith))) a
   where
     factored : (g k x y : ℤ) → (g *ℤ k) *ℤ x +ℤ g *ℤ y ≡ g *ℤ (x *ℤ k +ℤ y)
     factored g k x y = by_ring (g ∷ k ∷ x ∷ y ∷ []) (search quotes depth 60 fits 20000) refl
@@ -86,29 +87,30 @@ nearest d c xi i a s g =
 looser : (d : Design) (xi u : ℕ → ℤ) (q : ℕ) (i : ℕ) (v w : ℤ) → v ≤ℤ w → ExceedsAtMost d xi (pos q) u i v → ExceedsAtMost d xi (pos q) u i w
 looser d xi u q i v w h e = le_trans_z e (mul-le-mul_right_z (pos q) (omega (arith, ints)) (mul-le-mul_right_z (pos (residual_scale d)) (omega (arith, ints)) h))
 
-module _ (p : DesignParts) (c : Numbers) (b : Printed) (excess low high : ℕ → ℤ) (design : IsDesign p) (sound : IsController c) (sizes : HasSizesOf (design_of p) c)
-    (certified : IsCertified (design_of p) c b) (covers : CoversPrinted (design_of p) b excess) (keeps : KeepsInBox (design_of p) excess low high) where
-  grid_state : (xi : List ℤ) → IsAdmissible c xi → IsGridState (design_of p) (at xi)
-  grid_state xi h i l =
-      let in_c : i < c.states = omega (arith, l, sizes.states) in
-      let e = h.each i in_c in
-      (rw (← sizes.low i l) e.low, rw (← sizes.high i l) e.high)
+pub grid_state : (d : Design) (c : Numbers) → HasSizesOf d c → (xi : List ℤ) → IsAdmissible c xi → IsGridState d (at xi)
+grid_state d c sizes xi h i l =
+    let in_c : i < c.states = omega (arith, l, sizes.states) in
+    let e = h.each i in_c in
+    (rw (← sizes.low i l) e.low, rw (← sizes.high i l) e.high)
 
-  pub certified_at : (xi : List ℤ) → IsAdmissible c xi → IsCertifiedAt (design_of p) c b xi
-  certified_at xi h = certified xi (h.long ∙ sizes.states) (grid_state xi h)
+-- by any plans over weight 2^f, one for each state of the box, whose rows keep bounds that are printed: the next states, shifted, lie in the box
+module _ (p : DesignParts) (c : Numbers) (b : Printed) (excess low high : ℕ → ℤ) (design : IsDesign p) (sizes : HasSizesOf (design_of p) c)
+    (covers : CoversPrinted (design_of p) b excess) (keeps : KeepsInBox (design_of p) excess low high)
+    (weight : ℕ) (some : 1 ≤ weight) (bits : c.grid_bits ≤ c.fraction_bits) (plan : List ℤ → List ℤ)
+    (kept : (xi : List ℤ) → IsAdmissible c xi → KeepsBounds (design_of p) b (at xi) (pos (weight * 2 ^ c.fraction_bits)) (at (plan xi))) where
+  abbrev next : List ℤ → ℕ → ℤ
+  next xi = next_by (design_of p) (weight * 2 ^ (c.fraction_bits - c.grid_bits)) (at xi) (at (plan xi))
 
-  turn : (xi : List ℤ) (shift : ℕ → ℤ) → IsAdmissible c xi → AreShifts (design_of p) low high shift →
-      IsGridState (design_of p) (λ i. round_of (next_sum (design_of p) c xi i) (next_over (design_of p) c) +ℤ shift i)
+  turn : (xi : List ℤ) (shift : ℕ → ℤ) → IsAdmissible c xi → AreShifts (design_of p) low high shift → IsGridState (design_of p) (λ i. next xi i +ℤ shift i)
   turn xi shift h within i l =
-      let q = average_denominator c in
-      let form = sound.form.sized in
-      let some : 1 ≤ q = one-le-mul form.steps.0 (pow_positive 2 c.fraction_bits (omega arith)) in
-      let rows_kept = (certified_at xi h).plan.rows in
-      let near = nearest (design_of p) c xi i (denominator_small p.plant_den design.plant_den).0 form sizes.grid in
-      let kept = keeps (pos q) (at xi) (at (averaged_plan c xi)) shift (omega (arith, ints, some)) (grid_state xi h)
-      (λ r m. (let row = row_inside p r design m in looser (design_of p) (at xi) (at (averaged_plan c xi)) q (first_row (design_of p) r).row _ _ (covers _ row) (rows_kept _ row)))
+      let q = weight * 2 ^ c.fraction_bits in
+      let whole : 1 ≤ q = one-le-mul some (pow_positive 2 c.fraction_bits (omega arith)) in
+      let rows_kept = (kept xi h).rows in
+      let near = nearest (design_of p) weight c.fraction_bits c.grid_bits (at xi) (at (plan xi)) i (denominator_small p.plant_den design.plant_den).0 some bits sizes.grid in
+      let moved = keeps (pos q) (at xi) (at (plan xi)) shift (omega (arith, ints, whole)) (grid_state (design_of p) c sizes xi h)
+      (λ r m. (let row = row_inside p r design m in looser (design_of p) (at xi) (at (plan xi)) q (first_row (design_of p) r).row _ _ (covers _ row) (rows_kept _ row)))
       within i l in
-      (shifted_low _ _ (shift i) _ near kept.0, shifted_high _ _ (shift i) _ near kept.1)
+      (shifted_low _ _ (shift i) _ near moved.0, shifted_high _ _ (shift i) _ near moved.1)
     where
       shifted_low : (x y s z : ℤ) → x ≡ y → z ≤ℤ (x +ℤ s) → z ≤ℤ (y +ℤ s)
       shifted_low x y s z e h = omega (arith, ints, e, h)
@@ -116,24 +118,32 @@ module _ (p : DesignParts) (c : Numbers) (b : Printed) (excess low high : ℕ �
       shifted_high : (x y s z : ℤ) → x ≡ y → (x +ℤ s) ≤ℤ z → (y +ℤ s) ≤ℤ z
       shifted_high x y s z e h = omega (arith, ints, e, h)
 
-  next_inside : (xi : List ℤ) (shift : ℕ → ℤ) → IsAdmissible c xi → AreShifts (design_of p) low high shift → IsAdmissible c (shifted_successor (design_of p) c xi shift)
+  pub next_inside : (xi : List ℤ) (shift : ℕ → ℤ) → IsAdmissible c xi → AreShifts (design_of p) low high shift →
+      IsAdmissible c (map (λ i. at (map (next xi) (range_with_len 0 p.states)) i +ℤ shift i) (range_with_len 0 p.states))
   next_inside xi shift h within = record {
-    long = length-map-range_with_len (λ i. at (successor (design_of p) c xi) i +ℤ shift i) 0 p.states ∙ sym sizes.states;
+    long = length-map-range_with_len (λ i. at (map (next xi) (range_with_len 0 p.states)) i +ℤ shift i) 0 p.states ∙ sym sizes.states;
     each = λ i l. (
         let in_d : i < p.states = omega (arith, l, sizes.states) in
-        let outer = get_or-map-range_with_len (λ i. at (successor (design_of p) c xi) i +ℤ shift i) 0 p.states i i (pos 0) in_d (omega arith) in
-        let value = get_or-map-range_with_len (λ i. round_of (next_sum (design_of p) c xi i) (next_over (design_of p) c)) 0 p.states i i (pos 0) in_d (omega arith) in
+        let outer = get_or-map-range_with_len (λ i. at (map (next xi) (range_with_len 0 p.states)) i +ℤ shift i) 0 p.states i i (pos 0) in_d (omega arith) in
+        let value = get_or-map-range_with_len (next xi) 0 p.states i i (pos 0) in_d (omega arith) in
         let t = turn xi shift h within i in_d in
         record { low = rw (outer, value, sizes.low i in_d) t.0; high = rw (outer, value, sizes.high i in_d) t.1 }
         );
   }
+
+-- ---- of a certified controller of the plain machine
+module _ (p : DesignParts) (c : Numbers) (b : Printed) (excess low high : ℕ → ℤ) (design : IsDesign p) (sound : IsController c) (sizes : HasSizesOf (design_of p) c)
+    (certified : IsCertified (design_of p) c b) (covers : CoversPrinted (design_of p) b excess) (keeps : KeepsInBox (design_of p) excess low high) where
+  certified_at : (xi : List ℤ) → IsAdmissible c xi → IsCertifiedAt (design_of p) c b xi
+  certified_at xi h = certified xi (h.long ∙ sizes.states) (grid_state (design_of p) c sizes xi h)
 
   inside : (start : List ℤ) → IsAdmissible c start → (shifts : ℕ → ℕ → ℤ) → (turns : ℕ) → AreShiftsUpTo (design_of p) low high shifts turns →
       IsAdmissible c (state_under (design_of p) c start shifts turns)
   unfolding state_under
   inside start h shifts zero within = h
   inside start h shifts (suc k) within =
-      next_inside (state_under (design_of p) c start shifts k) (shifts k) (inside start h shifts k (λ j l. within j (omega (arith, l)))) (within k (omega arith))
+      next_inside p c b excess low high design sizes covers keeps c.steps sound.form.sized.steps.0 sound.form.sized.fraction_bits.0 (averaged_plan c) (λ xi g. (certified_at xi g).plan)
+      (state_under (design_of p) c start shifts k) (shifts k) (inside start h shifts k (λ j l. within j (omega (arith, l)))) (within k (omega arith))
 
 pub loop_under_law : LoopUnderLaw
 loop_under_law p c b excess low high design sound sizes certified covers keeps start h shifts turns within =
