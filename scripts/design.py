@@ -275,14 +275,6 @@ def says(path: str, what: Callable[[Model], object]) -> bool:
         return False
 
 
-def refuse_others(given: Namespace, stays: bool) -> None:
-    """Ends where no controller of version 3 is made as it is asked for."""
-    if given.generate:
-        refuse_accelerated(3, "`generate` makes controllers of")
-    if stays:
-        refuse_accelerated(3, "no loop leaves the box by faces, which are of models of")
-
-
 def main() -> int:
     parser = Parser(__doc__, prog="./mpc design")
     parser.add_argument("model", metavar="MODEL")
@@ -306,8 +298,8 @@ def main() -> int:
     files.keep_apart({"MODEL": given.model}, {name: steps.path(name) for name in [*MADE, *STAYS, *SETTLES, RANGE, COVERED]})
     files.read_bytes(given.model)
     began, stays = time.monotonic(), given.stay or says(given.model, lambda found: any(found.stay))
-    if given.accelerated or says(given.model, lambda found: is_accelerated(found.version)):
-        refuse_others(given, stays)
+    if given.generate and says(given.model, lambda found: is_accelerated(found.version)):
+        refuse_accelerated(3, "`generate` makes controllers of")
     os.makedirs(given.folder, exist_ok=True)
     steps.must("outlook", given.model)
     model = fitted(steps, covering(steps, given.model, given), given, stays)

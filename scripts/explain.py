@@ -250,7 +250,7 @@ def other_words(design: Design | None, report: dict | None, controller: Controll
         other = plain_steps(made["steps"]) if fast else accelerated_steps(made["steps"])
         told = f"at most {other} steps"
     cycles = other_cycle_words(controller, other) if controller else ""
-    yield f"{'version 2' if fast else 'version 3 (`lean` without faces)'} would take {told}{cycles}" + ("" if fast else " (docs/SPEED.md)")
+    yield f"{'version 2' if fast else 'version 3 (`lean`)'} would take {told}{cycles}" + ("" if fast else " (docs/SPEED.md)")
 
 
 def whole_words(design: Design, report: dict | None, margin: int, excess: int) -> Iterator[str]:

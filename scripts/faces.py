@@ -32,7 +32,7 @@ from .common.corners import corners_of, cost_limit, lean_multiplier_of, margin_o
 from .common.design_text import plain, read_design
 from .common.disturbances import box_in
 from .common.excess import excesses_of
-from .common.machines import refuse_accelerated
+from .common.machines import is_accelerated, refuse_accelerated
 from .common.texts import read_text, records_of, records_text
 from .common.trajectories import dot
 
@@ -72,16 +72,24 @@ def excesses(design, policy, reference=None):
     bound = lean_multiplier_of(design, margin, max(0, *excesses_of(design, form, policy, reference)[0])) if lean else multiplier_of(margin, cost)
     if bound is None:
         return None
-    errors, limit = sizes.Errors(design, form, bound), cost_limit(design, bound, lean)
-    f = next((f for f in range(design.grid, 49) if errors.cost(f) <= limit), None)
-    if f is None:
+    steps, rounding = step_share(design, lean), rounding_of(design, form, bound, lean)
+    if rounding is None:
         return None
-    steps, rounding = step_share(design, lean), errors.cost(f)
     most = steps + ceil(Fraction(rounding, bound))
     if lean:
         target = SCALE * design.violation // design.target_den
         most = min(target, ceil(Fraction(target, 2)) + ceil(Fraction(steps, 2)) + ceil(Fraction(rounding, 2 * bound)))
     return [most] * len(first_rows(design))
+
+
+def rounding_of(design, form, bound, lean):
+    """What the errors of a step cost at most with the fewest bits that do, over 2^40, or None. Those of the accelerated machine rest on its steps and exponents, which aren't known here: they cost no
+    more than they may."""
+    limit = cost_limit(design, bound, lean)
+    if is_accelerated(design.version):
+        return limit
+    errors = sizes.Errors(design, form, bound)
+    return next((cost for cost in map(errors.cost, range(design.grid, 49)) if cost <= limit), None)
 
 
 # ---- one face
@@ -381,7 +389,8 @@ def main():
     inputs = {"DESIGN": given.design, "POLICY": given.policy} | {word: path for word, path in optional.items() if path}
     files.keep_apart(inputs, {"FACES": given.faces or files.STANDARD_OUTPUT} | ({"--bears": given.bears} if given.bears else {}))
     design = read_design(given.design)
-    refuse_accelerated(design.version, "faces are of designs of")
+    if not given.lean:
+        refuse_accelerated(design.version, "without --lean faces are of designs of")
     low, high = box_in(given.disturbances, design) if given.disturbances else ([0] * design.states, [0] * design.states)
     plans = {"POLICY": given.policy} | ({"REFERENCE": given.lean} if given.lean else {})
     records = [records_of(read_text(path)) for path in plans.values()]

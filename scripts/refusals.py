@@ -124,7 +124,7 @@ STEPS = {
 DENOMINATOR, NUMERATOR = "a denominator, 1 to 1048576", "-2147483647 to 2147483647"
 # key, shape, range: by the place in a design text
 PLACES = [
-    ("version", "an integer", "1 or 2, for `lean` without faces and `loop` 3, too"),
+    ("version", "an integer", "1 or 2, for `lean` and `loop` 3, too"),
     ("states", "an integer", "1 to 4, in version 2 up to 6"),
     ("inputs", "an integer", "1 to 3"),
     ("stages", "an integer", "1 to 20, in version 2 up to 30"),

@@ -511,7 +511,8 @@ def main() -> int:
     given = parser.parse_args()
     files.keep_apart({"MODEL": given.model}, {"NEW_MODEL": given.new or files.STANDARD_OUTPUT})
     model = read_model(given.model)
-    refuse_accelerated(model.version, "no loop leaves the box by faces, which are of models of")
+    if given.generate:
+        refuse_accelerated(model.version, "`stay` makes controllers of")
     found, holds = search(model, given.steps, given.seconds, given.generate, given.clock, given.same_cost)
     if not holds:
         say("no coordinates, no limits and no box were found for which faces hold, and the best that was seen is kept: stronger inputs, a smaller box or a smaller `disturbed` (docs/BOXES.md)")

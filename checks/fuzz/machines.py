@@ -145,5 +145,5 @@ ALL_VERSIONS = tuple(MACHINES)
 
 
 def versions_of(words):
-    """Those of the designs and controllers that a command takes: of all `lean` without faces, `solve`, `loop` and `c`."""
-    return ALL_VERSIONS if words[:1] in (["solve"], ["loop"], ["c"]) or words[:1] == ["lean"] and len(words) == 6 else VERSIONS
+    """Those of the designs and controllers that a command takes: of all `lean`, `solve`, `loop` and `c`."""
+    return ALL_VERSIONS if words[:1] in (["lean"], ["solve"], ["loop"], ["c"]) else VERSIONS

@@ -40,7 +40,8 @@ KINDS = ["generate"] * 22 + ["lean"] * 12 + ["border"] * 4 + ["stay"] * 14 + ["l
 KINDS += ["split"] * 12 + ["serve"] * 16 + ["c"] * 8 + ["usage"] * 4
 KINDS += ["settle"] * 14 + ["accelerated"] * 12
 # those whose texts are of version 3 then, which `lean`, `solve` and `loop` alone take
-ACCELERATED = ["lean"] * 10 + ["solve"] * 4 + ["accelerated_controller"] * 6 + ["loop"] * 6 + ["generate", "border", "stay", "lean_stay", "settle", "list", "c", "split", "serve"]
+ACCELERATED = ["lean"] * 10 + ["lean_stay"] * 8 + ["solve"] * 4 + ["accelerated_controller"] * 6 + ["loop"] * 6
+ACCELERATED += ["generate", "border", "stay", "settle", "list", "c", "split", "serve"]
 DEMO_EVERY = 2500
 # the most products that the model makes in a case, and the most in a run whose every value it traces
 MOST_PRODUCTS, MOST_TRACED = 3_000_000, 60_000
@@ -352,7 +353,7 @@ class Runner:
         if (ran.returncode, ran.stdout.count(b"\n")) != (0, lines):
             wrong = f"{wrong or ''} of {lines} lines there are {ran.stdout.count(10)}, and the status is {ran.returncode} {ran.stderr[:200]!r}"
         told = f"a design whose box is stayed in{', with a lean controller' if plain[0] == 'lean' else ''}{', under disturbances' if 'w' in files else ''}"
-        kinds = [told] + [f"{told}, {what}" for what, holds in (("of version 2", d.version == 2), ("with several exponents", len(set(c.exps)) > 1), ("of a fine form", model.form_of(d).is_fine),
+        kinds = [told] + [f"{told}, {what}" for what, holds in (("of version 2", d.version == 2), ("of version 3", d.version == 3), ("with several exponents", len(set(c.exps)) > 1), ("of a fine form", model.form_of(d).is_fine),
                                                                ("of several stages", d.stages > 1)) if holds]
         kinds += [] if starts else [f"{told}, whose loops are too long for the program"]
         return wrong and f"loop: {wrong}", kinds + [f"its loops: {note}" for note in notes if note == "too long for the model"]

@@ -95,4 +95,4 @@ def plain_steps(accelerated: int) -> int:
 def refuse_accelerated(version: int, what: str) -> None:
     """Ends where this takes no design and no controller of version 3."""
     if is_accelerated(version):
-        raise Refusal(f"{what} versions 1 and 2: `lean` without faces, `solve` and `loop` alone know the accelerated machine of version 3")
+        raise Refusal(f"{what} versions 1 and 2, and not of version 3, the accelerated machine's")

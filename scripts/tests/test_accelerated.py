@@ -147,7 +147,7 @@ class Texts(unittest.TestCase):
         self.assertEqual(matching.controller_difference(controller, replace(found, version=2)), "its version is 3, and that of the design 2")
 
     def test_no_c(self):
-        with self.assertRaisesRegex(Refusal, "^this takes controllers of versions 1 and 2: `lean` without faces, `solve` and `loop` alone know the accelerated machine of version 3$"):
+        with self.assertRaisesRegex(Refusal, "^this takes controllers of versions 1 and 2, and not of version 3, the accelerated machine's$"):
             strict_controller(made(FIRST)[1])
 
 
@@ -199,16 +199,16 @@ class Explained(unittest.TestCase):
         report = lambda text, steps: text.replace("steps 1\n", f"steps {steps}\n").replace("steps 4\n", f"steps {steps}\n")
         lean = "mpc-report 1\nmargin 8192 65536\nexcess 18432 65536\nmultiplier 1\nstep 1\nsteps 1\nbits 6\nwidth 16\nwords 6\nviolation 1 1099511627776\ngap 1 1099511627776\nundercut 1 1099511627776\nend\n"
         told = lambda text: [line for line in self.told(report=text) if line.startswith("version ")]
-        self.assertEqual(told(report(lean, 340)), ["version 3 (`lean` without faces) would take at most 36 steps (docs/SPEED.md)"])
+        self.assertEqual(told(report(lean, 340)), ["version 3 (`lean`) would take at most 36 steps (docs/SPEED.md)"])
         self.assertEqual((told(report(lean, 100)), told(report(lean.replace("excess 18432 65536", "cost 1"), 340))), ([], []))
         # R 377 of the tight design, whose K is 16086, and of version 3 exactly
         tight = report(lean, 16086).replace("multiplier 1\n", "multiplier 377\n")
         words = self.told(report=tight, design=FIRST_TIGHT)
-        self.assertIn(f"version 3 (`lean` without faces) would take K = {steps_of(design_of(third(FIRST_TIGHT)), 1, 377, True)} (docs/SPEED.md)", words)
+        self.assertIn(f"version 3 (`lean`) would take K = {steps_of(design_of(third(FIRST_TIGHT)), 1, 377, True)} (docs/SPEED.md)", words)
         # of a controller beside it, cycles
         controller = FIRST_LEAN_CONTROLLER.replace("steps 1\n", "steps 20000\n").replace("bits 6 0 1 16", "bits 6 0 1 30")
         (line,) = [line for line in self.told(controller=controller) if line.startswith("version ")]
-        self.assertRegex(line, r"^version 3 \(`lean` without faces\) would take at most 282 steps, about [0-9,]+ cycles by an estimate; version 3 takes less from K = \d+ of version 2 on")
+        self.assertRegex(line, r"^version 3 \(`lean`\) would take at most 282 steps, about [0-9,]+ cycles by an estimate; version 3 takes less from K = \d+ of version 2 on")
         # of few steps where it takes fewer cycles
         few = controller.replace("steps 20000\n", "steps 50\n")
         saved = lambda told: any(line.startswith("version 3") for line in told)
@@ -269,27 +269,25 @@ class Refused(unittest.TestCase):
 
     def test_commands(self):
         found, controller, _ = made(FIRST)
-        _, paths = folder_with(self, d=found, c=controller, p=FIRST_POLICY, m="version = 3\n" + MASS, n=MASS, o=MASS + "stay = [0.1, 0.0]\n")
+        _, paths = folder_with(self, d=found, c=controller, p=FIRST_POLICY, m="version = 3\n" + MASS, n=MASS)
         out = paths["d"] + "-out"
         for told, *words in (
             ("cells are of designs of", "cells", paths["d"], out, out + "-p"),
             ("cells are of models of", "regions", paths["m"], out, "--cells", out + "-d", out + "-c", out + "-p"),
-            ("faces are of designs of", "faces", paths["d"], paths["p"], out),
-            ("no loop leaves the box by faces, which are of models of", "staying", paths["m"], out),
+            ("without --lean faces are of designs of", "faces", paths["d"], paths["p"], out),
+            ("`stay` makes controllers of", "staying", paths["m"], out, "--generate"),
             ("`settle` reads controllers of", "settles", paths["d"], paths["c"], out),
             ("this takes controllers of", "c_source", paths["c"], "--name", "mpc", "--out", os.path.dirname(out)),
             ("this takes controllers of", "nearest", paths["c"], "mpc", os.path.dirname(out)),
-            ("no loop leaves the box by faces, which are of models of", "design", paths["n"], out, "--accelerated", "--stay"),
-            ("no loop leaves the box by faces, which are of models of", "design", paths["o"], out, "--accelerated"),
             ("`generate` makes controllers of", "design", paths["m"], out, "--generate"),
         ):
             got = subprocess.run([*as_command(words[0]), *words[1:]], capture_output=True, text=True)
             with self.subTest(words=words[0]):
                 self.assertEqual((got.returncode, got.stdout), (1, ""), got.stderr)
-                self.assertIn(f"{told} versions 1 and 2: `lean` without faces, `solve` and `loop` alone know the accelerated machine of version 3\n", got.stderr)
+                self.assertIn(f"{told} versions 1 and 2, and not of version 3, the accelerated machine's\n", got.stderr)
         got = subprocess.run([*as_command("design"), paths["n"], out, "--accelerated", "--generate"], capture_output=True, text=True)
         self.assertIn("not allowed with argument", got.stderr)
-        self.assertEqual(sorted(os.listdir(os.path.dirname(out))), ["c", "d", "m", "n", "o", "p"])
+        self.assertEqual(sorted(os.listdir(os.path.dirname(out))), ["c", "d", "m", "n", "p"])
 
 
 @unittest.skipIf(LACKING, f"missing: {', '.join(LACKING)}")

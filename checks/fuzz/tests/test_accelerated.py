@@ -156,13 +156,13 @@ class Refused(unittest.TestCase):
         self.assertEqual(answer(["solve", "c", "s"], c=text.replace("steps 1\n", "steps 9\n"), s="1\n").status, 0)
 
     def test_versions(self):
-        """`lean` without faces, `solve` and `loop` alone take such texts; and no listing, and no program in C, is made of one."""
+        """`lean`, `solve` and `loop` alone take such texts; and no listing, and no program in C, is made of one."""
         made = answer(LEAN, None, d=third(DESIGN), p=POLICY, q=REFERENCE)
         text = made.written["c"].decode()
         self.assertEqual((made.status, text.split("\n")[0]), (0, "mpc-controller 3"))
         self.assertEqual(answer(["solve", "c", "s"], None, c=text, s="1\n").out, [b"128 -64\n"])
         self.refused(GENERATE, "5 text 1 range 1", None, d=third(DESIGN), p=POLICY)
-        self.refused([*LEAN, "f"], "5 text 1 range 1", None, d=third(DESIGN), p=POLICY, q=REFERENCE, f=FACES.decode())
+        self.refused(["stay", "d", "p", "c", "r", "f"], "5 text 1 range 1", None, d=third(HELD.decode()), p=POLICY, f=FACES.decode())
         self.assertEqual(answer(["loop", "d", "c", "s", "1"], None, d=DESIGN, c=text, s="1\n").out, [b"1 1 1 128 -64\n"])
         self.refused(["settle", "d", "c", "t"], "11 controller 2 line 1", None, d=DESIGN, c=text, t="")
         self.refused(["list", "c", "l"], "11 controller 1 line 1", c=text)
@@ -182,6 +182,18 @@ class Commands(unittest.TestCase):
         cost = made.errors.epsilon(made.report["bits"])
         of_steps = lambda exponent: -(-((2**exponent + 2**s) * 2**42 * r) // (k * (k + 3)))
         self.assertEqual(made.stated_violations, [of_steps(exponent) - -cost // r for exponent in made.exponents])
+
+    def test_lean_stay(self):
+        design = third(HELD.decode())
+        said = answer([*LEAN, "f"], None, d=design, p=POLICY, q=REFERENCE, f=FACES.decode())
+        self.assertEqual((said.status, said.written), (0, answer(LEAN, None, d=design, p=POLICY, q=REFERENCE).written))
+        made = choice(HELD.decode(), POLICY, REFERENCE)
+        r, k = (made.report[key] for key in ("multiplier", "steps"))
+        cost, target = made.errors.epsilon(made.report["bits"]), model.target_of(made.design, 2**40)
+        rest = -(-target // 2) - -cost // (2 * r)
+        self.assertEqual(made.stated_violations, [min(target, rest - -(2 ** (exponent + 42) * r) // (k * (k + 3))) for exponent in made.exponents])
+        shifted = lambda most: answer([*LEAN, "f", "w"], None, d=design, p=POLICY, q=REFERENCE, f=FACES.decode(), w=f"0\n{most}\n")
+        self.assertEqual([(it.status, it.line) for it in map(shifted, (1, 2))], [(0, b""), (17, b"error 17 no-stay 1 2\n")])
 
     def test_loop(self):
         made = answer(LEAN, d=third(COARSE), p=POLICY, q=REFERENCE).written["c"].decode()

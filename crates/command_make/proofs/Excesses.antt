@@ -1,5 +1,5 @@
 -- By how much a controller's plans exceed each row at most: one list of numbers, which a controller that is built has; what it prints is not above them.
-use Rattle.std.proofs.Common.{◌≡◌, None, ℕ, ◌^◌, ◌<◌, ◌≤◌, List, ℤ, pos, ◌≤ℤ◌, unsigned_abs, arith, sym, ap, subst, ◌∙◌}
+use Rattle.std.proofs.Common.{◌≡◌, None, false, ℕ, ◌^◌, ◌<◌, ◌≤◌, List, ℤ, pos, ◌≤ℤ◌, unsigned_abs, arith, sym, ap, subst, ◌∙◌}
 use Rattle.std.proofs.lemmas.Int.{ints}
 use Rattle.std.proofs.lemmas.List.{ext_get_or}
 use Rattle.integer_algebra.specs.Sums.{at}
@@ -41,8 +41,8 @@ one_list d All of_row xs ys h k margin exponent bits = ext_get_or (pos 0) xs ys 
     exponents : h.exponents ≡ k.exponents
     exponents = one_exponents d k.exponent h.exponents k.exponents (rw exponent at h.own) k.own
 
-pub one_excess : (p : DesignParts) (plans : Plans) → IsDesign p → IsPolicyFor (design_of p) plans → (xs ys : List ℤ) (h : AreStatedExcesses (design_of p) (targets_of p) plans None xs)
-    (k : AreStatedExcesses (design_of p) (targets_of p) plans None ys) → xs ≡ ys
+pub one_excess : (p : DesignParts) (plans : Plans) → IsDesign p → IsPolicyFor (design_of p) plans → (xs ys : List ℤ) (h : AreStatedExcesses (design_of p) (targets_of p) plans None false xs)
+    (k : AreStatedExcesses (design_of p) (targets_of p) plans None false ys) → xs ≡ ys
 one_excess p plans design policy xs ys h k = one_list (design_of p) _ _ xs ys h k margin exponent bits
   where
     margin : h.margin ≡ k.margin
@@ -104,7 +104,7 @@ module _ (p : DesignParts) (plans : Plans) (c : Numbers) (b : Printed) (built : 
     in_rows : (i : ℕ) → i < rows (design_of p) → i < c.rows
     in_rows i l = omega (arith, l, built.made.made.sizes.rows)
 
-    pub built_excess : PassesAll (design_of p) (targets_of p) plans (margin_of b) c.step_exponent c.fraction_bits → AreStatedExcesses (design_of p) (targets_of p) plans None xs
+    pub built_excess : PassesAll (design_of p) (targets_of p) plans (margin_of b) c.step_exponent c.fraction_bits → AreStatedExcesses (design_of p) (targets_of p) plans None false xs
     built_excess passes = record {
       margin = margin_of b;
       exponent = c.step_exponent;

@@ -1,5 +1,5 @@
 -- By how much a lean controller's plans exceed each row at most: one list of numbers, which a controller that is made has; what it prints is not above them.
-use Rattle.std.proofs.Common.{◌≡◌, Some, ℕ, ◌+◌, ◌*◌, ◌^◌, ◌<◌, ◌≤◌, min, List, ℤ, pos, unsigned_abs, arith, sym, ap, subst, ◌∙◌}
+use Rattle.std.proofs.Common.{◌≡◌, Some, false, ℕ, ◌+◌, ◌*◌, ◌^◌, ◌<◌, ◌≤◌, min, List, ℤ, pos, unsigned_abs, arith, sym, ap, subst, ◌∙◌}
 use Rattle.integer_algebra.specs.Sums.{at}
 use Rattle.integer_algebra.specs.Division.{ceil_div}
 use Rattle.qp_model.specs.problem.Design.{rows}
@@ -30,8 +30,8 @@ use Rattle.command_make.proofs.Excesses.{one_list, ceil_mono, are_small, whole_l
 use Rattle.command_make.specs.Excess.{lean_bound_at, stated_lean_excess, AreStatedExcesses, made_lean_excess}
 
 -- ---- one list
-pub one_lean_excess : (p : DesignParts) (plans references : Plans) → IsDesign p → IsPolicyFor (design_of p) plans → (xs ys : List ℤ) (h : AreStatedExcesses (design_of p) (targets_of p) plans (Some references) xs)
-    (k : AreStatedExcesses (design_of p) (targets_of p) plans (Some references) ys) → xs ≡ ys
+pub one_lean_excess : (p : DesignParts) (plans references : Plans) → IsDesign p → IsPolicyFor (design_of p) plans → (xs ys : List ℤ) (h : AreStatedExcesses (design_of p) (targets_of p) plans (Some references) false xs)
+    (k : AreStatedExcesses (design_of p) (targets_of p) plans (Some references) false ys) → xs ≡ ys
 one_lean_excess p plans references design policy xs ys h k = one_list (design_of p) _ _ xs ys h k margin exponent bits
   where
     margin : h.margin ≡ k.margin
@@ -51,7 +51,7 @@ one_lean_excess p plans references design policy xs ys h k = one_list (design_of
 least_mono : (t x a b : ℕ) → a ≤ b → min t (x + a) ≤ min t (x + b)
 least_mono t x a b h = omega (arith, h)
 
-errors_mono : (e r k t a b : ℕ) → 1 ≤ r → a ≤ b → lean_row_violation e r k a t ≤ lean_row_violation e r k b t
+pub errors_mono : (e r k t a b : ℕ) → 1 ≤ r → a ≤ b → lean_row_violation e r k a t ≤ lean_row_violation e r k b t
 errors_mono e r k t a b some h =
     least_mono t (ceil_div t 2 + ceil_div (2 ^ (e + 40) * r) k) (ceil_div a (2 * r)) (ceil_div b (2 * r)) (ceil_mono a b (2 * r) (twice r some) h)
   where
@@ -109,7 +109,7 @@ module _ (p : DesignParts) (plans references : Plans) (c : Numbers) (b : Printed
         ap (λ (z : ℤ). stated_lean_excess (design_of p) (targets_of p) plans references (record { units = z; cost = m.cost }) c.step_exponent c.fraction_bits c.exponents i) (sym own)
 
     pub built_excess : (m : Margin) → m.units ≡ b.margin → PassesLean (design_of p) (targets_of p) plans references m c.step_exponent c.fraction_bits →
-        AreStatedExcesses (design_of p) (targets_of p) plans (Some references) xs
+        AreStatedExcesses (design_of p) (targets_of p) plans (Some references) false xs
     built_excess m own passes = record {
       margin = m;
       exponent = c.step_exponent;

@@ -4,6 +4,7 @@ pub mod Calling
 pub mod LeanPassing
 pub mod Excesses
 pub mod LeanExcesses
+pub mod FastExcesses
 pub mod Facts
 -- ---- the commands by their names and their scripts, and what is written
 pub mod Asking

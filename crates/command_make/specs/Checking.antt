@@ -1,14 +1,24 @@
 -- How what was made is checked, on the way.
-use Rattle.std.specs.Prelude.{◌≡◌, ℕ, ◌^◌, ℤ, pos, ◌≤ℤ◌}
+use Rattle.std.specs.Prelude.{◌≡◌, ℕ, ◌^◌, ℤ, pos, ◌≤ℤ◌, Bool, List, length, Option}
 use Rattle.integer_algebra.specs.Sums.{at}
 use Rattle.mat_int.specs.Matrix.{Matrix, row_of}
-use Rattle.qp_model.specs.problem.Design.{Design}
+use Rattle.qp_model.specs.problem.Design.{Design, rows}
+use Rattle.qp_model.specs.problem.Parts.{design_of}
+use Rattle.qp_model.specs.problem.Policy.{Plans}
+use Rattle.qp_model.specs.declared.design_parts.DesignParts.{DesignParts}
+use Rattle.qp_model.specs.machine.Controller.{Numbers}
+use Rattle.qp_model.specs.bounds.Printed.{Printed}
 use Rattle.stay_check.specs.FaceForms.{FaceNumbers}
 use Rattle.stay_check.specs.Answers.{IsStayFault, Stays}
 use Rattle.stay_check.specs.Staying.{KeepsInBox}
 use Rattle.stay_check.specs.declared.fault.StayFault.{StayFault}
 use Rattle.command_line.specs.declared.status.Status.{Status}
-use Rattle.command_make.specs.Stay.{stay_status}
+use Rattle.command_generate.specs.Engine.Targets.{targets_of}
+use Rattle.command_generate.specs.Made.{AreTextsBy}
+use Rattle.command_make.specs.Made.{IsMadeByPlans, IsTextBy}
+use Rattle.command_make.specs.Excess.{AreStatedExcesses}
+use Rattle.command_make.specs.Stay.{stay_status, KeepsLoopsOf}
+use Rattle.command_make.specs.declared.texts.Priced.{Priced}
 
 -- R and the errors of a step of what was made
 pub record AreSmall (r errors : ℤ) : Type 0 where
@@ -28,3 +38,17 @@ pub record IsCaughtWith (d : Design) (excess : ℕ → ℤ) (faces : FaceNumbers
   pub fault : StayFault
   pub found : IsStayFault d excess (at (row_of range 0)) (at (row_of range 1)) faces fault
   pub is : s ≡ stay_status fault
+
+-- ---- both texts of what was made so, with a number for each row: these are stated, and no others are, and faces that hold with them show that its loops stay
+pub record IsPricedBy (d : Design) (IsText : List ℕ → Numbers → Type 0) (Made : Numbers → Printed → Type 0) (Keeps : Numbers → Printed → (range : Matrix) → Type 0)
+    (AreStated : List ℤ → Type 0) (report_name : List ℕ) (x : Priced) : Type 0 where
+  pub texts : AreTextsBy IsText (λ c b. Made c b × ((faces : FaceNumbers) (range : Matrix) → IsKeptWith d (at x.excess.items) faces range → Keeps c b range))
+      report_name x.texts.first.items x.texts.second.items
+  pub long : length x.excess.items ≡ rows d
+  pub stated : AreStated x.excess.items
+  pub one : (other : List ℤ) → AreStated other → other ≡ x.excess.items
+
+abbrev pub IsPricedOf : DesignParts → Plans → (reference : Option Plans) → (fast : Bool) → (report_name : List ℕ) → Priced → Type 0
+IsPricedOf p plans reference fast =
+    IsPricedBy (design_of p) (IsTextBy reference fast) (IsMadeByPlans p plans reference fast) (KeepsLoopsOf p reference fast)
+    (AreStatedExcesses (design_of p) (targets_of p) plans reference fast)

@@ -1,6 +1,6 @@
 -- By how much the plans of a controller exceed each row at most, whichever good solutions its gains are: numbers of the design, the policy and the reference
 -- plans where there are any.
-use Rattle.std.specs.Prelude.{ℕ, ℤ, pos, List, Option, Some, None, unsigned_abs}
+use Rattle.std.specs.Prelude.{ℕ, ◌+◌, ℤ, pos, Bool, true, false, List, Option, Some, None, unsigned_abs}
 use Rattle.qp_model.specs.problem.Design.{Design, rows}
 use Rattle.qp_model.specs.problem.Policy.{Plans}
 use Rattle.qp_model.specs.problem.Runs.{Holds}
@@ -12,9 +12,11 @@ use Rattle.command_generate.specs.Engine.RowExponents.{exponent_in, AreExponents
 use Rattle.command_generate.specs.Engine.Targets.{Targets, violation_target}
 use Rattle.command_generate.specs.Engine.Bounds.{stated_cost}
 use Rattle.command_generate.specs.Engine.Aims.{aim_of, steps_of}
+use Rattle.dual_bounds.specs.FastSteps.{quarter_steps}
+use Rattle.fast_bounds.specs.FastRefusals.{PassesFast, fast_stated_cost}
 use Rattle.lean_engine.specs.Lean.{bound_of}
-use Rattle.lean_engine.specs.Refusals.{policy_excess, aim_at}
-use Rattle.command_make.specs.Made.{PassesOf}
+use Rattle.lean_engine.specs.Refusals.{policy_excess, aim_at, PassesLean}
+use Rattle.command_generate.specs.Engine.Refusals.{PassesAll}
 
 -- ---- of row i, over 2^40, by the margin, the step exponent s, the fraction bits f and the exponents of the rows
 abbrev pub stated_excess : Design → Targets → Margin → (s f : ℕ) → (exponents : List ℕ) → ℕ → ℤ
@@ -31,9 +33,11 @@ stated_lean_excess d t plans references m s f exponents i =
     pos (lean_row_violation (exponent_in exponents i) (lean_bound_at d t plans references m) (steps_of (aim_at d t plans references m) s)
     (stated_cost d (lean_bound_at d t plans references m) f) (violation_target t))
 
-abbrev pub stated_with : Design → Targets → Plans → (reference : Option Plans) → (Margin → (s f : ℕ) → (exponents : List ℕ) → ℕ → ℤ)
-stated_with d t plans None = stated_excess d t
-stated_with d t plans (Some references) = stated_lean_excess d t plans references
+-- that of the accelerated machine's, after k steps
+abbrev pub stated_fast_excess : Design → Targets → (plans references : Plans) → Margin → (s k : ℕ) → (exponents : List ℕ) → (f : ℕ) → ℕ → ℤ
+stated_fast_excess d t plans references m s k exponents f i =
+    pos (lean_row_violation (exponent_in exponents i + 2) (lean_bound_at d t plans references m) (quarter_steps k)
+    (fast_stated_cost d (lean_bound_at d t plans references m) s k exponents f) (violation_target t))
 
 -- they pass every test, and these are the numbers of all rows
 pub record AreStated (d : Design) (All : Margin → (s f : ℕ) → Type 0) (of_row : Margin → (s f : ℕ) → (exponents : List ℕ) → ℕ → ℤ) (excess : List ℤ) : Type 0 where
@@ -45,8 +49,20 @@ pub record AreStated (d : Design) (All : Margin → (s f : ℕ) → Type 0) (of_
   pub own : AreExponentsOf d exponent exponents
   pub holds : Holds excess (rows d) (of_row margin exponent bits exponents)
 
-abbrev pub AreStatedExcesses : Design → Targets → Plans → (reference : Option Plans) → (excess : List ℤ) → Type 0
-AreStatedExcesses d t plans reference excess = AreStated d (PassesOf d t plans reference) (stated_with d t plans reference) excess
+-- the same of the accelerated machine's, whose tests tell its steps and exponents
+pub record AreFastStated (d : Design) (t : Targets) (plans references : Plans) (excess : List ℤ) : Type 0 where
+  pub margin : Margin
+  pub exponent : ℕ
+  pub steps : ℕ
+  pub exponents : List ℕ
+  pub bits : ℕ
+  pub passes : PassesFast d t plans references margin exponent steps exponents bits
+  pub holds : Holds excess (rows d) (stated_fast_excess d t plans references margin exponent steps exponents bits)
+
+abbrev pub AreStatedExcesses : Design → Targets → Plans → (reference : Option Plans) → (fast : Bool) → (excess : List ℤ) → Type 0
+AreStatedExcesses d t plans None fast excess = AreStated d (PassesAll d t plans) (stated_excess d t) excess
+AreStatedExcesses d t plans (Some references) false excess = AreStated d (PassesLean d t plans references) (stated_lean_excess d t plans references) excess
+AreStatedExcesses d t plans (Some references) true excess = AreFastStated d t plans references excess
 
 -- ---- of a controller that was made, by its numbers, R, what the errors of a step cost and what the violation may be, both over 2^40
 abbrev pub made_excess : Numbers → (r errors : ℤ) → ℕ → ℤ
@@ -55,6 +71,10 @@ made_excess c r errors i = pos (row_violation_bound (exponent_of c i) c.step_exp
 abbrev pub made_lean_excess : Numbers → (r errors : ℤ) → (target : ℕ) → ℕ → ℤ
 made_lean_excess c r errors target i = pos (lean_row_violation (exponent_of c i) (unsigned_abs r) c.steps (unsigned_abs errors) target)
 
+abbrev pub made_fast_excess : Numbers → (r errors : ℤ) → (target : ℕ) → ℕ → ℤ
+made_fast_excess c r errors target i = pos (lean_row_violation (exponent_of c i + 2) (unsigned_abs r) (quarter_steps c.steps) (unsigned_abs errors) target)
+
+-- by the plain machine
 abbrev pub made_with : Targets → (reference : Option Plans) → Numbers → (r errors : ℤ) → ℕ → ℤ
 made_with t None c r errors i = made_excess c r errors i
 made_with t (Some references) c r errors i = made_lean_excess c r errors (violation_target t) i

@@ -1,5 +1,6 @@
--- What a design with a policy calls for, with reference plans or without, and what is made of them.
-use Rattle.std.specs.Prelude.{ℕ, Option, Some, None, option_map}
+-- What a design with a policy calls for, with reference plans or without, and what is made of them: a controller of the accelerated machine where there are
+-- reference plans and the design asks for that machine.
+use Rattle.std.specs.Prelude.{ℕ, Bool, true, false, List, Option, Some, None, option_map}
 use Rattle.qp_model.specs.problem.Design.{Design}
 use Rattle.qp_model.specs.problem.Policy.{Plans}
 use Rattle.qp_model.specs.problem.Parts.{design_of}
@@ -13,24 +14,34 @@ use Rattle.qp_model.specs.declared.bounds.Margin.{Margin}
 use Rattle.qp_model.specs.declared.refusal.Refusal.{Refusal}
 use Rattle.lean_engine.specs.Lean.{IsLeanBuilt}
 use Rattle.lean_engine.specs.Refusals.{HasLeanCause, PassesLean}
+use Rattle.qp_model.specs.text.ControllerText.{IsControllerText}
+use Rattle.controller_text.specs.TextForm.{IsFastControllerText}
+use Rattle.fast_bounds.specs.FastCertified.{IsFastBuilt, IsFastCertified}
+use Rattle.fast_bounds.specs.FastRefusals.{HasFastCause, PassesFast}
 use Rattle.command_line.specs.declared.status.Status.{Status}
 use Rattle.command_generate.specs.Engine.Targets.{Targets, targets_of, IsWithinTargets}
 use Rattle.command_generate.specs.Engine.Refusals.{HasCause, PassesAll}
 use Rattle.command_generate.specs.Made.{CallsFor, IsMadeOf}
 
 -- ---- the answer
--- why they are refused: as in `generate`, or with reference plans as in `lean`
-abbrev pub CauseOf : Design → Targets → Plans → (reference : Option Plans) → (Refusal → Type 0)
-CauseOf d t plans None = HasCause d t plans
-CauseOf d t plans (Some references) = HasLeanCause d t plans references
+-- of the accelerated machine: with some steps and exponents of the rows every test is passed
+abbrev pub PassesFastWith : Design → Targets → (plans references : Plans) → Margin → (s f : ℕ) → Type 0
+PassesFastWith d t plans references m s f = (k : ℕ) × (exponents : List ℕ) × PassesFast d t plans references m s k exponents f
+
+-- why they are refused: as in `generate`, or with reference plans as in `lean`, by the machine
+abbrev pub CauseOf : Design → Targets → Plans → (reference : Option Plans) → (fast : Bool) → (Refusal → Type 0)
+CauseOf d t plans None fast = HasCause d t plans
+CauseOf d t plans (Some references) false = HasLeanCause d t plans references
+CauseOf d t plans (Some references) true = HasFastCause d t plans references
 
 -- they pass every test
-abbrev pub PassesOf : Design → Targets → Plans → (reference : Option Plans) → (Margin → (s f : ℕ) → Type 0)
-PassesOf d t plans None = PassesAll d t plans
-PassesOf d t plans (Some references) = PassesLean d t plans references
+abbrev pub PassesOf : Design → Targets → Plans → (reference : Option Plans) → (fast : Bool) → (Margin → (s f : ℕ) → Type 0)
+PassesOf d t plans None fast = PassesAll d t plans
+PassesOf d t plans (Some references) false = PassesLean d t plans references
+PassesOf d t plans (Some references) true = PassesFastWith d t plans references
 
-abbrev pub MakingCallsWith : Design → Targets → Plans → (reference : Option Plans) → Status → Type 0
-MakingCallsWith d t plans reference s = CallsFor (CauseOf d t plans reference) (PassesOf d t plans reference) s
+abbrev pub MakingCallsWith : Design → Targets → Plans → (reference : Option Plans) → (fast : Bool) → Status → Type 0
+MakingCallsWith d t plans reference fast s = CallsFor (CauseOf d t plans reference fast) (PassesOf d t plans reference fast) s
 
 -- the reference plans that were read
 abbrev pub reference_of : Option Policy → Option Plans
@@ -43,6 +54,19 @@ pub record IsLeanMadeOf (p : DesignParts) (plans references : Plans) (c : Number
   pub certified : IsCertified (design_of p) c b
   pub targets : IsWithinTargets (targets_of p) b
 
-abbrev pub IsMadeByPlans : DesignParts → Plans → (reference : Option Plans) → (Numbers → Printed → Type 0)
-IsMadeByPlans p plans None = IsMadeOf p plans
-IsMadeByPlans p plans (Some references) = IsLeanMadeOf p plans references
+-- the same of the accelerated machine
+pub record IsFastMadeOf (p : DesignParts) (plans references : Plans) (c : Numbers) (b : Printed) : Type 0 where
+  pub built : IsFastBuilt p plans references c b
+  pub certified : IsFastCertified (design_of p) c b
+  pub targets : IsWithinTargets (targets_of p) b
+
+abbrev pub IsMadeByPlans : DesignParts → Plans → (reference : Option Plans) → (fast : Bool) → (Numbers → Printed → Type 0)
+IsMadeByPlans p plans None fast = IsMadeOf p plans
+IsMadeByPlans p plans (Some references) false = IsLeanMadeOf p plans references
+IsMadeByPlans p plans (Some references) true = IsFastMadeOf p plans references
+
+-- its text, as the machine's texts are
+abbrev pub IsTextBy : (reference : Option Plans) → (fast : Bool) → (List ℕ → Numbers → Type 0)
+IsTextBy None fast = IsControllerText
+IsTextBy (Some references) false = IsControllerText
+IsTextBy (Some references) true = IsFastControllerText

@@ -1,6 +1,6 @@
 -- What the commands do that make a controller of a design, a policy and more: reference plans, faces by which its closed loops stay in the box, and a range of
 -- the disturbances under which they do.
-use Rattle.std.specs.Prelude.{◌≡◌, ◌≢◌, ℕ, ◌<◌, Bool, true, false, not, List, length, Option, Some, None}
+use Rattle.std.specs.Prelude.{◌≡◌, ◌≢◌, ℕ, ◌<◌, Bool, true, false, List, length, Option, Some, None}
 use Rattle.mat_int.specs.Matrix.{Matrix}
 use Rattle.qp_model.specs.problem.Design.{Design}
 use Rattle.qp_model.specs.problem.Policy.{Plans}
@@ -14,15 +14,13 @@ use Rattle.command_line.specs.Deeds.{Deeds}
 use Rattle.command_line.specs.Script.{Act, Script, ends, reads, reads_where, Work, deeds_of_work}
 use Rattle.command_line.specs.TwoTexts.{two_texts, two_work}
 use Rattle.command_line.specs.declared.status.Status.{Status}
-use Rattle.controller_text.specs.TextForm.{IsFastControllerText}
 use Rattle.command_design_files.specs.Reading.{design_kind, asked_kind, policy_kind}
 use Rattle.command_files.specs.Reading.{faces_kind, range_kind}
 use Rattle.command_generate.specs.Engine.Targets.{Targets, targets_of}
-use Rattle.command_generate.specs.Made.{IsCausedRefusal, AreTextsBy, AreTextsOf}
-use Rattle.command_make.specs.Made.{CauseOf, MakingCallsWith, IsMadeByPlans}
-use Rattle.command_make.specs.Fast.{FastCalls, IsFastMadeOf}
+use Rattle.command_generate.specs.Made.{IsCausedRefusal, AreTextsBy}
+use Rattle.command_make.specs.Made.{CauseOf, MakingCallsWith, IsMadeByPlans, IsTextBy}
 use Rattle.command_make.specs.Excess.{AreStatedExcesses}
-use Rattle.command_make.specs.Stay.{FacedCalls, KeepsLoops, no_shifts}
+use Rattle.command_make.specs.Stay.{FacedCalls, KeepsLoopsOf, no_shifts}
 use Rattle.command_make.specs.declared.command.Asked.{Asked}
 
 -- faces, and the range of the shifts under which they are to hold: its least and its greatest
@@ -38,24 +36,25 @@ under_of n (Some faces) (Some range) = Some (record { faces = faces; range = ran
 
 -- ---- what is called for, and what is made
 -- a refusal, or each test is passed; with faces they answer then
-abbrev pub CallsUnder : Design → Targets → Plans → (reference : Option Plans) → (under : Option Under) → (Status → Type 0)
-CallsUnder d t plans reference None = MakingCallsWith d t plans reference
-CallsUnder d t plans reference (Some u) = FacedCalls (IsCausedRefusal (CauseOf d t plans reference)) (AreStatedExcesses d t plans reference) d u.faces u.range
+abbrev pub CallsUnder : Design → Targets → Plans → (reference : Option Plans) → (fast : Bool) → (under : Option Under) → (Status → Type 0)
+CallsUnder d t plans reference fast None = MakingCallsWith d t plans reference fast
+CallsUnder d t plans reference fast (Some u) = FacedCalls (IsCausedRefusal (CauseOf d t plans reference fast)) (AreStatedExcesses d t plans reference fast) d u.faces u.range
 
 -- a controller and its bounds; with faces its loops stay in the box
-abbrev pub IsMadeUnder : DesignParts → Plans → (reference : Option Plans) → (under : Option Under) → Numbers → Printed → Type 0
-IsMadeUnder p plans reference None c b = IsMadeByPlans p plans reference c b
-IsMadeUnder p plans reference (Some u) c b = IsMadeByPlans p plans reference c b × KeepsLoops p c b u.range
+abbrev pub IsMadeUnder : DesignParts → (fast : Bool) → Plans → (reference : Option Plans) → (under : Option Under) → Numbers → Printed → Type 0
+IsMadeUnder p fast plans reference None c b = IsMadeByPlans p plans reference fast c b
+IsMadeUnder p fast plans reference (Some u) c b = IsMadeByPlans p plans reference fast c b × KeepsLoopsOf p reference fast c b u.range
 
--- ---- the script of a command, by what it asks for and the positions of its files
+-- ---- the script of a command, by what it asks for, the positions of its files, and whether the design asks for the accelerated machine
 -- what is made, by all that was read
 abbrev pub Making : Type 1
 Making = Plans → (reference : Option Plans) → (under : Option Under) → Numbers → Printed → Type 0
 
-module _ (asked : Asked) (d : Design) (t : Targets) (Made : Making) where
+module _ (asked : Asked) (fast : Bool) (d : Design) (t : Targets) (Made : Making) where
   abbrev pub make_act : Plans → (reference : Option Plans) → (under : Option Under) → Act
   make_act plans reference under =
-      two_texts (CallsUnder d t plans reference under) (λ words. AreTextsOf (Made plans reference under) (word_of words asked.report)) asked.controller asked.report
+      two_texts (CallsUnder d t plans reference fast under) (λ words. AreTextsBy (IsTextBy reference fast) (Made plans reference under) (word_of words asked.report))
+      asked.controller asked.report
 
   -- the range, where there are disturbances
   abbrev pub with_range : Plans → (reference : Option Plans) → Option FaceNumbers → Script
@@ -72,32 +71,19 @@ module _ (asked : Asked) (d : Design) (t : Targets) (Made : Making) where
   abbrev pub with_policy : Script
   with_policy = reads 2 (policy_kind d) with_reference
 
-abbrev pub after_policy : Asked → DesignParts → Plans → Script
-after_policy asked p = with_reference asked (design_of p) (targets_of p) (IsMadeUnder p)
+abbrev pub after_policy : Asked → (fast : Bool) → DesignParts → Plans → Script
+after_policy asked fast p = with_reference asked fast (design_of p) (targets_of p) (IsMadeUnder p fast)
 
-abbrev pub make_after : Asked → DesignParts → Script
-make_after asked p = with_policy asked (design_of p) (targets_of p) (IsMadeUnder p)
+abbrev pub make_after : Asked → (fast : Bool) → DesignParts → Script
+make_after asked fast p = with_policy asked fast (design_of p) (targets_of p) (IsMadeUnder p fast)
 
--- ---- of a design that asks for the accelerated machine: reference plans behind the policy, and no faces
-abbrev pub fast_act : Asked → DesignParts → (plans references : Plans) → Act
-fast_act asked p plans references =
-    two_texts (FastCalls (design_of p) (targets_of p) plans references)
-    (λ words. AreTextsBy IsFastControllerText (IsFastMadeOf p plans references) (word_of words asked.report)) asked.controller asked.report
-
-abbrev pub fast_after : Asked → DesignParts → Script
-fast_after asked p = reads 2 (policy_kind (design_of p)) (λ plans. reads 3 (policy_kind (design_of p)) (λ references. ends (fast_act asked p plans references)))
-
--- ---- by the machine that the design asks for, where it may be of any version
-abbrev pub after_any : Asked → (fast : Bool) → DesignParts → Script
-after_any asked true p = fast_after asked p
-after_any asked false p = make_after asked p
-
-abbrev pub make_script : (any : Bool) → Asked → Script
-make_script true asked = reads 1 asked_kind (λ wanted. after_any asked wanted.fast wanted.design)
-make_script false asked = reads 1 design_kind (make_after asked)
+-- with reference plans goes a design of any version, and else one of version 1 or 2
+abbrev pub make_script : (lean : Bool) → Asked → Script
+make_script true asked = reads 1 asked_kind (λ wanted. make_after asked wanted.fast wanted.design)
+make_script false asked = reads 1 design_kind (make_after asked false)
 
 abbrev pub make_work : Asked → Work
-make_work asked = two_work (make_script asked.any asked) asked.controller asked.report
+make_work asked = two_work (make_script asked.lean asked) asked.controller asked.report
 
 abbrev pub make_deeds : Asked → Deeds
 make_deeds asked = deeds_of_work (make_work asked)
@@ -116,8 +102,8 @@ pub record IsAsked (words : List (List ℕ)) (asked : Asked) : Type 0 where
 -- ---- the commands, and their rows of the table
 -- reference plans move the files behind the policy by one
 abbrev pub asked_of : (lean faced disturbed : Bool) → Asked
-asked_of true faced disturbed = record { any = not faced; lean = true; faced = faced; disturbed = disturbed; controller = 4; report = 5; faces = 6; range = 7 }
-asked_of false faced disturbed = record { any = false; lean = false; faced = faced; disturbed = disturbed; controller = 3; report = 4; faces = 5; range = 6 }
+asked_of true faced disturbed = record { lean = true; faced = faced; disturbed = disturbed; controller = 4; report = 5; faces = 6; range = 7 }
+asked_of false faced disturbed = record { lean = false; faced = faced; disturbed = disturbed; controller = 3; report = 4; faces = 5; range = 6 }
 
 -- `stay`: with the texts of faces and of the range behind the four names of `generate`
 abbrev pub stay_asked : (disturbed : Bool) → Asked

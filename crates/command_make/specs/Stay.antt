@@ -1,15 +1,19 @@
 -- Faces by which closed loops are known to stay in the box, what they call for, and what `stay` leaves in the store.
-use Rattle.std.specs.Prelude.{◌≡◌, ◌⊎◌, ℕ, Bool, true, false, ℤ, List}
+use Rattle.std.specs.Prelude.{◌≡◌, ◌⊎◌, ℕ, Bool, true, false, ℤ, List, Option, Some, None}
 use Rattle.io_edge.specs.Faults.{Files}
 use Rattle.integer_algebra.specs.Sums.{at}
 use Rattle.mat_int.specs.Matrix.{Matrix, row_of, zero_matrix}
 use Rattle.qp_model.specs.problem.Design.{Design}
 use Rattle.qp_model.specs.problem.Parts.{design_of}
+use Rattle.qp_model.specs.problem.Policy.{Plans}
 use Rattle.qp_model.specs.machine.Controller.{Numbers}
 use Rattle.qp_model.specs.machine.Machine.{IsAdmissible}
 use Rattle.qp_model.specs.machine.Successor.{state_after}
 use Rattle.qp_model.specs.bounds.Printed.{Printed}
 use Rattle.qp_model.specs.declared.design_parts.DesignParts.{DesignParts}
+use Rattle.closed_loop.specs.Looping.{looping_of_fast, state_by}
+use Rattle.closed_loop.specs.Under.{unshifted_by}
+use Rattle.fast_bounds.specs.FastCertified.{IsFastCertifiedAt}
 use Rattle.stay_check.specs.FaceForms.{FaceNumbers}
 use Rattle.stay_check.specs.Answers.{IsStayFault, Stays}
 use Rattle.stay_check.specs.LoopStay.{state_under, AreShiftsUpTo, IsKeptAt}
@@ -51,19 +55,46 @@ abbrev pub IsRangeIn : (disturbed : Bool) → (file : ℕ) → (words : List (Li
 IsRangeIn true file words files n range = FileHolds file_limit (RangeRight n range) (files (word_of words file))
 IsRangeIn false file words files n range = range ≡ no_shifts n
 
--- the closed loop from every state of the box, for every number of turns, under every list of shifts within the range: its states lie in the box, and at
--- each the controller is certified
-abbrev pub KeepsLoops : DesignParts → Numbers → Printed → (range : Matrix) → Type 0
-KeepsLoops p c b range =
+-- the closed loop from every state of the box, for every number of turns, under every list of shifts within the range: this holds of its states
+abbrev pub KeepsLoopsBy : DesignParts → Numbers → (states : List ℤ → (ℕ → ℕ → ℤ) → ℕ → List ℤ) → (Kept : List ℤ → Type 0) → (range : Matrix) → Type 0
+KeepsLoopsBy p c states Kept range =
     (start : List ℤ) → IsAdmissible c start → (shifts : ℕ → ℕ → ℤ) → (turns : ℕ) → AreShiftsUpTo (design_of p) (at (row_of range 0)) (at (row_of range 1)) shifts turns →
-    IsKeptAt (design_of p) c b (state_under (design_of p) c start shifts turns)
+    Kept (states start shifts turns)
+
+-- they lie in the box, and at each the controller is certified
+abbrev pub KeepsLoops : DesignParts → Numbers → Printed → (range : Matrix) → Type 0
+KeepsLoops p c b = KeepsLoopsBy p c (state_under (design_of p) c) (IsKeptAt (design_of p) c b)
 
 -- the closed loop of a controller stays in the box, under all shifts of the range that the name at this position holds; without disturbances, as `loop` runs it
-pub record LoopsStay (disturbed : Bool) (file : ℕ) (words : List (List ℕ)) (files : Files) (p : DesignParts) (c : Numbers) (b : Printed) : Type 0 where
+pub record LoopsStayBy (disturbed : Bool) (file : ℕ) (words : List (List ℕ)) (files : Files) (p : DesignParts) (c : Numbers)
+    (states : List ℤ → (ℕ → ℕ → ℤ) → ℕ → List ℤ) (alone : List ℤ → ℕ → List ℤ) (Kept : List ℤ → Type 0) : Type 0 where
   pub range : Matrix
   pub is_range : IsRangeIn disturbed file words files (design_of p).states range
-  pub stays : KeepsLoops p c b range
-  pub undisturbed : disturbed ≡ false → (start : List ℤ) → IsAdmissible c start → (turns : ℕ) → IsKeptAt (design_of p) c b (state_after (design_of p) c start turns)
+  pub stays : KeepsLoopsBy p c states Kept range
+  pub undisturbed : disturbed ≡ false → (start : List ℤ) → IsAdmissible c start → (turns : ℕ) → Kept (alone start turns)
+
+abbrev pub LoopsStay : (disturbed : Bool) (file : ℕ) (words : List (List ℕ)) (files : Files) (p : DesignParts) (c : Numbers) (b : Printed) → Type 0
+LoopsStay disturbed file words files p c b =
+    LoopsStayBy disturbed file words files p c (state_under (design_of p) c) (state_after (design_of p) c) (IsKeptAt (design_of p) c b)
+
+-- ---- of the accelerated machine
+-- the state lies in the box, and there the controller is certified
+pub record IsFastKeptAt (d : Design) (c : Numbers) (b : Printed) (xi : List ℤ) : Type 0 where
+  pub inside : IsAdmissible c xi
+  pub certified : IsFastCertifiedAt d c b xi
+
+abbrev pub KeepsFastLoops : DesignParts → Numbers → Printed → (range : Matrix) → Type 0
+KeepsFastLoops p c b = KeepsLoopsBy p c (state_by (design_of p) (looping_of_fast c)) (IsFastKeptAt (design_of p) c b)
+
+abbrev pub FastLoopsStay : (disturbed : Bool) (file : ℕ) (words : List (List ℕ)) (files : Files) (p : DesignParts) (c : Numbers) (b : Printed) → Type 0
+FastLoopsStay disturbed file words files p c b =
+    LoopsStayBy disturbed file words files p c (state_by (design_of p) (looping_of_fast c)) (unshifted_by (design_of p) (looping_of_fast c)) (IsFastKeptAt (design_of p) c b)
+
+-- ---- by the machine of what is made
+abbrev pub KeepsLoopsOf : DesignParts → (reference : Option Plans) → (fast : Bool) → Numbers → Printed → (range : Matrix) → Type 0
+KeepsLoopsOf p None fast = KeepsLoops p
+KeepsLoopsOf p (Some references) false = KeepsLoops p
+KeepsLoopsOf p (Some references) true = KeepsFastLoops p
 
 -- The third name holds the text of a controller and the fourth the report of its bounds, as `generate` leaves them: made of the design and the policy in
 -- the first two, and certified. And its closed loop stays in the box.

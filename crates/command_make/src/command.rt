@@ -3,22 +3,19 @@ ghost use Rattle.std.specs.Prelude.{◌≡◌};
 ghost use Rattle.command_line.specs.Words.{IsStay, IsLean, IsLeanStay};
 ghost use Rattle.command_line.specs.Does.{DoesInStore};
 ghost use Rattle.command_line.specs.Running.{RunsInStore};
-ghost use Rattle.command_make.specs.Make.{fast_after, make_after, after_any, make_deeds, IsAsked, stay_deeds, lean_deeds, lean_stay_deeds, asked_of};
+ghost use Rattle.command_make.specs.Make.{make_after, make_deeds, IsAsked, stay_deeds, lean_deeds, lean_stay_deeds, asked_of};
 
-use crate::fast::fast_texts;
-use crate::inputs::{read_inputs, read_plans};
+use crate::inputs::read_inputs;
 use crate::texts::texts_of;
 use command_design_files::{Wanted, read_asked_file, read_design_file};
 use command_line::{Status, write_texts};
 use io_edge::{Store, Words};
-use qp_model::Design;
 use std::alloc::Global;
 
 /// What a command asks for, and at which positions its files stand.
 #[derive(Drop)]
 pub struct Asked {
-    /// A design of any version, of which one of version 3 asks for the accelerated machine.
-    pub any: bool,
+    /// Reference plans, with which goes a design of any version: one of version 3 asks for the accelerated machine.
     pub lean: bool,
     pub faced: bool,
     pub disturbed: bool,
@@ -49,7 +46,8 @@ pub fn lean<S: Store>(alloc: Global, words: &Words, store: &mut S) -> Status
 }
 
 /// Does what `lean` does, where the faces in the sixth file show that the controller's closed loop stays in the box, under all disturbances of the range in the
-/// seventh where there is one. Nothing is written before both texts are there and the faces were tested.
+/// seventh where there is one. Nothing is written before both texts are there and the faces were tested. A design of version 3 has a controller of the
+/// accelerated machine, by which its loop runs.
 pub fn lean_stay<S: Store>(alloc: Global, words: &Words, disturbed: bool, store: &mut S) -> Status
     requires { IsLeanStay words.now disturbed }
     ensures { DoesInStore S.Store words.now (lean_stay_deeds disturbed) store.old store.new result }
@@ -63,7 +61,6 @@ fn asked_of(lean: bool, faced: bool, disturbed: bool) -> Asked
 {
     let controller = if lean { 4 } else { 3 };
     Asked {
-        any: lean && !faced,
         lean,
         faced,
         disturbed,
@@ -79,21 +76,27 @@ fn make_asked<S: Store>(alloc: Global, words: &Words, asked: &Asked, store: &mut
     requires { IsAsked words.now asked.now }
     ensures { DoesInStore S.Store words.now (make_deeds asked.now) store.old store.new result }
 {
-    if asked.any {
+    if asked.lean {
         match read_asked_file(alloc, 1, words.at(1), store) {
-            Ok(wanted) => make_any(alloc, words, asked, wanted, store),
+            Ok(wanted) => make_of(alloc, words, asked, wanted, store),
             Err(status) => status,
         }
     } else {
         match read_design_file(alloc, 1, words.at(1), store) {
-            Ok(design) => make_plain(alloc, words, asked, design, store),
+            Ok(design) => {
+                let wanted = Wanted {
+                    design,
+                    fast: false,
+                };
+                make_of(alloc, words, asked, wanted, store)
+            }
             Err(status) => status,
         }
     }
 }
 
-// What comes after a design of any version.
-fn make_any<S: Store>(
+// What comes after the design.
+fn make_of<S: Store>(
     alloc: Global,
     words: &Words,
     asked: &Asked,
@@ -101,50 +104,11 @@ fn make_any<S: Store>(
     store: &mut S,
 ) -> Status
     requires { IsAsked words.now asked.now }
-    ensures { RunsInStore S.Store words.now (make_deeds asked.now) store.old store.new result (after_any asked.now wanted.fast wanted.design) }
+    ensures { RunsInStore S.Store words.now (make_deeds asked.now) store.old store.new result (make_after asked.now wanted.fast wanted.design) }
 {
-    if wanted.fast {
-        make_fast(alloc, words, asked, &wanted.design, store)
-    } else {
-        make_plain(alloc, words, asked, wanted.design, store)
-    }
-}
-
-// What comes after a design of version 1 or 2.
-fn make_plain<S: Store>(
-    alloc: Global,
-    words: &Words,
-    asked: &Asked,
-    design: Design,
-    store: &mut S,
-) -> Status
-    requires { IsAsked words.now asked.now }
-    ensures { RunsInStore S.Store words.now (make_deeds asked.now) store.old store.new result (make_after asked.now design) }
-{
-    match read_inputs(alloc, words, asked, design, store) {
+    match read_inputs(alloc, words, asked, wanted, store) {
         Ok(inputs) => {
             let made = texts_of(alloc, &inputs, words.at(asked.report as usize));
-            write_texts(words, asked.controller, asked.report, made, store)
-        }
-        Err(status) => status,
-    }
-}
-
-// What comes after a design that asks for the accelerated machine.
-fn make_fast<S: Store>(
-    alloc: Global,
-    words: &Words,
-    asked: &Asked,
-    design: &Design,
-    store: &mut S,
-) -> Status
-    requires { IsAsked words.now asked.now }
-    ensures { RunsInStore S.Store words.now (make_deeds asked.now) store.old store.new result (fast_after asked.now design.now) }
-{
-    match read_plans(alloc, words, asked, design, store) {
-        Ok(plans) => {
-            let name = words.at(asked.report as usize);
-            let made = fast_texts(alloc, design, &plans.policy, &plans.reference, name);
             write_texts(words, asked.controller, asked.report, made, store)
         }
         Err(status) => status,

@@ -1,12 +1,14 @@
 // By how much the plans of a controller exceed the rows.
-ghost use Rattle.std.specs.Prelude.{IfOk};
+ghost use Rattle.std.specs.Prelude.{◌≤ℤ◌, pos, ◌^◌, IfOk};
 ghost use Rattle.qp_model.specs.problem.Runs.{Holds};
 ghost use Rattle.command_generate.specs.Engine.Targets.{targets_of, violation_target};
 ghost use Rattle.command_make.specs.Checking.{AreSmall};
-ghost use Rattle.command_make.specs.Excess.{made_excess, made_lean_excess, made_with};
+ghost use Rattle.command_make.specs.Excess.{made_excess, made_lean_excess, made_fast_excess, made_with};
 ghost use Rattle.command_make.specs.Made.{reference_of};
 
 use command_generate::{Made, row_violations};
+use design_engine::{Run, fast_violations_after};
+use fast_bounds::FastMade;
 use lean_engine::violation_target;
 use qp_model::{Design, Policy};
 use std::alloc::{AllocError, Global};
@@ -60,4 +62,22 @@ pub fn row_excess(
         Some(_) => lean_excess(alloc, design, made),
         None => plain_excess(alloc, made),
     }
+}
+
+/// That of a controller of the accelerated machine.
+pub fn fast_excess(alloc: Global, design: &Design, made: &FastMade) -> Result<Vec<i128>, AllocError>
+    requires small { AreSmall made.now.bounds.multiplier made.now.eps }
+    requires narrow { made.now.bounds.multiplier ≤ℤ pos (2 ^ 42) }
+    ensures { IfOk result (λ v. Holds v.items made.now.controller.rows
+        (made_fast_excess made.now.controller made.now.bounds.multiplier made.now.eps (violation_target (targets_of design.now)))) }
+{
+    let c = made.controller.parts();
+    let run = Run {
+        s: c.s,
+        r: made.bounds.multiplier,
+        k: c.steps,
+        eps: made.eps,
+        target: Some(violation_target(design.parts())),
+    };
+    fast_violations_after(alloc, &c.exps, run)
 }

@@ -1,12 +1,13 @@
 // A controller of the accelerated machine and its bounds, and both texts of them.
-ghost use Rattle.std.specs.Prelude.{◌≡◌, IfOk, IfErr};
+ghost use Rattle.std.specs.Prelude.{◌≡◌, pos, unsigned_abs, true, Some, IfOk, IfErr};
 ghost use Rattle.qp_model.specs.problem.Parts.{design_of};
 ghost use Rattle.qp_model.specs.problem.Policy.{plans_of, IsPolicyFor};
 ghost use Rattle.qp_model.specs.bounds.Printed.{printed};
 ghost use Rattle.controller_text.specs.TextForm.{IsFastControllerText};
 ghost use Rattle.command_generate.specs.Engine.Targets.{targets_of};
 ghost use Rattle.command_generate.specs.Made.{IsReport, MakesTexts, Makes};
-ghost use Rattle.command_make.specs.Fast.{FastCalls, IsFastMadeOf};
+ghost use Rattle.fast_bounds.specs.FastAnswers.{stated_cost_for};
+ghost use Rattle.command_make.specs.Made.{MakingCallsWith, IsFastMadeOf, reference_of};
 
 use command_generate::report_for;
 use command_line::{Status, Texts};
@@ -15,8 +16,8 @@ use fast_bounds::{FastMade, generate_fast};
 use qp_model::{Design, Policy};
 use std::alloc::Global;
 
-// The controller and the bounds of a design with a policy and reference plans, or the status that tells why there are none.
-fn made_fast(
+/// The controller and the bounds of a design with a policy and reference plans, or the status that tells why there are none.
+pub fn made_fast(
     alloc: Global,
     design: &Design,
     policy: &Policy,
@@ -24,8 +25,9 @@ fn made_fast(
 ) -> Result<FastMade, Status>
     requires plans { IsPolicyFor (design_of design.now) (plans_of policy.now) }
     requires references { IsPolicyFor (design_of design.now) (plans_of reference.now) }
-    ensures { Makes (FastCalls (design_of design.now) (targets_of design.now) (plans_of policy.now) (plans_of reference.now))
+    ensures made { Makes (MakingCallsWith (design_of design.now) (targets_of design.now) (plans_of policy.now) (reference_of (Some reference.now)) true)
         (λ m. IsFastMadeOf design.now (plans_of policy.now) (plans_of reference.now) m.controller (printed m.bounds)) result }
+    ensures errors { IfOk result (λ m. m.eps ≡ pos (stated_cost_for (design_of design.now) (unsigned_abs m.bounds.multiplier) m.controller)) }
 {
     match generate_fast(alloc, design, policy, reference) {
         Ok(made) => Ok(made),
@@ -33,8 +35,8 @@ fn made_fast(
     }
 }
 
-// Both texts of what was made. It is borrowed here, so that it ends on one path alone.
-fn texts_of_fast(alloc: Global, made: &FastMade, report_name: &str) -> Result<Texts, Status>
+/// Both texts of what was made. It is borrowed here, so that it ends on one path alone.
+pub fn texts_of_fast(alloc: Global, made: &FastMade, report_name: &str) -> Result<Texts, Status>
     ensures texts { IfOk result (λ t. IsFastControllerText t.first.items made.now.controller
         × IsReport report_name.now (printed made.now.bounds) t.second.items) }
     ensures memory { IfErr result (λ e. e ≡ Status.Memory) }
@@ -54,7 +56,8 @@ pub fn fast_texts(
 ) -> Result<Texts, Status>
     requires plans { IsPolicyFor (design_of design.now) (plans_of policy.now) }
     requires references { IsPolicyFor (design_of design.now) (plans_of reference.now) }
-    ensures { MakesTexts IsFastControllerText (FastCalls (design_of design.now) (targets_of design.now) (plans_of policy.now) (plans_of reference.now))
+    ensures { MakesTexts IsFastControllerText
+        (MakingCallsWith (design_of design.now) (targets_of design.now) (plans_of policy.now) (reference_of (Some reference.now)) true)
         (IsFastMadeOf design.now (plans_of policy.now) (plans_of reference.now)) report_name.now result }
 {
     let made = made_fast(alloc, design, policy, reference)?;

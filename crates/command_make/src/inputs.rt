@@ -10,11 +10,11 @@ ghost use Rattle.command_line.specs.Script.{ends};
 ghost use Rattle.command_line.specs.Running.{ReadsAlong};
 ghost use Rattle.command_design_files.specs.Reading.{policy_kind};
 ghost use Rattle.command_files.specs.Reading.{faces_kind, range_kind};
-ghost use Rattle.command_make.specs.Make.{fast_after, fast_act, make_after, after_policy, make_deeds, IsAsked};
+ghost use Rattle.command_make.specs.Make.{make_after, after_policy, make_deeds, IsAsked};
 ghost use Rattle.command_make.specs.Inputs.{AreInputs, act_of};
 
 use crate::command::Asked;
-use command_design_files::read_policy_file;
+use command_design_files::{Wanted, read_policy_file};
 use command_files::{read_faces_file, read_range_file};
 use command_line::Status;
 use io_edge::{Store, Words};
@@ -23,10 +23,11 @@ use qp_model::{Design, Policy};
 use stay_check::Faces;
 use std::alloc::Global;
 
-/// A design and the plans of a policy for it, and where a command asks for them reference plans, faces, and the range of the shifts under which these are to
-/// hold.
+/// A design, whether it asks for the accelerated machine, and the plans of a policy for it; where a command asks for them reference plans, faces, and the
+/// range of the shifts under which these are to hold.
 #[derive(Drop)]
 pub struct Inputs {
+    pub fast: bool,
     pub design: Design,
     pub policy: Policy,
     pub reference: Option<Policy>,
@@ -39,15 +40,16 @@ pub fn read_inputs<S: Store>(
     alloc: Global,
     words: &Words,
     asked: &Asked,
-    design: Design,
+    wanted: Wanted,
     store: &mut S,
 ) -> Result<Inputs, Status>
     requires { IsAsked words.now asked.now }
-    ensures along { ReadsAlong S.Store words.now (make_deeds asked.now) (make_after asked.now design) (λ i. ends (act_of asked.now i)) result store.old store.new }
+    ensures along { ReadsAlong S.Store words.now (make_deeds asked.now) (make_after asked.now wanted.fast wanted.design) (λ i. ends (act_of asked.now i))
+        result store.old store.new }
     ensures inputs { IfOk result AreInputs }
 {
-    let policy = read_policy_file(alloc, 2, words.at(2), &design, store)?;
-    read_others(alloc, words, asked, design, policy, store)
+    let policy = read_policy_file(alloc, 2, words.at(2), &wanted.design, store)?;
+    read_others(alloc, words, asked, wanted, policy, store)
 }
 
 // What is asked for behind the policy.
@@ -55,21 +57,22 @@ fn read_others<S: Store>(
     alloc: Global,
     words: &Words,
     asked: &Asked,
-    design: Design,
+    wanted: Wanted,
     policy: Policy,
     store: &mut S,
 ) -> Result<Inputs, Status>
     requires asked { IsAsked words.now asked.now }
-    requires plans { IsPolicyFor (design_of design) (plans_of policy) }
-    ensures along { ReadsAlong S.Store words.now (make_deeds asked.now) (after_policy asked.now design (plans_of policy)) (λ i. ends (act_of asked.now i))
-        result store.old store.new }
+    requires plans { IsPolicyFor (design_of wanted.design) (plans_of policy) }
+    ensures along { ReadsAlong S.Store words.now (make_deeds asked.now) (after_policy asked.now wanted.fast wanted.design (plans_of policy))
+        (λ i. ends (act_of asked.now i)) result store.old store.new }
     ensures inputs { IfOk result AreInputs }
 {
-    let reference = read_reference(alloc, words, asked, &design, store)?;
-    let faces = read_faces(alloc, words, asked, &design, store)?;
-    let range = read_range(alloc, words, asked, &design, store)?;
+    let reference = read_reference(alloc, words, asked, &wanted.design, store)?;
+    let faces = read_faces(alloc, words, asked, &wanted.design, store)?;
+    let range = read_range(alloc, words, asked, &wanted.design, store)?;
     Ok(Inputs {
-        design,
+        fast: wanted.fast,
+        design: wanted.design,
         policy,
         reference,
         faces,
@@ -138,30 +141,4 @@ fn read_range<S: Store>(
     } else {
         Ok(None)
     }
-}
-
-/// The plans of a policy and reference plans.
-#[derive(Drop)]
-pub struct BothPlans {
-    pub policy: Policy,
-    pub reference: Policy,
-}
-
-/// The policy for a design and the reference plans, or the status that ends the run.
-pub fn read_plans<S: Store>(
-    alloc: Global,
-    words: &Words,
-    asked: &Asked,
-    design: &Design,
-    store: &mut S,
-) -> Result<BothPlans, Status>
-    requires { IsAsked words.now asked.now }
-    ensures along { ReadsAlong S.Store words.now (make_deeds asked.now) (fast_after asked.now design.now)
-        (λ b. ends (fast_act asked.now design.now (plans_of b.policy) (plans_of b.reference))) result store.old store.new }
-    ensures policy { IfOk result (λ b. IsPolicyFor (design_of design.now) (plans_of b.policy)) }
-    ensures reference { IfOk result (λ b. IsPolicyFor (design_of design.now) (plans_of b.reference)) }
-{
-    let policy = read_policy_file(alloc, 2, words.at(2), design, store)?;
-    let reference = read_policy_file(alloc, 3, words.at(3), design, store)?;
-    Ok(BothPlans { policy, reference })
 }

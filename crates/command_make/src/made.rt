@@ -1,5 +1,5 @@
 // A controller and its bounds, lean where there are reference plans.
-ghost use Rattle.std.specs.Prelude.{◌≡◌, pos, unsigned_abs, Some, IfOk, IfSome};
+ghost use Rattle.std.specs.Prelude.{◌≡◌, pos, unsigned_abs, false, Some, IfOk, IfSome};
 ghost use Rattle.qp_model.specs.problem.Parts.{design_of};
 ghost use Rattle.qp_model.specs.problem.Policy.{plans_of, IsPolicyFor};
 ghost use Rattle.qp_model.specs.bounds.Printed.{printed};
@@ -23,7 +23,7 @@ fn make_lean(
 ) -> Result<Made, Status>
     requires plans { IsPolicyFor (design_of design.now) (plans_of policy.now) }
     requires references { IsPolicyFor (design_of design.now) (plans_of reference.now) }
-    ensures made { Makes (MakingCallsWith (design_of design.now) (targets_of design.now) (plans_of policy.now) (reference_of (Some reference.now)))
+    ensures made { Makes (MakingCallsWith (design_of design.now) (targets_of design.now) (plans_of policy.now) (reference_of (Some reference.now)) false)
         (λ m. IsLeanMadeOf design.now (plans_of policy.now) (plans_of reference.now) m.controller (printed m.bounds)) result }
     ensures errors { IfOk result (λ m.
         m.eps ≡ pos (stated_cost (design_of design.now) (unsigned_abs m.bounds.multiplier) m.controller.fraction_bits)) }
@@ -43,8 +43,8 @@ pub fn make(
 ) -> Result<Made, Status>
     requires plans { IsPolicyFor (design_of design.now) (plans_of policy.now) }
     requires references { IfSome reference.now (λ r. IsPolicyFor (design_of design.now) (plans_of r)) }
-    ensures made { Makes (MakingCallsWith (design_of design.now) (targets_of design.now) (plans_of policy.now) (reference_of reference.now))
-        (λ m. IsMadeByPlans design.now (plans_of policy.now) (reference_of reference.now) m.controller (printed m.bounds)) result }
+    ensures made { Makes (MakingCallsWith (design_of design.now) (targets_of design.now) (plans_of policy.now) (reference_of reference.now) false)
+        (λ m. IsMadeByPlans design.now (plans_of policy.now) (reference_of reference.now) false m.controller (printed m.bounds)) result }
     ensures errors { IfOk result (λ m.
         m.eps ≡ pos (stated_cost (design_of design.now) (unsigned_abs m.bounds.multiplier) m.controller.fraction_bits)) }
 {

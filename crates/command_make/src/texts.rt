@@ -1,24 +1,25 @@
 // The texts that are written, of what was read.
-ghost use Rattle.std.specs.Prelude.{◌≡◌, ◌⊎◌, length, Some, None, IfOk, IfErr};
-ghost use Rattle.integer_algebra.specs.Sums.{at};
-ghost use Rattle.qp_model.specs.problem.Design.{rows};
+ghost use Rattle.std.specs.Prelude.{Some, None, true, false};
 ghost use Rattle.qp_model.specs.problem.Parts.{design_of};
-ghost use Rattle.qp_model.specs.bounds.Printed.{printed};
+ghost use Rattle.qp_model.specs.problem.Policy.{plans_of, IsPolicyFor};
 ghost use Rattle.qp_model.specs.text.ControllerText.{IsControllerText};
 ghost use Rattle.stay_check.specs.FaceForms.{faces_of, AreFacesFor};
 ghost use Rattle.state_files.specs.RangeText.{IsShiftRange};
-ghost use Rattle.command_generate.specs.Made.{IsReport};
-ghost use Rattle.command_make.specs.Checking.{IsKeptWith, IsCaughtWith};
-ghost use Rattle.command_make.specs.Inputs.{AreInputs, under_in, MakesTextsOf};
+ghost use Rattle.command_generate.specs.Engine.Targets.{targets_of};
+ghost use Rattle.command_generate.specs.Made.{Makes, MakesTexts};
+ghost use Rattle.command_make.specs.Made.{MakingCallsWith, IsMadeByPlans, reference_of};
+ghost use Rattle.command_make.specs.Checking.{IsPricedOf};
+ghost use Rattle.command_make.specs.Inputs.{AreInputs, under_in, MakesTextsOf, MakingCallsOf, IsPricedFor};
 
 use crate::check::check_under;
-use crate::excess::row_excess;
+use crate::excess::{fast_excess, row_excess};
+use crate::fast::{fast_texts, made_fast, texts_of_fast};
 use crate::inputs::Inputs;
 use crate::made::make;
-use command_generate::{Made, texts_made};
+use command_generate::texts_made;
 use command_line::{Status, Texts};
 use mat_int::Mat;
-use qp_model::Design;
+use qp_model::{Design, Policy};
 use stay_check::Faces;
 use std::alloc::Global;
 
@@ -28,7 +29,7 @@ pub fn texts_of(alloc: Global, inputs: &Inputs, report_name: &str) -> Result<Tex
     ensures { MakesTextsOf inputs.now (under_in inputs.now) report_name.now result }
 {
     match &inputs.faces {
-        None => plain_texts(alloc, inputs, report_name),
+        None => free_texts(alloc, inputs, report_name),
         Some(faces) => match &inputs.range {
             Some(range) => faced_texts(alloc, inputs, faces, range, report_name),
             None => {
@@ -40,9 +41,34 @@ pub fn texts_of(alloc: Global, inputs: &Inputs, report_name: &str) -> Result<Tex
 }
 
 // The texts where there are no faces.
-fn plain_texts(alloc: Global, inputs: &Inputs, report_name: &str) -> Result<Texts, Status>
+fn free_texts(alloc: Global, inputs: &Inputs, report_name: &str) -> Result<Texts, Status>
     requires { AreInputs inputs.now }
     ensures { MakesTextsOf inputs.now None report_name.now result }
+{
+    match &inputs.reference {
+        None => plain_texts(alloc, inputs, report_name),
+        Some(reference) => {
+            if inputs.fast {
+                fast_texts(
+                    alloc,
+                    &inputs.design,
+                    &inputs.policy,
+                    reference,
+                    report_name,
+                )
+            } else {
+                plain_texts(alloc, inputs, report_name)
+            }
+        }
+    }
+}
+
+// By the plain machine.
+fn plain_texts(alloc: Global, inputs: &Inputs, report_name: &str) -> Result<Texts, Status>
+    requires { AreInputs inputs.now }
+    ensures { MakesTexts IsControllerText
+        (MakingCallsWith (design_of inputs.now.design) (targets_of inputs.now.design) (plans_of inputs.now.policy) (reference_of inputs.now.reference) false)
+        (IsMadeByPlans inputs.now.design (plans_of inputs.now.policy) (reference_of inputs.now.reference) false) report_name.now result }
 {
     let made = make(alloc, &inputs.design, &inputs.policy, &inputs.reference)?;
     texts_made(alloc, &made, report_name)
@@ -61,38 +87,67 @@ fn faced_texts(
     requires range { IsShiftRange inputs.now.design.states range.now }
     ensures { MakesTextsOf inputs.now (Some (record { faces = faces_of faces.now; range = range.now })) report_name.now result }
 {
-    let made = make(alloc, &inputs.design, &inputs.policy, &inputs.reference)?;
-    let excess = row_excess(alloc, &inputs.design, &inputs.reference, &made)?;
-    texts_checked(
-        alloc,
-        &inputs.design,
-        &made,
-        faces,
-        range,
-        &excess,
-        report_name,
-    )
+    let priced = price(alloc, inputs, report_name)?;
+    check_under(&inputs.design, faces, &priced.excess, range)?;
+    Ok(priced.texts)
 }
 
-// Both texts of what was made, where the faces show that a turn of its closed loop stays in the box under shifts of this range, each row exceeded by at most
-// its number of `excess` over `2^40`.
-fn texts_checked(
+/// Both texts of what was made, and by how much each row is exceeded at most, over `2^40`, whichever good solutions the gains are.
+#[derive(Drop)]
+pub struct Priced {
+    pub texts: Texts,
+    pub excess: Vec<i128>,
+}
+
+// What was made with its numbers, by the machine that is asked for.
+fn price(alloc: Global, inputs: &Inputs, report_name: &str) -> Result<Priced, Status>
+    requires { AreInputs inputs.now }
+    ensures { Makes (MakingCallsOf inputs.now inputs.now.fast) (IsPricedFor inputs.now inputs.now.fast report_name.now) result }
+{
+    match &inputs.reference {
+        None => price_plain(alloc, inputs, report_name),
+        Some(reference) => {
+            if inputs.fast {
+                price_fast(
+                    alloc,
+                    &inputs.design,
+                    &inputs.policy,
+                    reference,
+                    report_name,
+                )
+            } else {
+                price_plain(alloc, inputs, report_name)
+            }
+        }
+    }
+}
+
+// By the plain machine.
+fn price_plain(alloc: Global, inputs: &Inputs, report_name: &str) -> Result<Priced, Status>
+    requires { AreInputs inputs.now }
+    ensures { Makes (MakingCallsOf inputs.now false) (IsPricedFor inputs.now false report_name.now) result }
+{
+    let made = make(alloc, &inputs.design, &inputs.policy, &inputs.reference)?;
+    let excess = row_excess(alloc, &inputs.design, &inputs.reference, &made)?;
+    let texts = texts_made(alloc, &made, report_name)?;
+    Ok(Priced { texts, excess })
+}
+
+// By the accelerated machine.
+fn price_fast(
     alloc: Global,
     design: &Design,
-    made: &Made,
-    faces: &Faces,
-    range: &Mat,
-    excess: &[i128],
+    policy: &Policy,
+    reference: &Policy,
     report_name: &str,
-) -> Result<Texts, Status>
-    requires faces { AreFacesFor (design_of design.now) (faces_of faces.now) }
-    requires range { IsShiftRange design.now.states range.now }
-    requires excess { length excess.now ≡ rows (design_of design.now) }
-    ensures texts { IfOk result (λ t. IsControllerText t.first.items made.now.controller
-        × IsReport report_name.now (printed made.now.bounds) t.second.items) }
-    ensures kept { IfOk result (λ _. IsKeptWith (design_of design.now) (at excess.now) (faces_of faces.now) range.now) }
-    ensures caught { IfErr result (λ e. (e ≡ Status.Memory) ⊎ IsCaughtWith (design_of design.now) (at excess.now) (faces_of faces.now) range.now e) }
+) -> Result<Priced, Status>
+    requires plans { IsPolicyFor (design_of design.now) (plans_of policy.now) }
+    requires references { IsPolicyFor (design_of design.now) (plans_of reference.now) }
+    ensures { Makes (MakingCallsWith (design_of design.now) (targets_of design.now) (plans_of policy.now) (reference_of (Some reference.now)) true)
+        (IsPricedOf design.now (plans_of policy.now) (reference_of (Some reference.now)) true report_name.now) result }
 {
-    check_under(design, faces, excess, range)?;
-    texts_made(alloc, made, report_name)
+    let made = made_fast(alloc, design, policy, reference)?;
+    let excess = fast_excess(alloc, design, &made)?;
+    let texts = texts_of_fast(alloc, &made, report_name)?;
+    Ok(Priced { texts, excess })
 }

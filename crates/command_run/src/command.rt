@@ -11,8 +11,7 @@ ghost use Rattle.command_line.specs.Deeds.{IsCalledFor, UsesNoFile, IsUnwritten,
 ghost use Rattle.command_generate.specs.Generate.{IsGenerated};
 ghost use Rattle.command_make.specs.Stay.{IsStayed};
 ghost use Rattle.command_play.specs.AsSolved.{PlaysAsSolved};
-ghost use Rattle.command_make.specs.Lean.{IsLeanStayed};
-ghost use Rattle.command_make.specs.Fast.{IsAnyWritten};
+ghost use Rattle.command_make.specs.Fast.{IsAnyWritten, IsAnyStayed};
 ghost use Rattle.command_split.specs.Split.{IsSplitWritten};
 ghost use Rattle.command_serve.specs.Held.{ServesHeld};
 ghost use Rattle.command_c.specs.Compiled.{IsCompiled};
@@ -97,9 +96,9 @@ pub fn run<S: Store, O: Sink>(alloc: Global, words: &Words, store: &mut S, out: 
         → IfSome (S.held store.old) (λ files. IsSomeAnd (S.held store.new) (IsAnyWritten words.now files)) }
 
     // So it does where `lean` with faces answers `Done`, and the closed loop stays in the box, as that of `stay`: under every list of disturbances within
-    // the range in the seventh file, and without disturbances where there is no such file.
+    // the range in the seventh file, and without disturbances where there is no such file. Of a design of version 3 it is the loop by that machine.
     ensures kept { (disturbed : Bool) → IsLeanStay words.now disturbed → result ≡ Status.Done
-        → IfSome (S.held store.old) (λ files. IsSomeAnd (S.held store.new) (IsLeanStayed disturbed words.now files)) }
+        → IfSome (S.held store.old) (λ files. IsSomeAnd (S.held store.new) (IsAnyStayed disturbed words.now files)) }
 
     // Where `split` answers `Done`, its two files hold the text of a controller for each cell of the design's box that has a policy, and the reports of their
     // bounds. The boxes of the cells split the design's box: no two have a state in common, and each grid state of the box lies in one. Where that cell has a

@@ -119,10 +119,14 @@ real_cost_le p h r c design form made =
     more : {a b : ℕ} (t : ℕ) → a ≤ b → a + t ≤ b + t
     more {a} {b} t h = omega (arith, h)
 
+pub real_within : (p : DesignParts) (a : Aim) (c : Numbers) → IsFastMadeWith p a c →
+    cost_for p (form_of (design_of p)) (unsigned_abs a.r) c (real_errors (design_of p) (form_of (design_of p)) (unsigned_abs a.r) c) ≤
+    epsilon (run_sums_of (design_of p) (form_of (design_of p)) (unsigned_abs a.r) c.steps c.step_exponent c.exponents) c.fraction_bits
+real_within p a c h = real_cost_le p (form_of (design_of p)) (unsigned_abs a.r) c h.design (form_law p h.design h.narrow) h.made
+
 pub cost_limited : (p : DesignParts) (a : Aim) (c : Numbers) → IsFastMadeWith p a c →
     cost_for p (form_of (design_of p)) (unsigned_abs a.r) c (real_errors (design_of p) (form_of (design_of p)) (unsigned_abs a.r) c) ≤ unsigned_abs a.error_target
-cost_limited p a c h =
-    omega (arith, real_cost_le p (form_of (design_of p)) (unsigned_abs a.r) c h.design (form_law p h.design h.narrow) h.made, h.bits.within)
+cost_limited p a c h = omega (arith, real_within p a c h, h.bits.within)
 
 -- ---- made for a design, a policy and reference plans
 module _ (p : DesignParts) (plans references : Plans) (c : Numbers) (b : Printed) (h : IsFastBuilt p plans references c b) where

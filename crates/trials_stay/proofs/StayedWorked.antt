@@ -1,7 +1,7 @@
--- What `stay` says of a loop, with and without disturbances in the file with the name 6.
+-- What `stay` says of a loop, with and without disturbances in the file with the name 6, and `lean` by the accelerated machine, with the name 7.
 use Rattle.std.proofs.Common.{◌≡◌, ℕ, true, false, ℤ, List, [], ◌∷◌, refl}
 use Rattle.io_edge.specs.Faults.{Files}
-use Rattle.integer_algebra.specs.Sums.{at}
+use Rattle.integer_algebra.specs.Sums.{at, none}
 use Rattle.mat_int.specs.Matrix.{row_of, zero_matrix}
 use Rattle.qp_model.specs.problem.Parts.{design_of}
 use Rattle.qp_model.specs.machine.Controller.{Numbers}
@@ -10,12 +10,18 @@ use Rattle.qp_model.specs.machine.Successor.{state_after}
 use Rattle.qp_model.specs.bounds.Printed.{Printed}
 use Rattle.qp_model.specs.declared.design_parts.DesignParts.{DesignParts}
 use Rattle.stay_check.specs.LoopStay.{state_under, AreShiftsUpTo, IsKeptAt}
+use Rattle.closed_loop.specs.Looping.{looping_of_fast, state_by}
 use Rattle.command_line.specs.Answers.{FileHolds}
 use Rattle.command_files.specs.Texts.{RangeRight}
-use Rattle.command_make.specs.Stay.{LoopsStay}
+use Rattle.fast_bounds.specs.FastCertified.{IsFastCertifiedAt}
+use Rattle.command_make.specs.Stay.{LoopsStay, FastLoopsStay}
 
 abbrev named : List (List ℕ)
 named = [] ∷ (1 ∷ []) ∷ (2 ∷ []) ∷ (3 ∷ []) ∷ (4 ∷ []) ∷ (5 ∷ []) ∷ (6 ∷ []) ∷ []
+
+-- those of `lean`
+abbrev leaned : List (List ℕ)
+leaned = [] ∷ (1 ∷ []) ∷ (2 ∷ []) ∷ (3 ∷ []) ∷ (4 ∷ []) ∷ (5 ∷ []) ∷ (6 ∷ []) ∷ (7 ∷ []) ∷ []
 
 range_in_the_sixth : (files : Files) (p : DesignParts) (c : Numbers) (b : Printed) (it : LoopsStay true 6 named files p c b) →
     FileHolds 4194304 (RangeRight (design_of p).states it.range) (files (6 ∷ []))
@@ -34,3 +40,18 @@ under_every_shift files p c b it = it.stays
 as_loop_runs : (files : Files) (p : DesignParts) (c : Numbers) (b : Printed) (it : LoopsStay false 6 named files p c b) →
     (start : List ℤ) → IsAdmissible c start → (turns : ℕ) → IsKeptAt (design_of p) c b (state_after (design_of p) c start turns)
 as_loop_runs files p c b it = it.undisturbed refl
+
+-- ---- of the accelerated machine
+fast_range_in_the_seventh : (files : Files) (p : DesignParts) (c : Numbers) (b : Printed) (it : FastLoopsStay true 7 leaned files p c b) →
+    FileHolds 4194304 (RangeRight (design_of p).states it.range) (files (7 ∷ []))
+fast_range_in_the_seventh files p c b it = it.is_range
+
+-- the states are those of the loop by that machine, and it is certified there
+fast_under_every_shift : (files : Files) (p : DesignParts) (c : Numbers) (b : Printed) (it : FastLoopsStay true 7 leaned files p c b) →
+    (start : List ℤ) → IsAdmissible c start → (shifts : ℕ → ℕ → ℤ) → (turns : ℕ) → AreShiftsUpTo (design_of p) (at (row_of it.range 0)) (at (row_of it.range 1)) shifts turns →
+    IsAdmissible c (state_by (design_of p) (looping_of_fast c) start shifts turns) × IsFastCertifiedAt (design_of p) c b (state_by (design_of p) (looping_of_fast c) start shifts turns)
+fast_under_every_shift files p c b it start inside shifts turns within = let kept = it.stays start inside shifts turns within in (kept.inside, kept.certified)
+
+fast_as_loop_runs : (files : Files) (p : DesignParts) (c : Numbers) (b : Printed) (it : FastLoopsStay false 7 leaned files p c b) →
+    (start : List ℤ) → IsAdmissible c start → (turns : ℕ) → IsAdmissible c (state_by (design_of p) (looping_of_fast c) start (λ k. none) turns)
+fast_as_loop_runs files p c b it start inside turns = (it.undisturbed refl start inside turns).inside

@@ -5,7 +5,7 @@ use io_edge::Words;
 use std::alloc::Global;
 use std::test::Fail;
 use trials_memory_edge::{MemSink, MemStore};
-use trials_stores::{Fails, NONE, Program, ends_with, has_lines, store_of, two_sided};
+use trials_stores::{Fails, NONE, Program, changed, ends_with, has_lines, store_of, two_sided};
 use trials_worked_designs::POLICY;
 
 // `lean` with faces alone.
@@ -33,6 +33,9 @@ const FACES: &str = "4,0,0,1,0\n4,0,0,0,1\n";
 // What the numbers of its report are that rest on no gains.
 const MADE: &str = "excess 18432 65536\nmultiplier 2\nstep 1\nsteps 86\nbits 14\n";
 
+// The same of the accelerated machine, whose steps are fewer.
+const MADE_FAST: &str = "excess 18432 65536\nmultiplier 2\nstep 1\nsteps 18\nbits 14\n";
+
 // Whether a run over these files ends with this line, and leaves these lines in the report.
 fn is_run(
     alloc: Global,
@@ -43,7 +46,32 @@ fn is_run(
     lines: &str,
 ) -> Result<bool, Fail> {
     let design = two_sided(alloc)?;
-    let mut store = store_of(alloc, &design, POLICY, texts.1, texts.2)?;
+    is_run_of(alloc, arguments, &design, texts, fails, line, lines)
+}
+
+// The same over a design of version 3.
+fn is_fast_run(
+    alloc: Global,
+    arguments: &str,
+    texts: (&str, &str, &str),
+    line: &str,
+    lines: &str,
+) -> Result<bool, Fail> {
+    let design = changed(alloc, &two_sided(alloc)?, "version = 1", "version = 3")?;
+    is_run_of(alloc, arguments, &design, texts, &NONE, line, lines)
+}
+
+// The same over a design.
+fn is_run_of(
+    alloc: Global,
+    arguments: &str,
+    design: &str,
+    texts: (&str, &str, &str),
+    fails: &Fails,
+    line: &str,
+    lines: &str,
+) -> Result<bool, Fail> {
+    let mut store = store_of(alloc, design, POLICY, texts.1, texts.2)?;
     store.hold("q", texts.0.as_bytes())?;
     Ok(
         ends_with::<LeanStaying>(alloc, arguments, &mut store, fails, line, "")?
@@ -103,6 +131,36 @@ fn runs(rt: HostRuntime) -> Result<(), Fail> {
                 arguments,
                 (REFERENCE, faces, shifts),
                 &NONE,
+                line,
+                lines
+            )?
+        );
+    }
+    Ok(())
+}
+
+// The accelerated machine: faces that hold, faces that don't, and disturbances that they leave room for, and others.
+static FAST_RUNS: [(&str, &str, &str, &str, &str); 4] = [
+    (LEAN, FACES, "", "", MADE_FAST),
+    (
+        LEAN,
+        "4,0,0,1,0\n4,0,1,0,0\n",
+        "",
+        "error 17 no-stay 2 -1\n",
+        "",
+    ),
+    (LEAN_UNDER, FACES, "0\n1\n", "", MADE_FAST),
+    (LEAN_UNDER, FACES, "0\n2\n", "error 17 no-stay 1 2\n", ""),
+];
+
+#[test]
+fn fast_runs(rt: HostRuntime) -> Result<(), Fail> {
+    for &(arguments, faces, shifts, line, lines) in &FAST_RUNS {
+        assert!(rt;
+            is_fast_run(
+                rt.alloc(),
+                arguments,
+                (REFERENCE, faces, shifts),
                 line,
                 lines
             )?

@@ -10,7 +10,7 @@ returns-in-Err g c =
     let a = c.args.asked.now in
     let did = rw c.at.ensures at c.in-Err.ensures in
     follows (make_work a) (make_sound a c.requires.faces_order c.requires.range_order)
-    (subst (λ (any : Bool). RunsInStore g.S.Store c.args.words.now (make_deeds a) c.args.store.now c.read_asked_file.new.store c.in-Err.status (make_script any a)) (sym c.if-asked.true)
+    (subst (λ (lean : Bool). RunsInStore g.S.Store c.args.words.now (make_deeds a) c.args.store.now c.read_asked_file.new.store c.in-Err.status (make_script lean a)) (sym c.if-asked.true)
     (stopped did.passes did.ends))
 
 pub returns-in-Ok : goal.returns-in-Ok
@@ -18,15 +18,15 @@ returns-in-Ok g c =
     let a = c.args.asked.now in
     let did = rw c.at.ensures at c.in-Ok.ensures in
     follows (make_work a) (make_sound a c.requires.faces_order c.requires.range_order)
-    (subst (λ (any : Bool). RunsInStore g.S.Store c.args.words.now (make_deeds a) c.args.store.now c.make_any.new.store c.make_any.result (make_script any a)) (sym c.if-asked.true)
-    (went_on did.passes did.right c.make_any.ensures))
+    (subst (λ (lean : Bool). RunsInStore g.S.Store c.args.words.now (make_deeds a) c.args.store.now c.make_of.new.store c.make_of.result (make_script lean a)) (sym c.if-asked.true)
+    (went_on did.passes did.right c.make_of.ensures))
 
 pub returns-in-Err-read_design_file : goal.returns-in-Err-read_design_file
 returns-in-Err-read_design_file g c =
     let a = c.args.asked.now in
     let did = rw c.at-else-asked.ensures at c.in-Err-read_design_file.ensures in
     follows (make_work a) (make_sound a c.requires.faces_order c.requires.range_order)
-    (subst (λ (any : Bool). RunsInStore g.S.Store c.args.words.now (make_deeds a) c.args.store.now c.read_design_file.new.store c.in-Err-read_design_file.status (make_script any a)) (sym c.if-asked.false)
+    (subst (λ (lean : Bool). RunsInStore g.S.Store c.args.words.now (make_deeds a) c.args.store.now c.read_design_file.new.store c.in-Err-read_design_file.status (make_script lean a)) (sym c.if-asked.false)
     (stopped did.passes did.ends))
 
 pub returns-in-Ok-read_design_file : goal.returns-in-Ok-read_design_file
@@ -34,5 +34,5 @@ returns-in-Ok-read_design_file g c =
     let a = c.args.asked.now in
     let did = rw c.at-else-asked.ensures at c.in-Ok-read_design_file.ensures in
     follows (make_work a) (make_sound a c.requires.faces_order c.requires.range_order)
-    (subst (λ (any : Bool). RunsInStore g.S.Store c.args.words.now (make_deeds a) c.args.store.now c.make_plain.new.store c.make_plain.result (make_script any a)) (sym c.if-asked.false)
-    (went_on did.passes did.right c.make_plain.ensures))
+    (subst (λ (lean : Bool). RunsInStore g.S.Store c.args.words.now (make_deeds a) c.args.store.now c.make_of-in-Ok-read_design_file.new.store c.make_of-in-Ok-read_design_file.result (make_script lean a)) (sym c.if-asked.false)
+    (went_on did.passes did.right c.make_of-in-Ok-read_design_file.ensures))

@@ -5,11 +5,11 @@ use Rattle.fast_bounds.specs.FastRefusals.{HasFastCause}
 use Rattle.fast_bounds.proofs.FastCauses.{memory_apart}
 use Rattle.command_generate.specs.Engine.Targets.{targets_of}
 use Rattle.command_generate.proofs.Making.{done_called, refused_called, none_made}
-use Rattle.command_make.specs.Fast.{PassesFastWith}
+use Rattle.command_make.specs.Made.{PassesFastWith}
 use Rattle.command_make.proofs.fast.made_fast.Goals as goal
 
-pub returns-in-Ok : goal.returns-in-Ok
-returns-in-Ok c =
+pub returns-in-Ok-clause-made : goal.returns-in-Ok-clause-made
+returns-in-Ok-clause-made c =
     let d = design_of c.args.design.now in
     let t = targets_of c.args.design.now in
     let plans = plans_of c.args.policy.now in
@@ -23,8 +23,8 @@ returns-in-Ok c =
       unmade = tt;
     }
 
-pub returns-in-Err : goal.returns-in-Err
-returns-in-Err c =
+pub returns-in-Err-clause-made : goal.returns-in-Err-clause-made
+returns-in-Err-clause-made c =
     let d = design_of c.args.design.now in
     let t = targets_of c.args.design.now in
     let plans = plans_of c.args.policy.now in

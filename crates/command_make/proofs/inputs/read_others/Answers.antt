@@ -47,7 +47,7 @@ returns g c =
             (went_where a.faced _ _ _ faces_of c.in_ok-faces.faces faces.read
             (went_where a.disturbed _ _ _ (λ m. m) c.in_ok-range.range range.read
             (subst (λ (r : Option Matrix). RunsInStore g.S.Store c.args.words.now (make_deeds a) c.read_range.new.store now s
-            (ends (act_of a (record { design = c.args.design; policy = c.args.policy; reference = c.in_ok-reference.reference; faces = c.in_ok-faces.faces; range = r })))) (unseen c.in_ok-range.range) rest)));
+            (ends (act_of a (record { fast = c.args.wanted.fast; design = c.args.wanted.design; policy = c.args.policy; reference = c.in_ok-reference.reference; faces = c.in_ok-faces.faces; range = r })))) (unseen c.in_ok-range.range) rest)));
         ended = tt;
       };
       inputs = record { plans = c.requires.plans; references = reference.sized; faces = faces.sized; range = range.sized };

@@ -4,7 +4,7 @@ use Rattle.command_make.specs.Stay.{no_shifts}
 use Rattle.command_make.proofs.texts.texts_of.Goals as goal
 
 pub returns-in-None : goal.returns-in-None
-returns-in-None c = rw c.in-None.is c.plain_texts.ensures
+returns-in-None c = rw c.in-None.is c.free_texts.ensures
 
 pub returns-in-Some-range : goal.returns-in-Some-range
 returns-in-Some-range c = rw (c.in-Some.is, c.in-Some-range.is) c.faced_texts.ensures
