@@ -7,8 +7,7 @@ ghost use Rattle.command_make.specs.Excess.{made_excess, made_lean_excess, made_
 ghost use Rattle.command_make.specs.Made.{reference_of};
 
 use command_generate::{Made, row_violations};
-use design_engine::{Run, fast_violations_after};
-use fast_bounds::FastMade;
+use fast_bounds::{FastMade, Run, fast_violations_after};
 use lean_engine::violation_target;
 use qp_model::{Design, Policy};
 use std::alloc::{AllocError, Global};

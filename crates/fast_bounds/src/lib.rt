@@ -11,6 +11,8 @@ mod residuals;
 
 pub use bounds::fast_bounds_of;
 pub use controller::fast_controller_with;
+// (what the faces of a loop ask for, handed on)
+pub use design_engine::{Run, fast_violations_after};
 pub use generation::{FastMade, generate_fast};
 pub use laws::{
     fast_carried_law, fast_causes_law, fast_certified_law, fast_design_run_law, fast_lean_law,

@@ -10,10 +10,10 @@ use Rattle.qp_model.specs.machine.Successor.{state_after}
 use Rattle.qp_model.specs.bounds.Printed.{Printed}
 use Rattle.qp_model.specs.declared.design_parts.DesignParts.{DesignParts}
 use Rattle.stay_check.specs.LoopStay.{state_under, AreShiftsUpTo, IsKeptAt}
-use Rattle.closed_loop.specs.Looping.{looping_of_fast, state_by}
+use Rattle.command_make.specs.Loops.Looping.{looping_of_fast, state_by}
 use Rattle.command_line.specs.Answers.{FileHolds}
 use Rattle.command_files.specs.Texts.{RangeRight}
-use Rattle.fast_bounds.specs.FastCertified.{IsFastCertifiedAt}
+use Rattle.command_make.specs.FastEngine.FastCertified.{IsFastCertifiedAt}
 use Rattle.command_make.specs.Stay.{LoopsStay, FastLoopsStay}
 
 abbrev named : List (List ℕ)

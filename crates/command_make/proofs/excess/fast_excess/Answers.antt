@@ -8,8 +8,8 @@ use Rattle.qp_model.specs.machine.Controller.{Numbers}
 use Rattle.qp_model.specs.machine.Machine.{exponent_of}
 use Rattle.qp_model.specs.declared.design_parts.DesignParts.{DesignParts}
 use Rattle.dual_bounds.specs.FastSteps.{quarter_steps}
-use Rattle.hessian_check.specs.RowExponents.{exponent_in}
 use Rattle.overflow_check.specs.FastController.{IsFastController}
+use Rattle.command_generate.specs.Engine.RowExponents.{exponent_in}
 use Rattle.command_generate.specs.Engine.Targets.{targets_of, violation_target}
 use Rattle.command_generate.proofs.Engine.GenerationFacts.{whole_least}
 use Rattle.fast_bounds.proofs.FastPrinted.{below, listed, run_of}
