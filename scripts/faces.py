@@ -9,7 +9,7 @@ these texts alone: with a controller of `stay` by half the violation target, and
 
 The faces go to FACES, or are printed; how far each coordinate can go, and the greatest disturbance that the box bears in each, go to standard error.
 
-    --lean REFERENCE      of the controller that `lean` makes with these reference plans, not of that of `stay`
+    --lean REFERENCE      of the controller that `lean` makes with these reference plans, not of that of `stay`; a design of version 3 has no other
     --disturbances FILE   two records, a number for each coordinate over `2^grid`: the least and the greatest that is added to a next state
     --bears FILE          writes two such records: the greatest disturbances that the faces bear
 

@@ -25,13 +25,15 @@ from .worked import EXAMPLES, FIRST, FIRST_LEAN_CONTROLLER, FIRST_POLICY, FIRST_
 
 LACKING = missing(*PACKAGES)
 if not LACKING:
-    from scripts import design, draft, judge, staying
+    from scripts import design, draft, faces, judge, staying
     from scripts.common.models import Model
     from scripts.common.programs import Programs
 
 LONG_POLICY, LONG_REFERENCE = "100,0,0\n8,-7,0\n", "1,0,0\n5,-3,-1\n"
 # the first design with a violation target of 1: R 1, and K 3 in place of 5
 COARSE = FIRST.replace("violation = 16", "violation = 1")
+# and with a limit on both sides of the next state
+HELD = FIRST.replace("final = [[4, 1]]", "final = [[4, 1], [-4, 1]]").replace("den = 1\nviolation = 16\ngap = 1", "den = 10\nviolation = 1\ngap = 10")
 MASS = """period = 0.2
 stages = 6
 a = [[0.0, 1.0], [0.0, 0.0]]
@@ -242,6 +244,19 @@ class Made(unittest.TestCase):
         self.assertEqual(got.returncode, 0, got.stderr)
         self.assertIn("R 1, curvature", got.stderr)
         self.assertIn("so step 1 and K about 3\n", got.stderr)
+
+    def test_faces(self):
+        """They are found by no less than what the program tests them with, and it takes them."""
+        text = third(HELD)
+        found, texts = design_of(text), {"d": text, "p": FIRST_POLICY, "q": FIRST_REFERENCE}
+        excess = faces.excesses(found, records_of(FIRST_POLICY), records_of(FIRST_REFERENCE))
+        read = model.read_design(text.encode(), (1, 2, 3))
+        stated = model.choose(read, *(model.read_policy(texts[name].encode(), read) for name in "pq")).stated_violations
+        for least, most in zip(stated, excess):
+            self.assertTrue(0.9 * most < least <= most, (least, most))
+        texts["f"] = faces.records_text(faces.find(found, excess, [0], [0]))
+        said = program.answer(["lean", "d", "p", "q", "c", "r", "f"], lambda name: texts[name].encode(), lambda _: True, model.exact_gains)
+        self.assertEqual((said.status, said.written["c"][:17]), (0, b"mpc-controller 3\n"))
 
     def test_about_how_many_steps(self):
         plain, fast = (staying.steps_of(replace(example("antenna"), version=version), False) for version in (2, 3))
