@@ -1,4 +1,5 @@
 """The model of the accelerated machine against worked rows, whose numbers another program computed in exact whole numbers."""
+import pathlib
 import unittest
 from fractions import Fraction
 from types import SimpleNamespace
@@ -20,6 +21,8 @@ MOTORS = [
     (None, "1,16,10,5,1\n1,-4,2,3,1\n1,4,-2,-3,-1\n1,-16,-10,-5,-1\n"),
     ("128,1791,1402,650,166\n128,-469,261,329,125\n128,469,-261,-329,-125\n128,-1791,-1402,-650,-166\n", "4,64,39,18,5\n1,-4,2,3,1\n1,4,-2,-3,-1\n4,-64,-39,-18,-5\n"),
 ]
+
+EXAMPLES = pathlib.Path(__file__).resolve().parents[3] / "examples"
 
 
 def third(design):
@@ -182,6 +185,17 @@ class Commands(unittest.TestCase):
         cost = made.errors.epsilon(made.report["bits"])
         of_steps = lambda exponent: -(-((2**exponent + 2**s) * 2**42 * r) // (k * (k + 3)))
         self.assertEqual(made.stated_violations, [of_steps(exponent) - -cost // r for exponent in made.exponents])
+
+    def test_example_that_stays(self):
+        """`tracking` stays by it under the same disturbances, in 12 steps for 43."""
+        names = ("design.toml", "lean.csv", "reference.csv", "faces.csv", "disturbances.csv")
+        texts = {name: (EXAMPLES / "tracking" / name).read_bytes() for name in names}
+        texts["design.toml"] = texts["design.toml"].replace(b"\nversion = 1\n", b"\nversion = 3\n")
+        said = program.answer(["lean", *names[:3], "c", "r", *names[3:]], texts.get, lambda name: True, model.gains)
+        self.assertEqual((said.status, said.line), (0, b""))
+        self.assertIn(b"\nsteps 12\nbits 17\n", said.written["r"])
+        texts["disturbances.csv"] = b"-132,-94,0\n132,194,0\n"
+        self.assertEqual(program.answer(["lean", *names[:3], "c", "r", *names[3:]], texts.get, lambda name: True, model.gains).status, 17)
 
     def test_lean_stay(self):
         design = third(HELD.decode())

@@ -1,11 +1,11 @@
 -- What `stay` says of a loop, with and without disturbances in the file with the name 6, and `lean` by the accelerated machine, with the name 7.
-use Rattle.std.proofs.Common.{◌≡◌, ℕ, true, false, ℤ, List, [], ◌∷◌, refl}
+use Rattle.std.proofs.Common.{◌≡◌, ℕ, true, false, ℤ, pos, List, [], ◌∷◌, refl}
 use Rattle.io_edge.specs.Faults.{Files}
 use Rattle.integer_algebra.specs.Sums.{at, none}
 use Rattle.mat_int.specs.Matrix.{row_of, zero_matrix}
 use Rattle.qp_model.specs.problem.Parts.{design_of}
 use Rattle.qp_model.specs.machine.Controller.{Numbers}
-use Rattle.qp_model.specs.machine.Machine.{IsAdmissible}
+use Rattle.qp_model.specs.machine.Machine.{IsAdmissible, exponent_of}
 use Rattle.qp_model.specs.machine.Successor.{state_after}
 use Rattle.qp_model.specs.bounds.Printed.{Printed}
 use Rattle.qp_model.specs.declared.design_parts.DesignParts.{DesignParts}
@@ -14,6 +14,7 @@ use Rattle.command_make.specs.Loops.Looping.{looping_of_fast, state_by}
 use Rattle.command_line.specs.Answers.{FileHolds}
 use Rattle.command_files.specs.Texts.{RangeRight}
 use Rattle.command_make.specs.FastEngine.FastCertified.{IsFastCertifiedAt}
+use Rattle.command_make.specs.Excess.{made_fast_excess}
 use Rattle.command_make.specs.Stay.{LoopsStay, FastLoopsStay}
 
 abbrev named : List (List ℕ)
@@ -55,3 +56,7 @@ fast_under_every_shift files p c b it start inside shifts turns within = let kep
 fast_as_loop_runs : (files : Files) (p : DesignParts) (c : Numbers) (b : Printed) (it : FastLoopsStay false 7 leaned files p c b) →
     (start : List ℤ) → IsAdmissible c start → (turns : ℕ) → IsAdmissible c (state_by (design_of p) (looping_of_fast c) start (λ k. none) turns)
 fast_as_loop_runs files p c b it start inside turns = (it.undisturbed refl start inside turns).inside
+
+-- the number of a row with the step exponent 1, where R is 2: half the target, 2^44 / (18 * 21) of the steps, and a quarter of what the errors cost
+excess_of_a_row : (c : Numbers) → exponent_of c 0 ≡ 1 → c.steps ≡ 18 → made_fast_excess c (pos 2) (pos 8078352384) 109951162777 0 ≡ pos 103535344206
+excess_of_a_row c exponent steps = rw (exponent, steps) refl
