@@ -315,6 +315,10 @@ class WholeWay(unittest.TestCase):
             design.make(steps, "model.toml", given, False)
         self.assertEqual(ran, [["draft", "model.toml", "design.toml", "--gap", "0.1", "--accelerated"], ["policy", "design.toml", "policy.csv", "--lean", "reference.csv", "--turns", "0"],
                                ["lean", "design.toml", "policy.csv", "reference.csv", "controller.txt", "report.txt"]])
+        with unittest.mock.patch.object(design.Steps, "run", lambda _, *words, to=None: ran.append([os.path.basename(word) for word in words]) or design.Step(0, "")):
+            design.make(steps, "model.toml", given, True)
+        self.assertEqual(ran[5:], [["faces", "design.toml", "policy.csv", "faces.csv", "--lean", "reference.csv", "--bears", "disturbances.csv"],
+                                   ["lean", "design.toml", "policy.csv", "reference.csv", "controller.txt", "report.txt", "faces.csv", "disturbances.csv"]])
 
     @unittest.skipUnless(os.path.exists(os.path.join(TOP, "crates/mpc_cli/out/mpc_cli")), "the program isn't built")
     def test_from_a_model_to_a_page(self):
