@@ -12,6 +12,7 @@ use Rattle.stay_check.specs.LoopStay.{state_under, AreShiftsUpTo}
 use Rattle.settle_check.specs.Still.{Box, box_of, LiesInBox, IsPartOf}
 use Rattle.settle_check.specs.ClosedRows.{IsLoopFor}
 use Rattle.settle_check.specs.Settling.{Certificate, Settles, IsSettledAt, settled_box, told_rows, cost_numbers, cost_box}
+use Rattle.settle_check.proofs.StillLaws.{plain_sized}
 use Rattle.settle_check.proofs.TubeLaws.{state_long}
 use Rattle.settle_check.proofs.SettlingLaws.{wider, goes_on, grid_state, costs_from, settling_law}
 use Rattle.near_check.specs.FarTube.{FirstTurns, AreNear, box_at, IsThrough, far_tube}
@@ -139,7 +140,7 @@ certified_far_law p h r c b plans units excess shifts s g by settles start long 
     let d = design_of p in
     let loop : IsLoopFor d c = record {
       plant = (sound p by.design).plant_denominator;
-      sized = by.controller.form.sized;
+      sized = plain_sized c by.controller.form.sized;
       sizes = record { states = sym by.made.sizes.states; inputs = sym by.made.sizes.inputs; grid = sym by.made.sizes.grid };
     } in
     let near : AreNear d c g = λ xi l inside. certified_near_law p h r c b plans units excess g.distance by xi l

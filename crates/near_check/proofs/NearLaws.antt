@@ -38,7 +38,7 @@ use Rattle.step_error.proofs.MachineScales.{scale_is}
 use Rattle.step_error.proofs.RealSteps.{carried}
 use Rattle.step_error.proofs.Slopes.{within_same}
 use Rattle.settle_check.specs.Still.{still_entry}
-use Rattle.settle_check.proofs.StillLaws.{entry_is, first_inputs}
+use Rattle.settle_check.proofs.StillLaws.{entry_is, first_inputs, plain_sized}
 use Rattle.near_check.specs.Distance.{HasSlopes}
 use Rattle.near_check.specs.Near.{first_slope, NearLaw, CertifiedNearLaw}
 use Rattle.near_check.proofs.DistanceLaws.{distance_law}
@@ -156,7 +156,7 @@ near_law p h r c xi run e errors gap excess units some costs near beta far l o =
     let stages : 1 ≤ d.stages = omega (arith, run.controller.form.sized.stages.0, run.made.sizes.stages) in
     let whole = pos_positive (2 ^ (c.fraction_bits + c.step_exponent)) (pow_pos (c.fraction_bits + c.step_exponent)) in
     let sized = run.controller.form.sized in
-    let place : l < length c.offsets = omega (arith, o, sized.shaped.offsets, first_inputs c c.inputs sized refl) in
+    let place : l < length c.offsets = omega (arith, o, sized.shaped.offsets, first_inputs c c.inputs (plain_sized c sized) refl) in
     near_by (pos (2 ^ 20)) (pos (beta l)) (pos c.steps) (pos (2 ^ c.fraction_bits)) (pos (2 ^ c.step_exponent)) (machine_scale c) (at (averaged_plan c xi) l) (lifted_plan c xi 0 l) (still_entry c xi l)
     whole (scale_is c.fraction_bits c.step_exponent) (ap (λ (z : ℤ). pos (2 ^ c.step_exponent) *ℤ z) (first_plan p h r c xi run l place))
     (distance_law d (sound p run.design) (at xi) (pos (average_denominator c)) (at (averaged_plan c xi)) (machine_scale c) (lifted_plan c xi 0)

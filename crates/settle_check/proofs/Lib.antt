@@ -3,6 +3,7 @@
 -- ---- one step, one turn
 pub mod FloorLaws
 pub mod StillLaws
+pub mod FastStillLaws
 pub mod RowLaws
 -- ---- the turns of a loop
 pub mod TubeLaws

@@ -21,6 +21,9 @@ use Rattle.mat_int.proofs.Indices.{dot_is}
 use Rattle.qp_model.specs.machine.Controller.{Numbers, plan_length, HasShape, IsSized}
 use Rattle.qp_model.specs.machine.Machine.{loaded, lowering_of, raised, top_of, plan_entry, plan_of, row_sum, next_multiplier, after}
 use Rattle.qp_model.proofs.MagnitudeLaws.{zeros_at, top_nonneg}
+use Rattle.overflow_check.specs.FastController.{with_last_version}
+use Rattle.overflow_check.specs.declared.machine.Machine.TheVariants.{Plain}
+use Rattle.overflow_check.proofs.Machines.{shared}
 use Rattle.stay_check.proofs.StayLaws.{product_le-max}
 use Rattle.settle_check.specs.Still.{Box, LiesInBox, greatest_over, greatest_less, fraction_unit, still_coefficient, still_sum, IsStill, still_entry, StillLaw}
 use Rattle.settle_check.proofs.FloorLaws.{floor-le, floor_scaled}
@@ -56,9 +59,14 @@ entry_is c xi l h j inside =
         let w : x *ℤ pos p +ℤ r ≡ x *ℤ pos p = omega (arith, ints, f) in
         rw (w, g) (ap neg_ℤ (floor_scaled x d p h k))
 
+-- ---- shapes and ranges
+-- a controller of the plain machine has those of all versions
+pub plain_sized : (c : Numbers) → IsSized c → IsSized (with_last_version c)
+plain_sized c sized = shared Plain c sized
+
 -- ---- lists by index
 -- a plan has the inputs of a stage
-pub first_inputs : (c : Numbers) (n : ℕ) → IsSized c → n ≡ c.inputs → n ≤ plan_length c
+pub first_inputs : (c : Numbers) (n : ℕ) → IsSized (with_last_version c) → n ≡ c.inputs → n ≤ plan_length c
 first_inputs c n sized e = omega (arith, e, mul-le c.inputs 1 c.inputs c.stages (le_refl c.inputs) sized.stages.0)
 
 row_long : (m : Matrix) (h w i : ℕ) → HasShape m h w → i < h → length (row_of m i) ≡ w
@@ -105,7 +113,7 @@ entry_rest g s p t x F h e =
     spread : (g u s p t F m x : ℤ) → x ≡ s *ℤ p → (g *ℤ (F *ℤ u +ℤ (x +ℤ t *ℤ F))) ≤ℤ (F *ℤ m) → (F *ℤ (g *ℤ u) +ℤ s *ℤ (g *ℤ p)) ≤ℤ (F *ℤ (m -ℤ g *ℤ t))
     spread g u s p t F m x e h = le_by (rw e at h) (by_ring (g ∷ u ∷ s ∷ p ∷ t ∷ F ∷ m ∷ []) (search quotes depth 60 fits 20000) refl)
 
-pub plan_most : (c : Numbers) (xi : List ℤ) (m : ℕ) (g : ℕ → ℤ) → IsSized c → length xi ≡ c.states → m ≤ plan_length c →
+pub plan_most : (c : Numbers) (xi : List ℤ) (m : ℕ) (g : ℕ → ℤ) → IsSized (with_last_version c) → length xi ≡ c.states → m ≤ plan_length c →
     (pos (fraction_unit c) *ℤ dot m g (still_entry c xi)) ≤ℤ
     (pos (fraction_unit c) *ℤ greatest_less m g (at c.offsets)
     -ℤ pos (2 ^ (c.fraction_bits - c.grid_bits)) *ℤ dot c.states (coimage m (entry_of c.state_gains) g) (at xi))
@@ -126,7 +134,7 @@ plan_most c xi m g sized long small =
 
 -- ---- no multiplier moves
 -- F times a row's residual is at most the tested sum
-row_most : (c : Numbers) (z : Box) (xi : List ℤ) (plan : List ℤ) (i : ℕ) → IsSized c → length xi ≡ c.states → LiesInBox c.states z (at xi) → i < c.rows →
+pub row_most : (c : Numbers) (z : Box) (xi : List ℤ) (plan : List ℤ) (i : ℕ) → IsSized (with_last_version c) → length xi ≡ c.states → LiesInBox c.states z (at xi) → i < c.rows →
     length plan ≡ plan_length c → ((j : ℕ) → j < plan_length c → at plan j ≡ still_entry c xi j) →
     (pos (fraction_unit c) *ℤ row_sum c (loaded c xi) plan i) ≤ℤ still_sum c z i
 row_most c z xi plan i sized long inside l planned entries =
@@ -146,16 +154,10 @@ row_most c z xi plan i sized long inside l planned entries =
     summed F s b g u e x v y k top p q h m r =
         rw (p, q) (le_by (add-le-add_z h (rw r at m)) (by_ring (F ∷ s ∷ b ∷ u ∷ x ∷ v ∷ y ∷ top ∷ []) (search quotes depth 60 fits 20000) refl))
 
--- a multiplier that is 0 stays so where the residual is below 1
-stays_zero : (top old r : ℤ) (F : ℕ) (s : ℤ) → pos 0 ≤ℤ top → old ≡ pos 0 → 0 < F → (pos F *ℤ r) ≤ℤ s → s <ℤ (pos F *ℤ pos F) →
-    int_min top (int_max (old +ℤ floor_of r F) (pos 0)) ≡ pos 0
-stays_zero top old r F s h e p m l =
-    let low = floor-le (pos 0) r F p (below r s (pos F) (omega (arith, ints)) m l) in
-    clamp top old (floor_of r F) h e low
+-- a residual below 1 is rounded down to at most 0
+pub floor_low : (r : ℤ) (F : ℕ) (s : ℤ) → 0 < F → (pos F *ℤ r) ≤ℤ s → s <ℤ (pos F *ℤ pos F) → floor_of r F ≤ℤ pos 0
+floor_low r F s p m l = floor-le (pos 0) r F p (below r s (pos F) (omega (arith, ints)) m l)
   where
-    clamp : (top old q : ℤ) → pos 0 ≤ℤ top → old ≡ pos 0 → q ≤ℤ pos 0 → int_min top (int_max (old +ℤ q) (pos 0)) ≡ pos 0
-    clamp top old q h e l = omega (arith, ints, clamps, e)
-
     clash : (a b s : ℤ) → a ≤ℤ b → b ≤ℤ s → s <ℤ a → ⊥
     clash a b s h k l = omega (arith, ints)
 
@@ -164,12 +166,22 @@ stays_zero top old r F s h e p m l =
         (λ l. lt_by l (by_ring (r ∷ F ∷ []) (search quotes depth 60 fits 20000) refl))
         (λ l. absurd (clash (F *ℤ F) (F *ℤ r) s (mul-le-mul_left_z F (le_of_lt_z p) l) h k))
 
-module _ (c : Numbers) (z : Box) (sized : IsSized c) (still : IsStill c z) (xi : List ℤ) (long : length xi ≡ c.states) (inside : LiesInBox c.states z (at xi)) where
-  plan_at : (l : List ℤ) → ((i : ℕ) → at l i ≡ pos 0) → (j : ℕ) → j < plan_length c → at (plan_of c (loaded c xi) (raised c l)) j ≡ still_entry c xi j
+-- so a multiplier that is 0 stays so
+stays_zero : (top old q : ℤ) → pos 0 ≤ℤ top → old ≡ pos 0 → q ≤ℤ pos 0 → int_min top (int_max (old +ℤ q) (pos 0)) ≡ pos 0
+stays_zero top old q h e l = omega (arith, ints, clamps, e)
+
+module _ (c : Numbers) (z : Box) (sized : IsSized (with_last_version c)) (still : IsStill c z) (xi : List ℤ) (long : length xi ≡ c.states) (inside : LiesInBox c.states z (at xi)) where
+  pub plan_at : (l : List ℤ) → ((i : ℕ) → at l i ≡ pos 0) → (j : ℕ) → j < plan_length c → at (plan_of c (loaded c xi) (raised c l)) j ≡ still_entry c xi j
   plan_at l h j o = entry_is c xi l h j (omega (arith, o, sized.shaped.offsets))
 
-  plan_long : (l : List ℤ) → length (plan_of c (loaded c xi) (raised c l)) ≡ plan_length c
+  pub plan_long : (l : List ℤ) → length (plan_of c (loaded c xi) (raised c l)) ≡ plan_length c
   plan_long l = length-map-range_with_len (plan_entry c (loaded c xi) (raised c l)) 0 (length c.offsets) ∙ sized.shaped.offsets
+
+  -- under the plan of multipliers that are all 0
+  pub residual_low : (l : List ℤ) → ((i : ℕ) → at l i ≡ pos 0) → (i : ℕ) → i < c.rows → floor_of (row_sum c (loaded c xi) (plan_of c (loaded c xi) (raised c l)) i) (fraction_unit c) ≤ℤ pos 0
+  residual_low l zeros i row =
+      floor_low (row_sum c (loaded c xi) (plan_of c (loaded c xi) (raised c l)) i) (fraction_unit c) (still_sum c z i) (pow_pos c.fraction_bits)
+      (row_most c z xi (plan_of c (loaded c xi) (raised c l)) i sized long inside row (plan_long l) (plan_at l zeros)) (still i row)
 
   no_multiplier : (k i : ℕ) → at (after c (loaded c xi) k).multipliers i ≡ pos 0
   unfolding after
@@ -181,8 +193,7 @@ module _ (c : Numbers) (z : Box) (sized : IsSized c) (still : IsStill c z) (xi :
       elim (cases_lt i (length c.bounds)) [
         | inl lt ↦ (let row : i < c.rows = omega (arith, lt, sized.shaped.bounds) in
             get_or-map-range_with_len next 0 (length c.bounds) i i (pos 0) lt (omega arith)
-            ∙ stays_zero (top_of c i) (at old i) (row_sum c (loaded c xi) plan i) (fraction_unit c) (still_sum c z i) (top_nonneg c i sized.clamp_low) (no_multiplier k i) (pow_pos c.fraction_bits)
-            (row_most c z xi plan i sized long inside row (plan_long old) (plan_at old (no_multiplier k))) (still i row))
+            ∙ stays_zero (top_of c i) (at old i) _ (top_nonneg c i sized.clamp_low) (no_multiplier k i) (residual_low old (no_multiplier k) i row))
         | inr le ↦ get_or_past (after c (loaded c xi) (suc k)).multipliers i (pos 0) (omega (arith, length-map-range_with_len next 0 (length c.bounds), le))
       ]
 

@@ -7,6 +7,7 @@ use Rattle.mat_int.specs.Matrix.{entry_of}
 use Rattle.qp_model.specs.problem.Design.{Design}
 use Rattle.qp_model.specs.machine.Controller.{Numbers, IsSized}
 use Rattle.qp_model.specs.machine.Successor.{IsFor}
+use Rattle.overflow_check.specs.FastController.{with_last_version}
 use Rattle.stay_check.specs.LoopStay.{shifted_successor}
 use Rattle.settle_check.specs.Still.{Box, LiesInBox, greatest_over, greatest_less, fraction_unit, IsStill}
 
@@ -56,10 +57,10 @@ turn_adds d c z shifts row next =
     +ℤ greatest_over d.states shifts row
 
 -- ---- the law of a turn
--- a controller in form for the plant
+-- a controller in form for the plant, of any version
 pub record IsLoopFor (d : Design) (c : Numbers) : Type 0 where
   pub plant : 1 ≤ d.plant_denominator
-  pub sized : IsSized c
+  pub sized : IsSized (with_last_version c)
   pub sizes : IsFor c d
 
 -- for any two whole rows: what the next state has of the first is at most what the state has of the second, and what the turn adds

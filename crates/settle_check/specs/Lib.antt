@@ -12,3 +12,5 @@ pub mod Beyond
 pub mod Tubes
 pub mod Settles
 pub mod Worked
+-- what the contracts are stated in besides, which is handed on
+pub use Rattle.stay_check.specs as Stay

@@ -7,6 +7,8 @@ use Rattle.mat_int.specs.Row.{list_dot}
 use Rattle.mat_int.specs.Matrix.{row_of, entry_of}
 use Rattle.qp_model.specs.machine.Controller.{Numbers, plan_length, IsSized}
 use Rattle.qp_model.specs.machine.Machine.{loaded, after, averaged_plan}
+use Rattle.overflow_check.specs.FastMachine.{all_weights, fast_after, fast_plan}
+use Rattle.overflow_check.specs.FastController.{with_last_version}
 
 -- ---- boxes of whole numbers
 pub record Box : Type 0 where
@@ -64,6 +66,19 @@ pub record RunIsStill (c : Numbers) (xi : List ℤ) : Type 0 where
   pub plans : (k j : ℕ) → j < plan_length c → at (after c (loaded c xi) (suc k)).plan j ≡ still_entry c xi j
   pub average : (j : ℕ) → j < plan_length c → at (averaged_plan c xi) j ≡ pos c.steps *ℤ still_entry c xi j
 
--- for every controller in form, of either version
+-- for every controller in form, of any version
 abbrev pub StillLaw : Type 0
-StillLaw = (c : Numbers) (z : Box) → IsSized c → IsStill c z → (xi : List ℤ) → length xi ≡ c.states → LiesInBox c.states z (at xi) → RunIsStill c xi
+StillLaw = (c : Numbers) (z : Box) → IsSized (with_last_version c) → IsStill c z →
+    (xi : List ℤ) → length xi ≡ c.states → LiesInBox c.states z (at xi) → RunIsStill c xi
+
+-- the same of the accelerated machine, which moves the multipliers in their place by more, and the plan is made at means of them: so the averaged plan is the
+-- same plan, times what all steps weigh together
+pub record FastRunIsStill (c : Numbers) (xi : List ℤ) : Type 0 where
+  pub multipliers : (k i : ℕ) → at (fast_after c (loaded c xi) k).multipliers i ≡ pos 0
+  pub reached : (k i : ℕ) → at (fast_after c (loaded c xi) k).reached i ≡ pos 0
+  pub plans : (k j : ℕ) → j < plan_length c → at (fast_after c (loaded c xi) (suc k)).plan j ≡ still_entry c xi j
+  pub average : (j : ℕ) → j < plan_length c → at (fast_plan c xi) j ≡ pos (all_weights c.steps) *ℤ still_entry c xi j
+
+abbrev pub FastStillLaw : Type 0
+FastStillLaw = (c : Numbers) (z : Box) → IsSized (with_last_version c) → IsStill c z →
+    (xi : List ℤ) → length xi ≡ c.states → LiesInBox c.states z (at xi) → FastRunIsStill c xi

@@ -1,6 +1,7 @@
 // Whether no multiplier moves.
 ghost use Rattle.std.specs.Prelude.{◌≡◌, ℕ, ◌<◌, length, IfOk, IfErr, Err};
 ghost use Rattle.qp_model.specs.machine.Controller.{numbers, IsSized};
+ghost use Rattle.overflow_check.specs.FastController.{with_last_version};
 ghost use Rattle.settle_check.specs.Still.{box_of, IsStill};
 ghost use Rattle.settle_check.specs.declared.fault.SettleFault.{SettleFault};
 ghost use Rattle.settle_check.specs.Answers.{RowIsStill, IsRowFault, IsStillFault};
@@ -11,7 +12,7 @@ use qp_model::ControllerParts;
 
 // Of row `i`.
 fn test_row(c: &ControllerParts, low: &[i128], high: &[i128], i: usize) -> Result<(), SettleFault>
-    requires sized { IsSized (numbers c.now) }
+    requires sized { IsSized (with_last_version (numbers c.now)) }
     requires low { length low.now ≡ c.now.n }
     requires high { length high.now ≡ c.now.n }
     requires row { i < c.now.m }
@@ -35,7 +36,7 @@ fn test_row(c: &ControllerParts, low: &[i128], high: &[i128], i: usize) -> Resul
 
 // Of each row.
 fn test_rows(c: &ControllerParts, low: &[i128], high: &[i128]) -> Result<(), SettleFault>
-    requires sized { IsSized (numbers c.now) }
+    requires sized { IsSized (with_last_version (numbers c.now)) }
     requires low { length low.now ≡ c.now.n }
     requires high { length high.now ≡ c.now.n }
     ensures found { IfOk result (λ _. (i : ℕ) → i < c.now.m → RowIsStill (numbers c.now) (box_of low.now high.now) i) }
@@ -52,7 +53,7 @@ fn test_rows(c: &ControllerParts, low: &[i128], high: &[i128]) -> Result<(), Set
 /// # Errors
 /// For the rows in turn `TooWide` where a number of its test is above `2^126`, else `Moves` where its multiplier may move.
 pub fn test_still(c: &ControllerParts, low: &[i128], high: &[i128]) -> Result<(), SettleFault>
-    requires sized { IsSized (numbers c.now) }
+    requires sized { IsSized (with_last_version (numbers c.now)) }
     requires low { length low.now ≡ c.now.n }
     requires high { length high.now ≡ c.now.n }
     ensures still { IfOk result (λ _. IsStill (numbers c.now) (box_of low.now high.now)) }

@@ -2,6 +2,7 @@
 ghost use Rattle.std.specs.Prelude.{◌≡◌, length};
 ghost use Rattle.qp_model.specs.problem.Parts.{IsDesign, design_of};
 ghost use Rattle.qp_model.specs.machine.Controller.{numbers, IsSized};
+ghost use Rattle.overflow_check.specs.FastController.{with_last_version};
 ghost use Rattle.qp_model.specs.machine.Successor.{IsFor};
 
 use qp_model::{ControllerParts, DesignParts};
@@ -17,7 +18,7 @@ pub(crate) struct ClosedLoop<'a> {
     pub(crate) shift_low: &'a [i128],
     pub(crate) shift_high: &'a [i128],
     ghost design: { IsDesign parts.now },
-    ghost sized: { IsSized (numbers c.now) },
+    ghost sized: { IsSized (with_last_version (numbers c.now)) },
     ghost matched: { IsFor (numbers c.now) (design_of parts.now) },
     ghost lows: { length low.now ≡ parts.now.states },
     ghost highs: { length high.now ≡ parts.now.states },

@@ -1,5 +1,5 @@
 // What the definitions give, as the contract of a function with nothing to do.
-ghost use Rattle.settle_check.specs.Still.{StillLaw};
+ghost use Rattle.settle_check.specs.Still.{StillLaw, FastStillLaw};
 ghost use Rattle.settle_check.specs.ClosedRows.{RowLaw};
 ghost use Rattle.settle_check.specs.Tube.{TubeRowsLaw, TubeLaw};
 ghost use Rattle.settle_check.specs.Settling.{SettlingLaw, RowSettlingLaw, CertifiedSettlingLaw};
@@ -9,6 +9,11 @@ ghost use Rattle.settle_check.specs.Worked.{WorkedSettling};
 /// each plan is the one that these give.
 pub fn still_law()
     ensures { StillLaw }
+{}
+
+/// So it is in a run of the accelerated machine, and what was reached of the multipliers is 0 too: its averaged plan is the same.
+pub fn fast_still_law()
+    ensures { FastStillLaw }
 {}
 
 /// From there, what the plant's next state has of a whole row, with any shift between two lists, is at most what the state has of any other, and

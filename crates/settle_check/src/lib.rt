@@ -20,8 +20,8 @@ pub use certificate::{CertificateParts, Settled, StateBox};
 pub use check::test_still;
 pub use fault::SettleFault;
 pub use laws::{
-    certified_settling_law, row_law, row_settling_law, settling_law, still_law, tube_law,
-    worked_law,
+    certified_settling_law, fast_still_law, row_law, row_settling_law, settling_law, still_law,
+    tube_law, worked_law,
 };
 pub use settle::check_settling;
 pub use text::read_certificate;

@@ -5,6 +5,7 @@ ghost use Rattle.integer_algebra.specs.Sums.{at, total, coimage};
 ghost use Rattle.mat_int.specs.Matrix.{entry_of};
 ghost use Rattle.qp_model.specs.problem.Parts.{IsDesign, design_of};
 ghost use Rattle.qp_model.specs.machine.Controller.{numbers, IsSized};
+ghost use Rattle.overflow_check.specs.FastController.{with_last_version};
 ghost use Rattle.qp_model.specs.machine.Successor.{IsFor};
 ghost use Rattle.settle_check.specs.ClosedRows.{loop_matrix, loop_over, through_loop, left_of, turn_rest};
 ghost use Rattle.settle_check.specs.TurnSize.{feedback_size, loop_size, through_size, input_size, inputs_size, left_over_size, lefts_size, turn_rest_size, row_size};
@@ -18,7 +19,7 @@ use qp_model::{ControllerParts, DesignParts};
 // What coordinate `i` of the plant has of number `k` of the state through the inputs.
 fn feedback(parts: &DesignParts, c: &ControllerParts, i: usize, k: usize) -> Option<Counted>
     requires design { IsDesign parts.now }
-    requires sized { IsSized (numbers c.now) }
+    requires sized { IsSized (with_last_version (numbers c.now)) }
     requires matched { IsFor (numbers c.now) (design_of parts.now) }
     requires coordinate { i < parts.now.states }
     requires state { k < parts.now.states }
@@ -38,7 +39,7 @@ fn feedback(parts: &DesignParts, c: &ControllerParts, i: usize, k: usize) -> Opt
 // And what it has of it in all.
 fn loop_entry(parts: &DesignParts, c: &ControllerParts, i: usize, k: usize) -> Option<Counted>
     requires design { IsDesign parts.now }
-    requires sized { IsSized (numbers c.now) }
+    requires sized { IsSized (with_last_version (numbers c.now)) }
     requires matched { IsFor (numbers c.now) (design_of parts.now) }
     requires coordinate { i < parts.now.states }
     requires state { k < parts.now.states }
@@ -58,7 +59,7 @@ pub(crate) fn through_loop(
     k: usize,
 ) -> Option<Counted>
     requires design { IsDesign parts.now }
-    requires sized { IsSized (numbers c.now) }
+    requires sized { IsSized (with_last_version (numbers c.now)) }
     requires matched { IsFor (numbers c.now) (design_of parts.now) }
     requires row { length row.now ≡ parts.now.states }
     requires state { k < parts.now.states }
@@ -94,7 +95,7 @@ fn input_of_row(parts: &DesignParts, row: &[i128], l: usize) -> Option<Counted>
 /// What the floors and offsets of all inputs add to a row at most.
 pub(crate) fn inputs_less(parts: &DesignParts, c: &ControllerParts, row: &[i128]) -> Option<Counted>
     requires design { IsDesign parts.now }
-    requires sized { IsSized (numbers c.now) }
+    requires sized { IsSized (with_last_version (numbers c.now)) }
     requires matched { IsFor (numbers c.now) (design_of parts.now) }
     requires row { length row.now ≡ parts.now.states }
     ensures value { IfSome result (λ a. a.value ≡
@@ -113,7 +114,7 @@ pub(crate) fn inputs_less(parts: &DesignParts, c: &ControllerParts, row: &[i128]
 /// What rows are over: `plant_den * 2^f`.
 pub(crate) fn loop_over(parts: &DesignParts, c: &ControllerParts) -> i128
     requires design { IsDesign parts.now }
-    requires sized { IsSized (numbers c.now) }
+    requires sized { IsSized (with_last_version (numbers c.now)) }
     ensures value { result ≡ pos (loop_over (design_of parts.now) (numbers c.now)) }
     ensures positive { 1 ≤ loop_over (design_of parts.now) (numbers c.now) }
     ensures small { loop_over (design_of parts.now) (numbers c.now) ≤ 2 ^ 70 }
@@ -132,7 +133,7 @@ fn left_over(
     k: usize,
 ) -> Option<Counted>
     requires design { IsDesign parts.now }
-    requires sized { IsSized (numbers c.now) }
+    requires sized { IsSized (with_last_version (numbers c.now)) }
     requires matched { IsFor (numbers c.now) (design_of parts.now) }
     requires low { length low.now ≡ parts.now.states }
     requires high { length high.now ≡ parts.now.states }
@@ -160,7 +161,7 @@ pub(crate) fn lefts_over(
     next: &[i128],
 ) -> Option<Counted>
     requires design { IsDesign parts.now }
-    requires sized { IsSized (numbers c.now) }
+    requires sized { IsSized (with_last_version (numbers c.now)) }
     requires matched { IsFor (numbers c.now) (design_of parts.now) }
     requires low { length low.now ≡ parts.now.states }
     requires high { length high.now ≡ parts.now.states }
@@ -189,7 +190,7 @@ pub(crate) fn turn_rest(
     next: &[i128],
 ) -> Option<Counted>
     requires design { IsDesign parts.now }
-    requires sized { IsSized (numbers c.now) }
+    requires sized { IsSized (with_last_version (numbers c.now)) }
     requires matched { IsFor (numbers c.now) (design_of parts.now) }
     requires low { length low.now ≡ parts.now.states }
     requires high { length high.now ≡ parts.now.states }

@@ -3,6 +3,7 @@ ghost use Rattle.std.specs.Prelude.{◌≡◌, ◌⊎◌, ℕ, ◌-◌, ◌<◌,
 ghost use Rattle.qp_model.specs.problem.Parts.{IsDesign, design_of};
 ghost use Rattle.qp_model.specs.problem.Runs.{Holds};
 ghost use Rattle.qp_model.specs.machine.Controller.{numbers, IsSized};
+ghost use Rattle.overflow_check.specs.FastController.{with_last_version};
 ghost use Rattle.qp_model.specs.machine.Successor.{IsFor};
 ghost use Rattle.settle_check.specs.Still.{box_of, IsPartOf};
 ghost use Rattle.settle_check.specs.Settling.{hull, settled_box, told_rows, cost_box, LoopsSettle};
@@ -52,7 +53,7 @@ fn costs_from(alloc: Global, closed: &ClosedLoop, turns: u32) -> Result<StateBox
 
 // Whether the test of each row is computed within `2^126`.
 fn rows_have_room(c: &ControllerParts, still: &StateBox) -> bool
-    requires sized { IsSized (numbers c.now) }
+    requires sized { IsSized (with_last_version (numbers c.now)) }
     requires still { HasLength c.now.n still.now }
     ensures { IsTrue result ↔ RowsHaveRoom (numbers c.now) (state_box still.now) }
 {
@@ -135,7 +136,7 @@ fn test_tubes(
     there: &Tube,
     again: &Tube,
 ) -> Result<(), SettleFault>
-    requires sized { IsSized (numbers c.now) }
+    requires sized { IsSized (with_last_version (numbers c.now)) }
     requires certificate { IsCertificateFor c.now.n certificate.now }
     requires there { HasTurns c.now.n certificate.now.turns there.now }
     requires again { HasTurns c.now.n certificate.now.back again.now }
@@ -182,7 +183,8 @@ fn check_loop(
 
 /// Whether a certificate shows that every closed loop from its start box settles, under shifts of its states from `shift_low` to `shift_high` after each
 /// turn; and where: the least box that holds the box of rest and where loops from it lie before they are there again, and where the rows of the cost lie that
-/// the certificate tells, over `2^grid`.
+/// the certificate tells, over `2^grid`. The controller may be of any version: the loops are the plain machine's by its numbers, and where no multiplier moves
+/// the averaged plan of the accelerated one, and so the next state, is the same.
 ///
 /// # Errors
 /// `Memory`; `TooWide` where a number of the tests is above `2^126`; else for the rows in turn `Moves`; else `Unsettled`, of loops from the start box at the
@@ -197,7 +199,7 @@ pub fn check_settling(
     shift_high: &[i128],
 ) -> Result<Settled, SettleFault>
     requires design { IsDesign parts.now }
-    requires sized { IsSized (numbers c.now) }
+    requires sized { IsSized (with_last_version (numbers c.now)) }
     requires matched { IsFor (numbers c.now) (design_of parts.now) }
     requires certificate { IsCertificateFor parts.now.states certificate.now }
     requires inside { IsPartOf parts.now.states (box_of c.now.lo.items c.now.hi.items) (state_box certificate.now.still) }

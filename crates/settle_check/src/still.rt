@@ -3,6 +3,7 @@ ghost use Rattle.std.specs.Prelude.{◌≡◌, ◌↔◌, ◌<◌, ◌≤◌, �
 ghost use Rattle.integer_algebra.specs.Sums.{at, coimage};
 ghost use Rattle.mat_int.specs.Matrix.{entry_of};
 ghost use Rattle.qp_model.specs.machine.Controller.{numbers, plan_length, IsSized};
+ghost use Rattle.overflow_check.specs.FastController.{with_last_version};
 ghost use Rattle.settle_check.specs.Still.{box_of, greatest_over, greatest_less, still_coefficient, still_sum};
 ghost use Rattle.settle_check.specs.StillSize.{gains_size, still_coefficient_size, over_size, less_size, still_size};
 
@@ -28,7 +29,7 @@ pub(crate) fn power(bits: u32) -> Counted
 
 // What row `i` has of number `j` of the state through the plan.
 fn gains(c: &ControllerParts, i: usize, j: usize) -> Option<Counted>
-    requires sized { IsSized (numbers c.now) }
+    requires sized { IsSized (with_last_version (numbers c.now)) }
     requires row { i < c.now.m }
     requires state { j < c.now.n }
     ensures value { IfSome result (λ a. a.value ≡ coimage (plan_length (numbers c.now)) (entry_of c.now.p_mat) (entry_of c.now.g_mat i) j) }
@@ -46,7 +47,7 @@ fn gains(c: &ControllerParts, i: usize, j: usize) -> Option<Counted>
 
 // And together with its own.
 fn coefficient(c: &ControllerParts, i: usize, j: usize) -> Option<Counted>
-    requires sized { IsSized (numbers c.now) }
+    requires sized { IsSized (with_last_version (numbers c.now)) }
     requires row { i < c.now.m }
     requires state { j < c.now.n }
     ensures value { IfSome result (λ a. a.value ≡ still_coefficient (numbers c.now) i j) }
@@ -59,7 +60,7 @@ fn coefficient(c: &ControllerParts, i: usize, j: usize) -> Option<Counted>
 
 // Over the box from `low` to `high`.
 fn over_box(c: &ControllerParts, low: &[i128], high: &[i128], i: usize) -> Option<Counted>
-    requires sized { IsSized (numbers c.now) }
+    requires sized { IsSized (with_last_version (numbers c.now)) }
     requires low { length low.now ≡ c.now.n }
     requires high { length high.now ≡ c.now.n }
     requires row { i < c.now.m }
@@ -77,7 +78,7 @@ fn over_box(c: &ControllerParts, low: &[i128], high: &[i128], i: usize) -> Optio
 
 // What row `i` has of offsets and floors.
 fn less_offsets(c: &ControllerParts, i: usize) -> Option<Counted>
-    requires sized { IsSized (numbers c.now) }
+    requires sized { IsSized (with_last_version (numbers c.now)) }
     requires row { i < c.now.m }
     ensures value { IfSome result (λ a. a.value ≡ greatest_less (plan_length (numbers c.now)) (entry_of c.now.g_mat i) (at c.now.t.items)) }
     ensures size { IfSome result (λ a. a.size ≡ less_size (numbers c.now) i) }
@@ -98,7 +99,7 @@ pub(crate) fn still_sum(
     high: &[i128],
     i: usize,
 ) -> Option<Counted>
-    requires sized { IsSized (numbers c.now) }
+    requires sized { IsSized (with_last_version (numbers c.now)) }
     requires low { length low.now ≡ c.now.n }
     requires high { length high.now ≡ c.now.n }
     requires row { i < c.now.m }
