@@ -1,15 +1,16 @@
 // The files of a loop, one after the other.
 ghost use Rattle.std.specs.Prelude.{◌≡◌, ◌<◌, ◌^◌, length};
 ghost use Rattle.qp_model.specs.problem.Parts.{design_of};
-ghost use Rattle.qp_model.specs.machine.Controller.{numbers};
+ghost use Rattle.qp_model.specs.machine.Controller.{numbers, IsSized};
 ghost use Rattle.qp_model.specs.machine.Successor.{IsFor};
+ghost use Rattle.overflow_check.specs.FastController.{with_last_version};
 ghost use Rattle.controller_file.specs.AnyText.{any_numbers};
 ghost use Rattle.command_line.specs.Words.{IsLoop};
 ghost use Rattle.command_line.specs.Running.{Runs};
 ghost use Rattle.command_loop.specs.Loop.{loop_shifts, loop_states, loop_design};
 ghost use Rattle.command_loop.specs.Deeds.{loop_deeds};
 
-use crate::mismatch::mismatch_with;
+use crate::mismatch::mismatch_of;
 use crate::records::print_loops;
 use command_files::{read_any_controller_file, read_shifts_file, read_states_file};
 use command_line::Status;
@@ -19,9 +20,10 @@ use packed_rows::PackedRows;
 use qp_model::{ControllerParts, Design};
 use std::alloc::Global;
 
-// The numbers of a controller of either machine.
-fn parts_of(controller: &AnyController) -> &ControllerParts
-    ensures { numbers result.now ≡ any_numbers controller.now }
+// The numbers of a controller of either machine, in form but for words and width.
+pub fn parts_of(controller: &AnyController) -> &ControllerParts
+    ensures value { numbers result.now ≡ any_numbers controller.now }
+    ensures sized { IsSized (with_last_version (numbers result.now)) }
 {
     match controller {
         AnyController::Plain(controller) => controller.parts(),
@@ -103,7 +105,7 @@ pub fn run_design<S: Store, O: Sink>(
         Ok(controller) => controller,
         Err(ended) => return ended,
     };
-    match mismatch_with(design, parts_of(&controller)) {
+    match mismatch_of(design, parts_of(&controller)) {
         Some(status) => status,
         None => run_controller(
             alloc,

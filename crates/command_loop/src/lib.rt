@@ -8,6 +8,8 @@ mod records;
 
 pub use command::run_loops;
 // What reads a design and a controller for it is handed on: a crate above that names fewer others is stamped on fewer paths.
-pub use command_design_files::{FILE_LIMIT, read_bytes, read_design_file, told_text};
-pub use command_files::{read_controller_file, read_range_file};
+pub use command_design_files::{FILE_LIMIT, read_asked_file, read_bytes, told_text};
+pub use command_files::{read_any_controller_file, read_range_file};
+pub use controller_file::AnyController;
+pub use files::parts_of;
 pub use mismatch::mismatch_of;

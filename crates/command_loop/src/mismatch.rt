@@ -6,11 +6,10 @@ ghost use Rattle.qp_model.specs.machine.Successor.{IsFor};
 ghost use Rattle.command_loop.specs.Loop.{IsMismatch};
 
 use command_line::{Field, Status};
-use overflow_check::Controller;
 use qp_model::{ControllerParts, Design};
 
 // The status that tells the first of states, inputs and grid in which they differ; none where the controller is for the design.
-pub fn mismatch_with(design: &Design, c: &ControllerParts) -> Option<Status>
+pub fn mismatch_of(design: &Design, c: &ControllerParts) -> Option<Status>
     ensures { MatchOption result (IsFor (numbers c.now) (design_of design.now)) (λ status. IsMismatch (design_of design.now) (numbers c.now) status) }
 {
     let d = design.parts();
@@ -36,11 +35,4 @@ pub fn mismatch_with(design: &Design, c: &ControllerParts) -> Option<Status>
         });
     }
     None
-}
-
-// That of a controller of the plain machine.
-pub fn mismatch_of(design: &Design, controller: &Controller) -> Option<Status>
-    ensures { MatchOption result (IsFor controller.now (design_of design.now)) (λ status. IsMismatch (design_of design.now) controller.now status) }
-{
-    mismatch_with(design, controller.parts())
 }

@@ -75,7 +75,7 @@ fn answer<S: Store, O: Sink>(
 /// the closed loop stays in the box. `split`, a design file, a file of cuts, a file of policies, a file of cells and a report file: does what `generate` does
 /// for each cell of the design's box that the cuts make and that has a policy. `serve`, a file of cells and a states file: prints a line for each state, the averaged plan of
 /// the first cell's controller whose box holds it. `c`, a controller file, a name, a source file and a header file: writes the controller's program in C,
-/// whose functions have that name. `settle`, a design file, a controller file and a certificate file, and one of a range of disturbances or
+/// whose functions have that name. `settle`, a design file and a controller file, of any version, and a certificate file, and one of a range of disturbances or
 /// none: prints the turn from which every closed loop from the certificate's start box lies in a small box for good, and that box.
 pub fn run<S: Store, O: Sink>(alloc: Global, words: &Words, store: &mut S, out: &mut O) -> Status
     // Where `generate` answers `Done`, the controller's file holds the text of one controller and the report's file the report of its bounds, both

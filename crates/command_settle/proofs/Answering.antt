@@ -5,26 +5,27 @@ use Rattle.io_edge.specs.Faults.{Rose, GrowsByPart}
 use Rattle.io_edge.specs.declared.sink.Sink.{Ghosts as Screen}
 use Rattle.mat_int.specs.Matrix.{Matrix}
 use Rattle.qp_model.specs.problem.Design.{Design}
-use Rattle.qp_model.specs.problem.Parts.{design_numbers, design_of}
+use Rattle.qp_model.specs.problem.Parts.{design_of}
 use Rattle.qp_model.specs.machine.Controller.{Numbers}
-use Rattle.qp_model.specs.declared.design_parts.DesignParts.{DesignParts}
-use Rattle.settle_check.specs.Settling.{LoopsSettle}
 use Rattle.settle_check.specs.Settles.{PassesSettling}
 use Rattle.settle_check.specs.CertificateText.{CertificateNumbers, certificate_in}
-use Rattle.command_line.specs.Limit.{file_limit}
-use Rattle.command_line.specs.Answers.{Contents, IsFileRefused, IsAnswer, IsCaused}
+use Rattle.command_line.specs.Answers.{Contents, IsAnswer, IsCaused}
 use Rattle.command_line.specs.Script.{ends, calls_of}
 use Rattle.command_line.specs.Does.{Prints}
-use Rattle.command_line.proofs.Doing.{IsRefusal}
 use Rattle.command_line.proofs.Gathering.{IsSound, whole}
-use Rattle.command_line.proofs.Following.{IsSoundWork, nothing_printed}
+use Rattle.command_line.proofs.Following.{IsSoundWork}
 use Rattle.command_line.specs.declared.status.Status.{Status}
-use Rattle.command_line.specs.declared.status.Status.TheVariants.{Done, Memory, ReadFault, WriteFault}
+use Rattle.command_line.specs.declared.status.Status.TheVariants.{Done, ReadFault, WriteFault}
+use Rattle.design_files.specs.declared.places.Asked.{Asked}
+use Rattle.command_loop.specs.ControllerFile.AnyText.{any_numbers}
+use Rattle.command_loop.specs.ControllerFile.declared.any_controller.AnyController.{AnyController}
+use Rattle.command_loop.specs.DesignFiles.Reading.{AskedNumbers, asked_numbers}
 use Rattle.command_loop.proofs.Answering.{mismatch_test}
 use Rattle.command_loop.proofs.CommandFiles.Stopping.{controllers_refused}
 use Rattle.command_loop.proofs.DesignFiles.Designs.{same_design}
 use Rattle.command_loop.proofs.DesignFiles.Stopping.{text_refused}
 use Rattle.command_settle.specs.Disturbances.{no_disturbances}
+use Rattle.command_settle.specs.Loops.{LoopsSettleOf}
 use Rattle.command_settle.specs.Settle.{CertificateCalls, range_box, told_text, SettlingPrints, settle_act, settle_range, settle_controller, settle_design}
 use Rattle.command_settle.specs.Files.{IsUntold, SettlingEnds}
 use Rattle.command_settle.specs.Deeds.{settle_work, settle_deeds}
@@ -37,14 +38,14 @@ quietly s old new done fault (inr (inl is)) = absurd (fault is)
 quietly s old new done fault (inr (inr same)) = same
 
 -- ---- the script
-range_sound : (disturbed : Bool) (d : Design) (c : Numbers) (f : CertificateNumbers) → IsSound 4 (settle_range disturbed d c f)
-range_sound true d c f = (omega arith, text_refused 4, whole (λ range. ends (settle_act d c f range)), calls_telling d c f)
-range_sound false d c f = calls_telling d c f (no_disturbances c.states)
+range_sound : (disturbed : Bool) (d : Design) (k : AnyController) (f : CertificateNumbers) → IsSound 4 (settle_range disturbed d k f)
+range_sound true d k f = (omega arith, text_refused 4, whole (λ range. ends (settle_act d k f range)), calls_telling d (any_numbers k) f)
+range_sound false d k f = calls_telling d (any_numbers k) f (no_disturbances (any_numbers k).states)
 
 -- a design is known by its numbers
-sees : (disturbed : Bool) (q p : DesignParts) → design_numbers q ≡ design_numbers p → (k : Contents) (s : Status) → calls_of (settle_design disturbed (design_of q)) k s →
-    calls_of (settle_design disturbed (design_of p)) k s
-sees disturbed q p same k s = subst (λ (d : Design). calls_of (settle_design disturbed d) k s) (same_design q p same)
+sees : (disturbed : Bool) (q p : Asked) → asked_numbers q ≡ asked_numbers p → (k : Contents) (s : Status) → calls_of (settle_design disturbed (design_of q.design)) k s →
+    calls_of (settle_design disturbed (design_of p.design)) k s
+sees disturbed q p same k s = subst (λ (d : Design). calls_of (settle_design disturbed d) k s) (same_design q.design p.design (ap (λ (a : AskedNumbers). a.design) same))
 
 pub settle_sound : (disturbed : Bool) → IsSoundWork (settle_work disturbed)
 settle_sound disturbed = record {
@@ -52,18 +53,21 @@ settle_sound disturbed = record {
     omega arith,
     text_refused 1,
     sees disturbed,
-    λ p. (
+    λ a. (
       omega arith,
       controllers_refused 2,
-      whole (settle_controller disturbed (design_of p)),
-      λ c. (mismatch_test (design_of p) c, (omega arith, text_refused 3, whole (settle_range disturbed (design_of p) c), range_sound disturbed (design_of p) c)),
+      whole (settle_controller disturbed (design_of a.design)),
+      λ k. (mismatch_test (design_of a.design) (any_numbers k), (omega arith, text_refused 3, whole (settle_range disturbed (design_of a.design) k), range_sound disturbed (design_of a.design) k)),
     ),
   );
   first = inl refl;
 }
 
 -- ---- all files are right
-module _ (d : Design) (c : Numbers) (f : CertificateNumbers) (range : Matrix) (s : Status) where
+module _ (d : Design) (k : AnyController) (f : CertificateNumbers) (range : Matrix) (s : Status) where
+  abbrev c : Numbers
+  c = any_numbers k
+
   called : SettlingEnds d c f range s → IsCaused s → IsAnswer (CertificateCalls d c f range) s
   called (inl memory) caused = absurd (caused.memory memory)
   called (inr (inl cut)) caused = absurd (caused.write 0 cut.0)
@@ -86,8 +90,8 @@ module _ (d : Design) (c : Numbers) (f : CertificateNumbers) (range : Matrix) (s
   started (inr (inr answer)) file is = absurd ((no_fault file answer.called).1 is)
 
   pub settled_printed : {O : Type 0} (screen : Screen O) (disturbed : Bool) (out now : O) → SettlingEnds d c f range s →
-      IfSome (screen.got out) (λ old. IsSomeAnd (screen.got now) (SettlingPrints d c f range s old)) → (s ≡ Done) ⊎ ((s ≡ WriteFault 0) ⊎ (now ≡ out)) →
-      (s ≡ WriteFault 0 → Rose (screen.faults out) (screen.faults now)) → screen.faults out ≤ screen.faults now → Prints screen (settle_deeds disturbed) out now s (settle_act d c f range)
+      IfSome (screen.got out) (λ old. IsSomeAnd (screen.got now) (SettlingPrints d k f range s old)) → (s ≡ Done) ⊎ ((s ≡ WriteFault 0) ⊎ (now ≡ out)) →
+      (s ≡ WriteFault 0 → Rose (screen.faults out) (screen.faults now)) → screen.faults out ≤ screen.faults now → Prints screen (settle_deeds disturbed) out now s (settle_act d k f range)
   settled_printed screen disturbed out now end printed quiet failed no_fewer = record {
     called = called end;
     read_fault = no_read end;
@@ -97,29 +101,25 @@ module _ (d : Design) (c : Numbers) (f : CertificateNumbers) (range : Matrix) (s
     no_fewer = no_fewer;
   }
 
--- no memory for the range
-pub none_printed : {O : Type 0} (screen : Screen O) (disturbed : Bool) (d : Design) (c : Numbers) (f : CertificateNumbers) (range : Matrix) (out : O) →
-    Prints screen (settle_deeds disturbed) out out Memory (settle_act d c f range)
-none_printed screen disturbed d c f range out =
-    nothing_printed (λ caused. absurd (caused.memory refl)) (λ file e. cc) (λ file e. cc)
-    (λ old. record { done = λ e. absurd (let never : ⊥ = cc in never); fault = λ e. absurd (let never : ⊥ = cc in never); other = λ a b. refl })
-
 -- ---- the text is put
-module _ (d : Design) (c : Numbers) (f : CertificateNumbers) (range : Matrix) (s : Status) where
-  module _ (bytes : List ℕ) (text : bytes ≡ told_text d c f range) (settles : LoopsSettle d c (range_box range) (certificate_in f))
-      (passes : PassesSettling d c (range_box range) (certificate_in f)) (answer : IsAnswer (CertificateCalls d c f range) Done) where
-    pub put_ends : (s ≡ Done) ⊎ (s ≡ WriteFault 0) → SettlingEnds d c f range s
-    put_ends (inl is) = inr (inr (subst (λ (t : Status). IsAnswer (CertificateCalls d c f range) t) (sym is) answer))
+module _ (d : Design) (k : AnyController) (f : CertificateNumbers) (range : Matrix) (s : Status) where
+  abbrev told : Numbers
+  told = any_numbers k
+
+  module _ (bytes : List ℕ) (text : bytes ≡ told_text d told f range) (settles : LoopsSettleOf d k (range_box range) (certificate_in f))
+      (passes : PassesSettling d told (range_box range) (certificate_in f)) (answer : IsAnswer (CertificateCalls d told f range) Done) where
+    pub put_ends : (s ≡ Done) ⊎ (s ≡ WriteFault 0) → SettlingEnds d told f range s
+    put_ends (inl is) = inr (inr (subst (λ (t : Status). IsAnswer (CertificateCalls d told f range) t) (sym is) answer))
     put_ends (inr is) = inr (inl (is, passes))
 
-    all_put : (old new : List ℕ) → s ≡ Done → new ≡ old ++ bytes → SettlingPrints d c f range s old new
+    all_put : (old new : List ℕ) → s ≡ Done → new ≡ old ++ bytes → SettlingPrints d k f range s old new
     all_put old new is put = record {
       done = λ e. record { settles = settles; printed = put ∙ ap (λ (t : List ℕ). old ++ t) text };
       fault = λ e. absurd (let never : ⊥ = cc in never);
       other = λ a b. absurd (a is);
     }
 
-    part_put : (old new : List ℕ) → s ≡ WriteFault 0 → GrowsByPart old new bytes → SettlingPrints d c f range s old new
+    part_put : (old new : List ℕ) → s ≡ WriteFault 0 → GrowsByPart old new bytes → SettlingPrints d k f range s old new
     part_put old new is part = record {
       done = λ e. absurd (let never : ⊥ = cc in never);
       fault = λ e. subst (λ (t : List ℕ). GrowsByPart old new t) text part;
@@ -127,26 +127,26 @@ module _ (d : Design) (c : Numbers) (f : CertificateNumbers) (range : Matrix) (s
     }
 
     pub put_prints : (first last : Option (List ℕ)) → (s ≡ Done) ⊎ (s ≡ WriteFault 0) → (s ≡ Done → last ≡ option_map (λ old. old ++ bytes) first) →
-        (s ≡ WriteFault 0 → IfSome first (λ old. IsSomeAnd last (λ new. GrowsByPart old new bytes))) → IfSome first (λ old. IsSomeAnd last (SettlingPrints d c f range s old))
+        (s ≡ WriteFault 0 → IfSome first (λ old. IsSomeAnd last (λ new. GrowsByPart old new bytes))) → IfSome first (λ old. IsSomeAnd last (SettlingPrints d k f range s old))
     put_prints None last only done cut = tt
-    put_prints (Some old) last (inl is) done cut = subst (λ (o : Option (List ℕ)). IsSomeAnd o (SettlingPrints d c f range s old)) (sym (done is)) (all_put old (old ++ bytes) is refl)
+    put_prints (Some old) last (inl is) done cut = subst (λ (o : Option (List ℕ)). IsSomeAnd o (SettlingPrints d k f range s old)) (sym (done is)) (all_put old (old ++ bytes) is refl)
     put_prints (Some old) (Some new) (inr is) done cut = part_put old new is (cut is)
     put_prints (Some old) None (inr is) done cut = cut is
 
   -- or there is none
-  pub untold_ends : IsUntold d c f range s → SettlingEnds d c f range s
+  pub untold_ends : IsUntold d told f range s → SettlingEnds d told f range s
   untold_ends (inl memory) = inl memory
   untold_ends (inr answer) = inr (inr answer.0)
 
-  untold_done : IsUntold d c f range s → s ≢ Done
+  untold_done : IsUntold d told f range s → s ≢ Done
   untold_done (inl memory) is = cc
   untold_done (inr answer) is = answer.1.done is
 
-  untold_cut : IsUntold d c f range s → s ≢ WriteFault 0
+  untold_cut : IsUntold d told f range s → s ≢ WriteFault 0
   untold_cut (inl memory) is = cc
   untold_cut (inr answer) is = answer.1.write 0 is
 
-  pub untold_prints : (got : Option (List ℕ)) → IsUntold d c f range s → IfSome got (λ old. IsSomeAnd got (SettlingPrints d c f range s old))
+  pub untold_prints : (got : Option (List ℕ)) → IsUntold d told f range s → IfSome got (λ old. IsSomeAnd got (SettlingPrints d k f range s old))
   untold_prints None untold = tt
   untold_prints (Some old) untold = record {
     done = λ is. absurd (untold_done untold is);
@@ -154,7 +154,7 @@ module _ (d : Design) (c : Numbers) (f : CertificateNumbers) (range : Matrix) (s
     other = λ a b. refl;
   }
 
-  pub untold_fault : {R : Type 0} → IsUntold d c f range s → s ≡ WriteFault 0 → R
+  pub untold_fault : {R : Type 0} → IsUntold d told f range s → s ≡ WriteFault 0 → R
   untold_fault untold is = absurd (untold_cut untold is)
 
 -- what was put or not

@@ -11,7 +11,7 @@ use Rattle.command_line.specs.Answers.{IsAnswer}
 use Rattle.command_line.specs.Does.{IsTelling}
 use Rattle.command_line.proofs.Doing.{IsRefusal, done_telling, plain_refusal}
 use Rattle.command_line.specs.declared.status.Status.{Status}
-use Rattle.command_line.specs.declared.status.Status.TheVariants.{Done, Memory}
+use Rattle.command_line.specs.declared.status.Status.TheVariants.{Done}
 use Rattle.command_settle.specs.Settle.{settle_status, range_box, CertificateCalls}
 use Rattle.command_settle.specs.Files.{IsUncut, IsUntold}
 

@@ -6,11 +6,10 @@ use Rattle.qp_model.specs.problem.Design.{Design}
 use Rattle.qp_model.specs.problem.Parts.{design_of}
 use Rattle.qp_model.specs.machine.Controller.{Numbers}
 use Rattle.qp_model.specs.machine.Successor.{IsFor}
-use Rattle.qp_model.specs.declared.design_parts.DesignParts.{DesignParts}
 use Rattle.qp_model.specs.declared.quantity.Quantity.TheVariants as quantities
 use Rattle.qp_model.specs.declared.refusal.Refusal.TheVariants.{TooWide}
 use Rattle.settle_check.specs.Still.{Box, box_of}
-use Rattle.settle_check.specs.Settling.{LoopsSettle, settled_box, told_rows, cost_box}
+use Rattle.settle_check.specs.Settling.{settled_box, told_rows, cost_box}
 use Rattle.settle_check.specs.Settles.{PassesSettling, IsSettleFault}
 use Rattle.settle_check.specs.CertificateText.{CertificateNumbers, box_in, certificate_in}
 use Rattle.settle_check.specs.declared.fault.SettleFault.{SettleFault}
@@ -20,14 +19,18 @@ use Rattle.command_line.specs.Answers.{Contents, FileHolds}
 use Rattle.command_line.specs.Script.{Act, Script, ends, reads, tests, printing_act}
 use Rattle.command_line.specs.declared.status.Status.{Status}
 use Rattle.command_line.specs.declared.status.Status.TheVariants.{Done, Memory, WriteFault, Refused, Moves, Unsettled, NoReturn}
+use Rattle.design_files.specs.declared.places.Asked.{Asked}
 use Rattle.command_loop.specs.Loop.{IsMismatch}
-use Rattle.command_loop.specs.DesignFiles.Texts.{DesignRight}
-use Rattle.command_loop.specs.DesignFiles.Reading.{design_kind}
-use Rattle.command_loop.specs.CommandFiles.Texts.{ControllerRight}
-use Rattle.command_loop.specs.CommandFiles.Reading.{controller_kind, range_kind}
+use Rattle.command_loop.specs.ControllerFile.AnyText.{any_numbers}
+use Rattle.command_loop.specs.ControllerFile.declared.any_controller.AnyController.{AnyController}
+use Rattle.command_loop.specs.DesignFiles.Texts.{AskedRight}
+use Rattle.command_loop.specs.DesignFiles.Reading.{asked_kind}
+use Rattle.command_loop.specs.CommandFiles.Texts.{AnyControllerRight}
+use Rattle.command_loop.specs.CommandFiles.Reading.{any_controller_kind, range_kind}
 use Rattle.command_settle.specs.CertificateFile.{CertificateRight, certificate_kind}
 use Rattle.command_settle.specs.Disturbances.{no_disturbances, HoldsDisturbances}
 use Rattle.command_settle.specs.SettledText.{settled_text}
+use Rattle.command_settle.specs.Loops.{LoopsSettleOf}
 
 -- ---- the answer
 -- the status that tells why a certificate doesn't show that loops settle
@@ -49,22 +52,22 @@ CertificateCalls d c f range s =
     ((fault : SettleFault) × IsSettleFault d c (range_box range) (certificate_in f) fault × (s ≡ settle_status fault))
 
 -- ---- what the files hold
--- the first three: a design, a controller for it and a certificate
-pub record HoldsCertificate (design controller certificate : Option (List ℕ)) (p : DesignParts) (c : Numbers) (f : CertificateNumbers) : Type 0 where
-  pub design_right : FileHolds file_limit (DesignRight p) design
-  pub controller_right : FileHolds file_limit (ControllerRight c) controller
-  pub matched : IsFor c (design_of p)
-  pub certificate_right : FileHolds file_limit (CertificateRight c f) certificate
+-- the first three: a design and a controller for it, both of any version, and a certificate
+pub record HoldsCertificate (design controller certificate : Option (List ℕ)) (a : Asked) (k : AnyController) (f : CertificateNumbers) : Type 0 where
+  pub design_right : FileHolds file_limit (AskedRight a) design
+  pub controller_right : FileHolds file_limit (AnyControllerRight k) controller
+  pub matched : IsFor (any_numbers k) (design_of a.design)
+  pub certificate_right : FileHolds file_limit (CertificateRight (any_numbers k) f) certificate
 
 -- what the files hold, and of it this
-pub record OfCertificate (disturbed : Bool) (contents : Contents) (P : Design → Numbers → CertificateNumbers → (range : Matrix) → Type 0) : Type 0 where
-  pub p : DesignParts
-  pub c : Numbers
+pub record OfCertificate (disturbed : Bool) (contents : Contents) (P : Design → AnyController → CertificateNumbers → (range : Matrix) → Type 0) : Type 0 where
+  pub a : Asked
+  pub k : AnyController
   pub f : CertificateNumbers
   pub range : Matrix
-  pub holds : HoldsCertificate (contents 1) (contents 2) (contents 3) p c f
-  pub shifts : HoldsDisturbances disturbed c.states (contents 4) range
-  pub so : P (design_of p) c f range
+  pub holds : HoldsCertificate (contents 1) (contents 2) (contents 3) a k f
+  pub shifts : HoldsDisturbances disturbed (any_numbers k).states (contents 4) range
+  pub so : P (design_of a.design) k f range
 
 -- ---- what is printed
 -- the turn from which all loops lie in a box for good, and that box
@@ -80,34 +83,36 @@ told_text d c f range = settled_text f.turns d.states (told_box d c f range) f.a
 
 -- Every closed loop of the plant and the controller from the start box, under every list of shifts of the range, lies at each turn in the box where no
 -- multiplier moves, and from the printed turn on in the printed box; and what is printed of a row of the cost holds from the turn on that is printed with it.
-pub record IsToldSettled (d : Design) (c : Numbers) (f : CertificateNumbers) (range : Matrix) (old new : List ℕ) : Type 0 where
-  pub settles : LoopsSettle d c (range_box range) (certificate_in f)
-  pub printed : new ≡ old ++ told_text d c f range
+pub record IsToldSettled (d : Design) (k : AnyController) (f : CertificateNumbers) (range : Matrix) (old new : List ℕ) : Type 0 where
+  pub settles : LoopsSettleOf d k (range_box range) (certificate_in f)
+  pub printed : new ≡ old ++ told_text d (any_numbers k) f range
 
 -- what the output got, by the answer
-pub record SettlingPrints (d : Design) (c : Numbers) (f : CertificateNumbers) (range : Matrix) (s : Status) (old new : List ℕ) : Type 0 where
-  pub done : s ≡ Done → IsToldSettled d c f range old new
-  pub fault : s ≡ WriteFault 0 → GrowsByPart old new (told_text d c f range)
+pub record SettlingPrints (d : Design) (k : AnyController) (f : CertificateNumbers) (range : Matrix) (s : Status) (old new : List ℕ) : Type 0 where
+  pub done : s ≡ Done → IsToldSettled d k f range old new
+  pub fault : s ≡ WriteFault 0 → GrowsByPart old new (told_text d (any_numbers k) f range)
   pub other : s ≢ Done → s ≢ WriteFault 0 → new ≡ old
 
 -- ---- the files, one after the other
-abbrev pub settle_act : Design → Numbers → CertificateNumbers → (range : Matrix) → Act
-settle_act d c f range = printing_act (CertificateCalls d c f range) (PassesSettling d c (range_box range) (certificate_in f)) (SettlingPrints d c f range)
+abbrev pub settle_act : Design → AnyController → CertificateNumbers → (range : Matrix) → Act
+settle_act d k f range =
+    let c = any_numbers k in
+    printing_act (CertificateCalls d c f range) (PassesSettling d c (range_box range) (certificate_in f)) (SettlingPrints d k f range)
 
 -- the fourth has the range of the disturbances where there are any
-abbrev pub settle_range : (disturbed : Bool) → Design → Numbers → CertificateNumbers → Script
-settle_range true d c f = reads 4 (range_kind c.states) (λ range. ends (settle_act d c f range))
-settle_range false d c f = ends (settle_act d c f (no_disturbances c.states))
+abbrev pub settle_range : (disturbed : Bool) → Design → AnyController → CertificateNumbers → Script
+settle_range true d k f = reads 4 (range_kind (any_numbers k).states) (λ range. ends (settle_act d k f range))
+settle_range false d k f = ends (settle_act d k f (no_disturbances (any_numbers k).states))
 
-abbrev pub settle_certificate : (disturbed : Bool) → Design → Numbers → Script
-settle_certificate disturbed d c = reads 3 (certificate_kind c) (settle_range disturbed d c)
+abbrev pub settle_certificate : (disturbed : Bool) → Design → AnyController → Script
+settle_certificate disturbed d k = reads 3 (certificate_kind (any_numbers k)) (settle_range disturbed d k)
 
--- the second has a controller, which is for the design
-abbrev pub settle_controller : (disturbed : Bool) → Design → Numbers → Script
-settle_controller disturbed d c = tests (IsMismatch d c) (IsFor c d) (settle_certificate disturbed d c)
+-- the second has a controller, of either machine, which is for the design
+abbrev pub settle_controller : (disturbed : Bool) → Design → AnyController → Script
+settle_controller disturbed d k = tests (IsMismatch d (any_numbers k)) (IsFor (any_numbers k) d) (settle_certificate disturbed d k)
 
 abbrev pub settle_design : (disturbed : Bool) → Design → Script
-settle_design disturbed d = reads 2 controller_kind (settle_controller disturbed d)
+settle_design disturbed d = reads 2 any_controller_kind (settle_controller disturbed d)
 
 abbrev pub settle_script : (disturbed : Bool) → Script
-settle_script disturbed = reads 1 design_kind (λ p. settle_design disturbed (design_of p))
+settle_script disturbed = reads 1 asked_kind (λ a. settle_design disturbed (design_of a.design))

@@ -6,13 +6,13 @@ ghost use Rattle.number_text.specs.declared.text_fault.TextFault.TheVariants.{Me
 ghost use Rattle.settle_check.specs.Still.{box_of};
 ghost use Rattle.settle_check.specs.CertificateText.{CertificateNumbers, certificate_numbers, IsCertificateText, IsCertificateFault};
 ghost use Rattle.command_line.specs.Kind.{ReadsFile};
+ghost use Rattle.command_loop.specs.ControllerFile.AnyText.{any_numbers};
 ghost use Rattle.command_settle.specs.CertificateFile.{certificate_kind};
 
 use command_line::Status;
-use command_loop::{FILE_LIMIT, read_bytes, told_text};
+use command_loop::{AnyController, FILE_LIMIT, parts_of, read_bytes, told_text};
 use io_edge::Store;
 use number_text::TextFault;
-use overflow_check::Controller;
 use settle_check::{CertificateParts, read_certificate};
 use std::alloc::Global;
 
@@ -21,11 +21,11 @@ pub fn read_certificate_file<S: Store>(
     alloc: Global,
     file: u32,
     name: &str,
-    controller: &Controller,
+    controller: &AnyController,
     store: &mut S,
 ) -> Result<CertificateParts, Status>
-    ensures read { ReadsFile S.Store (certificate_kind controller.now) file name.now certificate_numbers result store.old store.new }
-    ensures sized { IfOk result (IsCertificateFor controller.now.states) }
+    ensures read { ReadsFile S.Store (certificate_kind (any_numbers controller.now)) file name.now certificate_numbers result store.old store.new }
+    ensures sized { IfOk result (IsCertificateFor (any_numbers controller.now).states) }
 {
     let bytes = read_bytes(alloc, FILE_LIMIT, file, name, store)?;
     told_text(file, certificate_for(alloc, &bytes, controller))
@@ -35,21 +35,21 @@ pub fn read_certificate_file<S: Store>(
 fn certificate_for(
     alloc: Global,
     bytes: &[u8],
-    controller: &Controller,
+    controller: &AnyController,
 ) -> Result<CertificateParts, TextFault>
     requires { length bytes.now < 2 ^ 32 }
     ensures found { IfOk result (λ p.
-        IsCertificateText bytes.now controller.now.states (box_of controller.now.low controller.now.high) (certificate_numbers p)) }
-    ensures sized { IfOk result (IsCertificateFor controller.now.states) }
+        IsCertificateText bytes.now (any_numbers controller.now).states (box_of (any_numbers controller.now).low (any_numbers controller.now).high) (certificate_numbers p)) }
+    ensures sized { IfOk result (IsCertificateFor (any_numbers controller.now).states) }
     ensures fault { IfErr result (λ e. (e ≡ Memory)
-        ⊎ IsCertificateFault bytes.now controller.now.states (box_of controller.now.low controller.now.high) e) }
+        ⊎ IsCertificateFault bytes.now (any_numbers controller.now).states (box_of (any_numbers controller.now).low (any_numbers controller.now).high) e) }
     ensures right { (f : CertificateNumbers)
-        → IsCertificateText bytes.now controller.now.states (box_of controller.now.low controller.now.high) f
+        → IsCertificateText bytes.now (any_numbers controller.now).states (box_of (any_numbers controller.now).low (any_numbers controller.now).high) f
         → MatchResult result (λ p. certificate_numbers p ≡ f) (λ e. e ≡ Memory) }
     ensures first { (told : TextFault)
-        → IsCertificateFault bytes.now controller.now.states (box_of controller.now.low controller.now.high) told
+        → IsCertificateFault bytes.now (any_numbers controller.now).states (box_of (any_numbers controller.now).low (any_numbers controller.now).high) told
         → MatchResult result (λ _. ⊥) (λ e. (e ≡ told) ⊎ (e ≡ Memory)) }
 {
-    let c = controller.parts();
+    let c = parts_of(controller);
     read_certificate(alloc, bytes, &c.lo, &c.hi)
 }

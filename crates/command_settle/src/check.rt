@@ -4,18 +4,20 @@ ghost use Rattle.qp_model.specs.problem.Parts.{design_of};
 ghost use Rattle.qp_model.specs.machine.Successor.{IsFor};
 ghost use Rattle.state_files.specs.RangeText.{IsShiftRange};
 ghost use Rattle.settle_check.specs.Still.{box_of, IsPartOf};
-ghost use Rattle.settle_check.specs.Settling.{LoopsSettle, told_rows};
+ghost use Rattle.settle_check.specs.Settling.{told_rows};
 ghost use Rattle.settle_check.specs.Settles.{PassesSettling};
 ghost use Rattle.settle_check.specs.Certificates.{state_box, IsCertificateFor, IsBoxOf};
 ghost use Rattle.settle_check.specs.CertificateText.{certificate_numbers, certificate_in};
 ghost use Rattle.command_line.specs.Answers.{IsAnswer};
+ghost use Rattle.command_loop.specs.ControllerFile.AnyText.{any_numbers};
 ghost use Rattle.command_settle.specs.Settle.{settle_status, range_box, CertificateCalls, told_box, told_costs, told_text};
 ghost use Rattle.command_settle.specs.Files.{IsUntold};
+ghost use Rattle.command_settle.specs.Loops.{LoopsSettleOf};
 
 use crate::lines::settled_text;
 use command_line::Status;
+use command_loop::{AnyController, parts_of};
 use mat_int::Mat;
-use overflow_check::Controller;
 use qp_model::{Design, Quantity, Refusal};
 use settle_check::{CertificateParts, SettleFault, Settled, check_settling};
 use std::alloc::Global;
@@ -57,27 +59,27 @@ fn settle_status(fault: SettleFault) -> Status
 fn box_settled(
     alloc: Global,
     design: &Design,
-    controller: &Controller,
+    controller: &AnyController,
     certificate: &CertificateParts,
     range: &Mat,
 ) -> Result<Settled, Status>
-    requires matched { IsFor controller.now (design_of design.now) }
-    requires certificate { IsCertificateFor controller.now.states certificate.now }
-    requires inside { IsPartOf controller.now.states (box_of controller.now.low controller.now.high) (state_box certificate.now.still) }
-    requires range { IsShiftRange controller.now.states range.now }
+    requires matched { IsFor (any_numbers controller.now) (design_of design.now) }
+    requires certificate { IsCertificateFor (any_numbers controller.now).states certificate.now }
+    requires inside { IsPartOf (any_numbers controller.now).states (box_of (any_numbers controller.now).low (any_numbers controller.now).high) (state_box certificate.now.still) }
+    requires range { IsShiftRange (any_numbers controller.now).states range.now }
     ensures rest { IfOk result (λ b. IsBoxOf (design_of design.now).states
-        (told_box (design_of design.now) controller.now (certificate_numbers certificate.now) range.now) b.rest) }
+        (told_box (design_of design.now) (any_numbers controller.now) (certificate_numbers certificate.now) range.now) b.rest) }
     ensures costs { IfOk result (λ b. IsBoxOf (told_rows (design_of design.now) certificate.now.after)
-        (told_costs (design_of design.now) controller.now (certificate_numbers certificate.now) range.now) b.costs) }
-    ensures settles { IfOk result (λ _. LoopsSettle (design_of design.now) controller.now
+        (told_costs (design_of design.now) (any_numbers controller.now) (certificate_numbers certificate.now) range.now) b.costs) }
+    ensures settles { IfOk result (λ _. LoopsSettleOf (design_of design.now) controller.now
         (range_box range.now) (certificate_in (certificate_numbers certificate.now))) }
-    ensures passes { IfOk result (λ _. PassesSettling (design_of design.now) controller.now
+    ensures passes { IfOk result (λ _. PassesSettling (design_of design.now) (any_numbers controller.now)
         (range_box range.now) (certificate_in (certificate_numbers certificate.now))) }
     ensures answer { IfOk result (λ _.
-        IsAnswer (CertificateCalls (design_of design.now) controller.now (certificate_numbers certificate.now) range.now) Status.Done) }
-    ensures ends { IfErr result (IsUntold (design_of design.now) controller.now (certificate_numbers certificate.now) range.now) }
+        IsAnswer (CertificateCalls (design_of design.now) (any_numbers controller.now) (certificate_numbers certificate.now) range.now) Status.Done) }
+    ensures ends { IfErr result (IsUntold (design_of design.now) (any_numbers controller.now) (certificate_numbers certificate.now) range.now) }
 {
-    let (d, c) = (design.parts(), controller.parts());
+    let (d, c) = (design.parts(), parts_of(controller));
     match check_settling(alloc, d, c, certificate, range.row(0), range.row(1)) {
         Ok(settled) => Ok(settled),
         Err(fault) => Err(settle_status(fault)),
@@ -88,22 +90,22 @@ fn box_settled(
 pub fn text_settled(
     alloc: Global,
     design: &Design,
-    controller: &Controller,
+    controller: &AnyController,
     certificate: &CertificateParts,
     range: &Mat,
 ) -> Result<Vec<u8>, Status>
-    requires matched { IsFor controller.now (design_of design.now) }
-    requires certificate { IsCertificateFor controller.now.states certificate.now }
-    requires inside { IsPartOf controller.now.states (box_of controller.now.low controller.now.high) (state_box certificate.now.still) }
-    requires range { IsShiftRange controller.now.states range.now }
-    ensures text { IfOk result (λ v. v.items ≡ told_text (design_of design.now) controller.now (certificate_numbers certificate.now) range.now) }
-    ensures settles { IfOk result (λ _. LoopsSettle (design_of design.now) controller.now
+    requires matched { IsFor (any_numbers controller.now) (design_of design.now) }
+    requires certificate { IsCertificateFor (any_numbers controller.now).states certificate.now }
+    requires inside { IsPartOf (any_numbers controller.now).states (box_of (any_numbers controller.now).low (any_numbers controller.now).high) (state_box certificate.now.still) }
+    requires range { IsShiftRange (any_numbers controller.now).states range.now }
+    ensures text { IfOk result (λ v. v.items ≡ told_text (design_of design.now) (any_numbers controller.now) (certificate_numbers certificate.now) range.now) }
+    ensures settles { IfOk result (λ _. LoopsSettleOf (design_of design.now) controller.now
         (range_box range.now) (certificate_in (certificate_numbers certificate.now))) }
-    ensures passes { IfOk result (λ _. PassesSettling (design_of design.now) controller.now
+    ensures passes { IfOk result (λ _. PassesSettling (design_of design.now) (any_numbers controller.now)
         (range_box range.now) (certificate_in (certificate_numbers certificate.now))) }
     ensures answer { IfOk result (λ _.
-        IsAnswer (CertificateCalls (design_of design.now) controller.now (certificate_numbers certificate.now) range.now) Status.Done) }
-    ensures ends { IfErr result (IsUntold (design_of design.now) controller.now (certificate_numbers certificate.now) range.now) }
+        IsAnswer (CertificateCalls (design_of design.now) (any_numbers controller.now) (certificate_numbers certificate.now) range.now) Status.Done) }
+    ensures ends { IfErr result (IsUntold (design_of design.now) (any_numbers controller.now) (certificate_numbers certificate.now) range.now) }
 {
     let settled = box_settled(alloc, design, controller, certificate, range)?;
     let text = settled_text(alloc, certificate.turns, certificate.after, &settled);

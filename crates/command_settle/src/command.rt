@@ -5,12 +5,12 @@ ghost use Rattle.command_settle.specs.Deeds.{settle_deeds};
 
 use crate::files::run_design;
 use command_line::Status;
-use command_loop::read_design_file;
+use command_loop::read_asked_file;
 use io_edge::{Sink, Store, Words};
 use std::alloc::Global;
 
 /// Prints the turn from which every closed loop of a design's plant and a controller for it, from a box of states and under every list of disturbances of a
-/// range, lies in a small box for good, and that box over `2^grid`: by a certificate. The first file has the design, the second the controller and the third
+/// range, lies in a small box for good, and that box over `2^grid`: by a certificate. The first file has the design and the second the controller, both of any version, and the third
 /// the certificate; where there are disturbances, the fourth has their range, and else there are none.
 pub fn settle<S: Store, O: Sink>(
     alloc: Global,
@@ -22,8 +22,8 @@ pub fn settle<S: Store, O: Sink>(
     requires { IsSettle words.now disturbed }
     ensures { Does S.Store O.Sink words.now (settle_deeds disturbed) store.old store.new out.old out.new result }
 {
-    match read_design_file(alloc, 1, words.at(1), store) {
-        Ok(design) => run_design(alloc, words, disturbed, &design, store, out),
+    match read_asked_file(alloc, 1, words.at(1), store) {
+        Ok(asked) => run_design(alloc, words, disturbed, &asked.design, store, out),
         Err(status) => status,
     }
 }

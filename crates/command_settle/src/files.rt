@@ -7,16 +7,18 @@ ghost use Rattle.settle_check.specs.Certificates.{state_box, IsCertificateFor};
 ghost use Rattle.settle_check.specs.CertificateText.{certificate_numbers};
 ghost use Rattle.command_line.specs.Words.{IsSettle};
 ghost use Rattle.command_line.specs.Running.{Runs};
+ghost use Rattle.command_loop.specs.ControllerFile.AnyText.{any_numbers};
 ghost use Rattle.command_settle.specs.Settle.{settle_range, settle_certificate, settle_design};
 ghost use Rattle.command_settle.specs.Deeds.{settle_deeds};
 
 use crate::certificate::read_certificate_file;
 use crate::printing::print_settled;
 use command_line::Status;
-use command_loop::{mismatch_of, read_controller_file, read_range_file};
+use command_loop::{
+    AnyController, mismatch_of, parts_of, read_any_controller_file, read_range_file,
+};
 use io_edge::{Sink, Store, Words};
 use mat_int::Mat;
-use overflow_check::Controller;
 use qp_model::Design;
 use settle_check::CertificateParts;
 use std::alloc::Global;
@@ -27,19 +29,19 @@ fn run_certificate<S: Store, O: Sink>(
     words: &Words,
     disturbed: bool,
     design: &Design,
-    controller: &Controller,
+    controller: &AnyController,
     certificate: &CertificateParts,
     store: &mut S,
     out: &mut O,
 ) -> Status
     requires words { IsSettle words.now disturbed }
-    requires matched { IsFor controller.now (design_of design.now) }
-    requires certificate { IsCertificateFor controller.now.states certificate.now }
-    requires inside { IsPartOf controller.now.states (box_of controller.now.low controller.now.high) (state_box certificate.now.still) }
+    requires matched { IsFor (any_numbers controller.now) (design_of design.now) }
+    requires certificate { IsCertificateFor (any_numbers controller.now).states certificate.now }
+    requires inside { IsPartOf (any_numbers controller.now).states (box_of (any_numbers controller.now).low (any_numbers controller.now).high) (state_box certificate.now.still) }
     ensures { Runs S.Store O.Sink words.now (settle_deeds disturbed) store.old store.new out.old out.new result
         (settle_range disturbed (design_of design.now) controller.now (certificate_numbers certificate.now)) }
 {
-    let n = controller.parts().n;
+    let n = parts_of(controller).n;
     if disturbed {
         match read_range_file(alloc, 4, words.at(4), n, store) {
             Ok(range) => print_settled(alloc, design, controller, certificate, &range, out),
@@ -59,12 +61,12 @@ fn run_controller<S: Store, O: Sink>(
     words: &Words,
     disturbed: bool,
     design: &Design,
-    controller: &Controller,
+    controller: &AnyController,
     store: &mut S,
     out: &mut O,
 ) -> Status
     requires words { IsSettle words.now disturbed }
-    requires matched { IsFor controller.now (design_of design.now) }
+    requires matched { IsFor (any_numbers controller.now) (design_of design.now) }
     ensures { Runs S.Store O.Sink words.now (settle_deeds disturbed) store.old store.new out.old out.new result
         (settle_certificate disturbed (design_of design.now) controller.now) }
 {
@@ -96,11 +98,11 @@ pub fn run_design<S: Store, O: Sink>(
     ensures { Runs S.Store O.Sink words.now (settle_deeds disturbed) store.old store.new out.old out.new result
         (settle_design disturbed (design_of design.now)) }
 {
-    let controller = match read_controller_file(alloc, 2, words.at(2), store) {
+    let controller = match read_any_controller_file(alloc, 2, words.at(2), store) {
         Ok(controller) => controller,
         Err(ended) => return ended,
     };
-    match mismatch_of(design, &controller) {
+    match mismatch_of(design, parts_of(&controller)) {
         Some(status) => status,
         None => run_controller(alloc, words, disturbed, design, &controller, store, out),
     }

@@ -7,14 +7,15 @@ ghost use Rattle.state_files.specs.RangeText.{IsShiftRange};
 ghost use Rattle.settle_check.specs.Still.{box_of, IsPartOf};
 ghost use Rattle.settle_check.specs.Certificates.{state_box, IsCertificateFor};
 ghost use Rattle.settle_check.specs.CertificateText.{certificate_numbers};
+ghost use Rattle.command_loop.specs.ControllerFile.AnyText.{any_numbers};
 ghost use Rattle.command_settle.specs.Settle.{SettlingPrints};
 ghost use Rattle.command_settle.specs.Files.{SettlingEnds};
 
 use crate::check::text_settled;
 use command_line::Status;
+use command_loop::AnyController;
 use io_edge::Sink;
 use mat_int::Mat;
-use overflow_check::Controller;
 use qp_model::Design;
 use settle_check::CertificateParts;
 use std::alloc::Global;
@@ -37,16 +38,16 @@ fn put_text<O: Sink>(text: &[u8], out: &mut O) -> Status
 pub fn print_settled<O: Sink>(
     alloc: Global,
     design: &Design,
-    controller: &Controller,
+    controller: &AnyController,
     certificate: &CertificateParts,
     range: &Mat,
     out: &mut O,
 ) -> Status
-    requires matched { IsFor controller.now (design_of design.now) }
-    requires certificate { IsCertificateFor controller.now.states certificate.now }
-    requires inside { IsPartOf controller.now.states (box_of controller.now.low controller.now.high) (state_box certificate.now.still) }
-    requires range { IsShiftRange controller.now.states range.now }
-    ensures ends { SettlingEnds (design_of design.now) controller.now (certificate_numbers certificate.now) range.now result }
+    requires matched { IsFor (any_numbers controller.now) (design_of design.now) }
+    requires certificate { IsCertificateFor (any_numbers controller.now).states certificate.now }
+    requires inside { IsPartOf (any_numbers controller.now).states (box_of (any_numbers controller.now).low (any_numbers controller.now).high) (state_box certificate.now.still) }
+    requires range { IsShiftRange (any_numbers controller.now).states range.now }
+    ensures ends { SettlingEnds (design_of design.now) (any_numbers controller.now) (certificate_numbers certificate.now) range.now result }
     ensures printed { IfSome (O.got out.old) (λ old. IsSomeAnd (O.got out.new)
         (SettlingPrints (design_of design.now) controller.now (certificate_numbers certificate.now) range.now result old)) }
     ensures quiet { (result ≡ Status.Done) ⊎ ((result ≡ Status.WriteFault 0) ⊎ (out.new ≡ out.old)) }

@@ -45,6 +45,27 @@ b 2048 2048
 end
 ";
 
+// The same numbers as a controller of the accelerated machine.
+const FAST_HALF: &str = "mpc-controller 3
+size 1 1 1 2
+bits 11 4 1 40
+steps 9
+clamp 65536
+words 9
+exps 1 0
+lo -40
+hi 40
+P 1024
+T 0
+W 512 -512
+G 2048
+G -2048
+E 0
+E 0
+b 2048 2048
+end
+";
+
 // Of two states, with a row on the first two numbers of the state, an offset and a box that is not symmetric.
 const SKEW: &str = "mpc-controller 2
 size 2 1 1 3
@@ -248,6 +269,45 @@ fn of_one_state(rt: HostRuntime) -> Result<(), Fail> {
     let design = of_one(rt.alloc())?;
     for row in &OF_ONE {
         assert!(rt; is_run(rt.alloc(), &design, HALF, row, &NONE)?);
+    }
+    Ok(())
+}
+
+// By either machine loops lie in the same boxes, and the same multipliers may move.
+static ACCELERATED: [(&str, &str, &str, &str, &str); 3] = [
+    (
+        SETTLE,
+        "5,-31,32\n3,-31,32\n1,-2,2\n",
+        "",
+        "",
+        "turn 5\nstate 1 -2 2\ncost 1 3 -4 4\n",
+    ),
+    (
+        SETTLE_UNDER,
+        "6,-31,32\n0,-31,32\n1,-4,4\n",
+        "-1\n1\n",
+        "",
+        "turn 6\nstate 1 -4 4\n",
+    ),
+    (
+        SETTLE,
+        "5,-32,32\n0,-32,32\n1,-2,2\n",
+        "",
+        "error 23 moves 1 4194304 4194304\n",
+        "",
+    ),
+];
+
+#[test]
+fn accelerated(rt: HostRuntime) -> Result<(), Fail> {
+    let design = changed(
+        rt.alloc(),
+        &of_one(rt.alloc())?,
+        "version = 1",
+        "version = 3",
+    )?;
+    for row in &ACCELERATED {
+        assert!(rt; is_run(rt.alloc(), &design, FAST_HALF, row, &NONE)?);
     }
     Ok(())
 }

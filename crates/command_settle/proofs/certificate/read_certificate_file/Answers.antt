@@ -2,6 +2,7 @@ use Rattle.settle_check.specs.Still.{box_of}
 use Rattle.settle_check.specs.CertificateText.{IsCertificateFault}
 use Rattle.command_line.proofs.Results.{err_same}
 use Rattle.command_loop.proofs.DesignFiles.Readers.{unread, read_text, still}
+use Rattle.command_loop.specs.ControllerFile.AnyText.{any_numbers}
 use Rattle.command_settle.specs.CertificateFile.{CertificateRight}
 use Rattle.command_settle.proofs.certificate.read_certificate_file.Goals as goal
 
@@ -11,7 +12,7 @@ returns-in_err-bytes g c =
 
 pub returns : goal.returns
 returns g c =
-    let n = c.args.controller.now in
+    let n = any_numbers c.args.controller.now in
     let got = c.in_ok-bytes.ensures in
     let is = rw c.deref.ensures.value at c.certificate_for.ensures in
     let p = c.certificate_for.result in

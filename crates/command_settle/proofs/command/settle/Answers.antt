@@ -5,7 +5,7 @@ use Rattle.command_settle.proofs.command.settle.Goals as goal
 
 pub returns-in-Err : goal.returns-in-Err
 returns-in-Err g c =
-    let did = c.read_design_file.ensures in
+    let did = c.read_asked_file.ensures in
     follows (settle_work c.args.disturbed) (settle_sound c.args.disturbed)
     (stopped did.passes (rw c.at.ensures at c.in-Err.ensures.ends))
 

@@ -7,7 +7,7 @@ use Rattle.command_settle.proofs.printing.print_settled.Goals as goal
 pub returns-in-Ok : goal.returns-in-Ok
 returns-in-Ok g c =
     let d = design_of c.args.design.now in
-    let n = c.args.controller.now in
+    let k = c.args.controller.now in
     let f = certificate_numbers c.args.certificate.now in
     let range = c.args.range.now in
     let told = c.in-Ok.ensures in
@@ -15,8 +15,8 @@ returns-in-Ok g c =
     let s = c.put_text.result in
     let bytes = c.in-Ok.text.items in
     record {
-      ends = put_ends d n f range s bytes told.text told.settles told.passes told.answer put.only;
-      printed = put_prints d n f range s bytes told.text told.settles told.passes told.answer (g.O.Sink.got c.args.out.now) (g.O.Sink.got c.put_text.new.out) put.only put.done put.cut;
+      ends = put_ends d k f range s bytes told.text told.settles told.passes told.answer put.only;
+      printed = put_prints d k f range s bytes told.text told.settles told.passes told.answer (g.O.Sink.got c.args.out.now) (g.O.Sink.got c.put_text.new.out) put.only put.done put.cut;
       quiet = put_or_not s put.only;
       failed = put.failed;
       no_fewer = put.no_fewer;
@@ -25,15 +25,15 @@ returns-in-Ok g c =
 pub returns-in-Err : goal.returns-in-Err
 returns-in-Err g c =
     let d = design_of c.args.design.now in
-    let n = c.args.controller.now in
+    let k = c.args.controller.now in
     let f = certificate_numbers c.args.certificate.now in
     let range = c.args.range.now in
     let s = c.in-Err.status in
     let ends = c.in-Err.ensures.ends in
     record {
-      ends = untold_ends d n f range s ends;
-      printed = untold_prints d n f range s (g.O.Sink.got c.args.out.now) ends;
+      ends = untold_ends d k f range s ends;
+      printed = untold_prints d k f range s (g.O.Sink.got c.args.out.now) ends;
       quiet = inr (inr refl);
-      failed = λ is. untold_fault d n f range s ends is;
+      failed = λ is. untold_fault d k f range s ends is;
       no_fewer = le_refl (g.O.Sink.faults c.args.out.now);
     }
