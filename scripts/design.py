@@ -69,8 +69,8 @@ RANGE, COVERED = "range.csv", "covered.toml"
 LEFT_THE_BOX = 12
 # version 3 is taken by itself where a run takes less than this part of the plain machine's cycles
 CHOSEN = 0.8
-# what is said where no certificate is found, of the plain machine and of the accelerated one
-UNSETTLED = ("no certificate was found that loops settle: what ./mpc settles says above is in the way", "that loops settle was not asked: `settle` reads controllers of versions 1 and 2")
+# what is said where no certificate is found
+UNSETTLED = "no certificate was found that loops settle: what ./mpc settles says above is in the way"
 
 
 @dataclass
@@ -224,7 +224,7 @@ def show(steps: Steps, model: str, given: Namespace) -> list[str]:
     elif left.status:
         raise Refusal(f"the loops ended with status {left.status}: what stands above says why", left.status)
     steps.must("exact_loop", design, states, str(given.turns), to=exact)
-    settled = [] if is_accelerated(read_design(design).version) else settle(steps, model)
+    settled = settle(steps, model)
     boxes = ["--settled", steps.path("settled.txt"), "--certificate", steps.path("settle.csv")] if settled else []
     if left.said:
         steps.must("plot", design, loop, exact, "--labels", "controller,exact", "--report", steps.path("report.txt"), *boxes, "--out", steps.path("loop.svg"))
@@ -305,7 +305,7 @@ def main() -> int:
     model = fitted(steps, covering(steps, given.model, given), given, stays)
     make(steps, model, given, stays)
     settled = show(steps, model, given)
-    print("\n".join(settled) or UNSETTLED[is_accelerated(read_design(steps.path("design.toml")).version)])
+    print("\n".join(settled) or UNSETTLED)
     print(f"in {time.monotonic() - began:.0f} s: {steps.path('report.html')} has it all on one page, and {steps.path('controller.txt')} the controller")
     return 0
 

@@ -124,7 +124,7 @@ STEPS = {
 DENOMINATOR, NUMERATOR = "a denominator, 1 to 1048576", "-2147483647 to 2147483647"
 # key, shape, range: by the place in a design text
 PLACES = [
-    ("version", "an integer", "1 or 2, for `lean` and `loop` 3, too"),
+    ("version", "an integer", "1 or 2, for `lean`, `loop` and `settle` 3, too"),
     ("states", "an integer", "1 to 4, in version 2 up to 6"),
     ("inputs", "an integer", "1 to 3"),
     ("stages", "an integer", "1 to 20, in version 2 up to 30"),
@@ -601,7 +601,7 @@ def controller_fault(call: Call, file: int, fault: str, numbers: list[int]) -> s
         text = read_text(call.path(call.kind(file)))
     except (OSError, TypeError):
         text = ""
-    lines = cells_lines(text) if is_cells else controller_lines(text, 3 if call.command in ("solve", "loop") else 2)
+    lines = cells_lines(text) if is_cells else controller_lines(text, 3 if call.command in ("solve", "loop", "settle") else 2)
     found, wanted = text.split("\n"), "another"
     if numbers[0] <= len(lines):
         wanted = lines[numbers[0] - 1]

@@ -29,7 +29,6 @@ from .common.arguments import Parser, whole
 from .common.design_text import Design, read_design
 from .common.disturbances import box_in
 from .common.libraries import Refusal, run, say
-from .common.machines import refuse_accelerated
 from .common.promises import Promise, certificate_text, costs_of, ends_of, percent, promise_text, time_of
 from .common.texts import Controller, controller_of, kind_of, read_text
 from .common.tubes import Box, Certificate, Loop, Stillness, Tubes, cost_box, first_fault, hull, settled_box
@@ -221,7 +220,6 @@ def main() -> int:
     if kind_of(text) != "controller":
         raise Refusal(f"{given.controller} is no controller text: `./mpc lean` and `./mpc generate` write one")
     controller = controller_of(text)
-    refuse_accelerated(controller.version, "`settle` reads controllers of")
     matching.refuse(f"the controller {given.controller}", "design", matching.controller_difference(controller, design))
     still = [0] * design.states
     low, high = box_in(given.disturbances, design) if given.disturbances else (still, still)

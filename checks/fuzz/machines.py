@@ -145,5 +145,5 @@ ALL_VERSIONS = tuple(MACHINES)
 
 
 def versions_of(words):
-    """Those of the designs and controllers that a command takes: of all `lean`, `solve`, `loop` and `c`."""
-    return ALL_VERSIONS if words[:1] in (["lean"], ["solve"], ["loop"], ["c"]) else VERSIONS
+    """Those of the designs and controllers that a command takes: of all `lean`, `solve`, `loop`, `settle` and `c`."""
+    return ALL_VERSIONS if words[:1] in (["lean"], ["solve"], ["loop"], ["settle"], ["c"]) else VERSIONS

@@ -39,9 +39,9 @@ from .machines import ALL_VERSIONS
 KINDS = ["generate"] * 22 + ["lean"] * 12 + ["border"] * 4 + ["stay"] * 14 + ["lean_stay"] * 6 + ["solve"] * 26 + ["controller"] * 18 + ["loop"] * 22 + ["list"] * 6 + ["play"] * 16
 KINDS += ["split"] * 12 + ["serve"] * 16 + ["c"] * 8 + ["usage"] * 4
 KINDS += ["settle"] * 14 + ["accelerated"] * 12
-# those whose texts are of version 3 then, which `lean`, `solve` and `loop` alone take
-ACCELERATED = ["lean"] * 10 + ["lean_stay"] * 8 + ["solve"] * 4 + ["accelerated_controller"] * 6 + ["loop"] * 6
-ACCELERATED += ["generate", "border", "stay", "settle", "list", "c", "split", "serve"]
+# those whose texts are of version 3 then, which `lean`, `solve`, `loop`, `settle` and `c` alone take
+ACCELERATED = ["lean"] * 10 + ["lean_stay"] * 8 + ["solve"] * 4 + ["accelerated_controller"] * 6 + ["loop"] * 6 + ["settle"] * 6 + ["c"] * 4
+ACCELERATED += ["generate", "border", "stay", "list", "split", "serve"]
 DEMO_EVERY = 2500
 # the most products that the model makes in a case, and the most in a run whose every value it traces
 MOST_PRODUCTS, MOST_TRACED = 3_000_000, 60_000

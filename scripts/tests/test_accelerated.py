@@ -291,7 +291,6 @@ class Refused(unittest.TestCase):
             ("cells are of models of", "regions", paths["m"], out, "--cells", out + "-d", out + "-c", out + "-p"),
             ("without --lean faces are of designs of", "faces", paths["d"], paths["p"], out),
             ("`stay` makes controllers of", "staying", paths["m"], out, "--generate"),
-            ("`settle` reads controllers of", "settles", paths["d"], paths["c"], out),
             ("this takes controllers of", "c_source", paths["c"], "--name", "mpc", "--out", os.path.dirname(out)),
             ("this takes controllers of", "nearest", paths["c"], "mpc", os.path.dirname(out)),
             ("`generate` makes controllers of", "design", paths["m"], out, "--generate"),
@@ -327,13 +326,13 @@ class WholeWay(unittest.TestCase):
         words = ["--accelerated", "--as-it-is", "--turns", "20", "--states", "4", "--random", "1"]
         got = subprocess.run([os.path.join(TOP, "mpc"), "design", paths["model"], made, *words], capture_output=True, text=True)
         self.assertEqual((got.returncode, got.stderr), (0, ""), got.stdout)
-        self.assertEqual(sorted(os.listdir(made)), sorted({*design.MADE} - {"fitted.toml"}))
+        self.assertEqual(sorted(os.listdir(made)), sorted({*design.MADE, *design.SETTLES} - {"fitted.toml"}))
         with open(os.path.join(made, "controller.txt"), encoding="ascii") as file:
             self.assertEqual(file.readline(), "mpc-controller 3\n")
         with open(os.path.join(made, "report.html"), encoding="utf-8") as file:
             page = file.read().split("<pre", 1)[0]
         self.assertRegex(page, "<li>the machine is accelerated(.|\n)*<li>version 2 would take K = [0-9]+, about")
-        self.assertIn("that loops settle was not asked: `settle` reads controllers of versions 1 and 2\n", got.stdout)
+        self.assertIn("from then on, for ever: ", got.stdout)
         with open(os.path.join(made, "judged.txt"), encoding="utf-8") as file:
             self.assertRegex(file.read(), "at 8 states(.|\n)*of what is printed that is [0-9.]+ % of the violation")
 

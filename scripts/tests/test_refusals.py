@@ -126,7 +126,7 @@ class Explained(unittest.TestCase):
         self.assertIn("`states` in the design file", told)
         self.assertIn("1 to 4, in version 2 up to 6", told)
         self.assertIn("1 to 20, in version 2 up to 30", self.generate("error 5 text 1 range 4", SECOND.replace("stages = 1", "stages = 31")))
-        self.assertIn("out of its range: 1 or 2, for `lean` and `loop` 3, too.", self.generate("error 5 text 1 range 1", FIRST.replace("version = 1", "version = 3")))
+        self.assertIn("out of its range: 1 or 2, for `lean`, `loop` and `settle` 3, too.", self.generate("error 5 text 1 range 1", FIRST.replace("version = 1", "version = 3")))
 
     def test_policy_count_of_six_states(self):
         six = SECOND.replace("states = 1", "states = 6")

@@ -159,7 +159,7 @@ class Refused(unittest.TestCase):
         self.assertEqual(answer(["solve", "c", "s"], c=text.replace("steps 1\n", "steps 9\n"), s="1\n").status, 0)
 
     def test_versions(self):
-        """`lean`, `solve` and `loop` alone take such texts; and no listing, and no program in C, is made of one."""
+        """`lean`, `solve`, `loop`, `settle` and `c` alone take such texts; and no listing is made of one."""
         made = answer(LEAN, None, d=third(DESIGN), p=POLICY, q=REFERENCE)
         text = made.written["c"].decode()
         self.assertEqual((made.status, text.split("\n")[0]), (0, "mpc-controller 3"))
@@ -167,7 +167,7 @@ class Refused(unittest.TestCase):
         self.refused(GENERATE, "5 text 1 range 1", None, d=third(DESIGN), p=POLICY)
         self.refused(["stay", "d", "p", "c", "r", "f"], "5 text 1 range 1", None, d=third(HELD.decode()), p=POLICY, f=FACES.decode())
         self.assertEqual(answer(["loop", "d", "c", "s", "1"], None, d=DESIGN, c=text, s="1\n").out, [b"1 1 1 128 -64\n"])
-        self.refused(["settle", "d", "c", "t"], "11 controller 2 line 1", None, d=DESIGN, c=text, t="")
+        self.refused(["settle", "d", "c", "t"], "5 text 3 count 0", None, d=third(DESIGN), c=text, t="")
         self.refused(["list", "c", "l"], "11 controller 1 line 1", c=text)
         self.refused(["c", "c", "mpc", "t", "h"], "11 controller 1 line 1", c=text)
         self.refused(LEAN, "5 text 1 range 1", d=DESIGN.replace("version = 1", "version = 4"), p=POLICY, q=REFERENCE)

@@ -3,7 +3,7 @@ import itertools
 import random
 import unittest
 
-from checks.fuzz import control, model, settle_cases, settling
+from checks.fuzz import cases, control, model, settle_cases, settling
 
 from .worked import told
 
@@ -63,6 +63,17 @@ class Worked(unittest.TestCase):
             (b"1,0,0\n0,-31,32\n2,-2,2\n", b"-1\n1\n", "turn 1\nstate 1 -2 2\n"),
         ):
             self.assertEqual(self.answer(certificate, shifts), told_of)
+
+    def test_accelerated(self):
+        """The same numbers as a controller of the accelerated machine: the same answers, and the same states turn by turn."""
+        plain = self.files["c"]
+        fast = self.files | {"d": DESIGN.replace(b"version = 2", b"version = 3"), "c": cases.accelerated(random.Random(1), plain)}
+        self.assertEqual(fast["c"].split(b"\n")[0], b"mpc-controller 3")
+        states = lambda files: [line.split()[2] for line in told("loop d c s 9", **files, s=b"-31\n32\n")[2].splitlines()]
+        self.assertEqual(states(fast), states(self.files))
+        for self.files in (fast, self.files):
+            self.assertEqual(self.answer(CERTIFICATE), "turn 4\nstate 1 -2 2\n")
+            self.assertEqual(self.answer(b"4,-31,32\n0,-32,32\n1,-2,2\n"), "23 moves 1 4194304 4194304")
 
     def test_refused(self):
         for certificate, shifts, line in (
