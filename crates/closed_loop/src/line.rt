@@ -1,6 +1,5 @@
 // A loop line.
 ghost use Rattle.std.specs.Prelude.{◌≡◌, pos, IfOk};
-ghost use Rattle.qp_model.specs.machine.Machine.{IsAdmissible};
 ghost use Rattle.closed_loop.specs.Looping.{denominator_by, line_by};
 
 use crate::machine::ControlMachine;
@@ -26,7 +25,6 @@ pub fn loop_line<M: ControlMachine>(
 ) -> Result<Vec<u8>, AllocError>
     requires done { M.done machine.now }
     requires state { M.runs_from machine.now state.now }
-    requires inside { IsAdmissible (M.looping machine.now).controller state.now }
     ensures { IfOk result (λ line. line.items ≡ line_by (M.looping machine.now) entry turn state.now) }
 {
     let mut numbers = Vec::new(alloc);

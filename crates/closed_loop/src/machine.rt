@@ -21,13 +21,14 @@ pub trait ControlMachine {
     /// It has made all steps.
     ghost done: { Self → Type 0 };
 
-    /// It has made them from this state, over `2^g`.
+    /// Its steps are made from this state, over `2^g`, of the box.
     ghost runs_from: { Self → List ℤ → Type 0 };
 
     /// The numbers of its controller.
     fn parts(&self) -> &ControllerParts
         ensures value { numbers result.now ≡ (looping self.now).controller }
-        ensures sound { IsLooping (looping self.now) };
+        ensures sound { IsLooping (looping self.now) }
+        ensures inside { (xi : List ℤ) → runs_from self.now xi → IsAdmissible (looping self.now).controller xi };
 
     /// What all steps weigh together.
     fn weight(&self) -> i128
@@ -61,7 +62,7 @@ impl<'a> ControlMachine for Kernel<'a> {
 
     ghost done = { λ k. k.made ≡ k.controller.steps };
 
-    ghost runs_from = { λ k xi. k.state ≡ xi };
+    ghost runs_from = { λ k xi. IsAdmissible k.controller xi × (k.state ≡ xi) };
 
     fn parts(&self) -> &ControllerParts {
         self.controller().parts()
@@ -96,7 +97,7 @@ impl<'a> ControlMachine for FastKernel<'a> {
 
     ghost done = { λ k. k.made ≡ k.controller.steps };
 
-    ghost runs_from = { λ k xi. k.state ≡ loaded k.controller xi };
+    ghost runs_from = { λ k xi. IsAdmissible k.controller xi × (k.state ≡ loaded k.controller xi) };
 
     fn parts(&self) -> &ControllerParts {
         FastKernel::parts(self)

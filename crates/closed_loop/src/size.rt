@@ -1,7 +1,8 @@
 // The quantity `turn`, computed. None stands for a number above `2^126`.
-ghost use Rattle.std.specs.Prelude.{◌≡◌, ◌≤◌, ◌<◌, ◌*◌, ◌^◌, pos, unsigned_abs};
+ghost use Rattle.std.specs.Prelude.{◌≡◌, ◌≤◌, ◌<◌, ◌*◌, ◌^◌, ℤ, List, pos, unsigned_abs};
 ghost use Rattle.std.specs.Option.{SomeIff};
 ghost use Rattle.qp_model.specs.machine.Controller.{numbers, IsSized};
+ghost use Rattle.qp_model.specs.machine.Machine.{IsAdmissible};
 ghost use Rattle.qp_model.specs.problem.Parts.{IsDesign, design_of};
 ghost use Rattle.qp_model.specs.form.Quantities.{greatest};
 ghost use Rattle.qp_model.specs.machine.Successor.{IsFor};
@@ -18,6 +19,7 @@ pub fn grid_scale<M: ControlMachine>(machine: &M) -> i128
     ensures value { result ≡ pos (grid_scale_by (M.looping machine.now)) }
     ensures small { unsigned_abs result < 2 ^ 81 }
     ensures sound { IsLooping (M.looping machine.now) }
+    ensures inside { (xi : List ℤ) → M.runs_from machine.now xi → IsAdmissible (M.looping machine.now).controller xi }
 {
     let c = machine.parts();
     scaled(machine.weight(), c.f - c.g)
@@ -28,6 +30,7 @@ pub fn next_over<M: ControlMachine>(design: &DesignParts, machine: &M) -> i128
     requires { IsDesign design.now }
     ensures value { result ≡ pos (next_over_by (design_of design.now) (M.looping machine.now)) }
     ensures sound { IsLooping (M.looping machine.now) }
+    ensures inside { (xi : List ℤ) → M.runs_from machine.now xi → IsAdmissible (M.looping machine.now).controller xi }
 {
     design.plant_den * grid_scale(machine)
 }

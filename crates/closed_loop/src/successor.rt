@@ -41,7 +41,6 @@ fn next_sum<M: ControlMachine>(design: &DesignParts, machine: &M, state: &[i128]
     requires design { IsDesign design.now }
     requires done { M.done machine.now }
     requires state { M.runs_from machine.now state.now }
-    requires inside { IsAdmissible (M.looping machine.now).controller state.now }
     requires matched { IsFor (M.looping machine.now).controller (design_of design.now) }
     requires narrow { turn_size_by (design_of design.now) (M.looping machine.now) ≤ 2 ^ 126 }
     requires in_range { i < design.now.states }
@@ -62,7 +61,6 @@ fn next_coordinate<M: ControlMachine>(
     requires design { IsDesign design.now }
     requires done { M.done machine.now }
     requires state { M.runs_from machine.now state.now }
-    requires inside { IsAdmissible (M.looping machine.now).controller state.now }
     requires matched { IsFor (M.looping machine.now).controller (design_of design.now) }
     requires narrow { turn_size_by (design_of design.now) (M.looping machine.now) ≤ 2 ^ 126 }
     requires in_range { i < design.now.states }
@@ -86,7 +84,6 @@ pub fn next_state<M: ControlMachine>(
 )
     requires done { M.done machine.now }
     requires state { M.runs_from machine.now state.now }
-    requires inside { IsAdmissible (M.looping machine.now).controller state.now }
     requires matched { IsFor (M.looping machine.now).controller (design_of design.now) }
     requires narrow { turn_size_by (design_of design.now) (M.looping machine.now) ≤ 2 ^ 126 }
     requires next { length next.old ≡ (M.looping machine.now).controller.states }

@@ -25,7 +25,7 @@ returns g c =
     let xi = c.args.state.now in
     let n = a.controller.inputs in
     let plan = a.plan xi in
-    let room : n ≤ length plan = c.parts.ensures.sound.long xi c.requires.inside in
+    let room : n ≤ length plan = c.parts.ensures.sound.long xi (c.parts.ensures.inside xi c.requires.state) in
     let all : take n plan ≡ map (at plan) (range_with_len 0 n) =
     fill_by_all (at plan) (take n plan) n (pos 0) (length-take-le n plan room) (λ k h. get_or-take n plan k (pos 0) h) in
     let end : c.loop-l.l ≡ n = omega (arith, c.loop-l.invariant.end) in

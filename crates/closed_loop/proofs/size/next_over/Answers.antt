@@ -16,3 +16,6 @@ returns-clause-value g c =
     let scale : FitsSigned w128 c.grid_scale.result = search rules in
     rw (to_z-of_z w128 _ den, to_z-of_z w128 _ scale, to_z-of_z w128 _ (over_fits c.args.design.now.plant_den c.grid_scale.result c.requires.plant_den c.grid_scale.ensures.small))
     (over_is c.args.design.now.plant_den c.grid_scale.result _ c.requires.plant_den c.grid_scale.ensures.value)
+
+pub returns-clause-inside : goal.returns-clause-inside
+returns-clause-inside g c = c.grid_scale.ensures.inside

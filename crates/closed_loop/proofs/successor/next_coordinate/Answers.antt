@@ -42,4 +42,4 @@ returns-clause-small g c =
     let rounded : FitsSigned w128 c.round_div.result = search rules in
     rw (to_z-of_z w128 _ rounded, c.round_div.ensures, to_z-of_z w128 _ sum, to_z-of_z w128 _ over, c.next_sum.ensures, c.next_over-over.ensures.value)
     (le_trans (round_size (next_sum_by d a xi c.args.i) (next_over_by d a) (over_some c.args.design.now.plant_den (grid_scale_by a) c.requires.design.plant_den (scale_some a c.next_over-over.ensures.sound)))
-    (next_small d a xi c.args.i c.requires.matched c.next_over-over.ensures.sound c.requires.inside c.requires.narrow c.requires.in_range))
+    (next_small d a xi c.args.i c.requires.matched c.next_over-over.ensures.sound (c.next_over-over.ensures.inside xi c.requires.state) c.requires.narrow c.requires.in_range))

@@ -6,3 +6,6 @@ use Rattle.closed_loop.proofs.machine.FastKernelControlMachine.parts.Goals as go
 
 pub returns-clause-sound : goal.returns-clause-sound
 returns-clause-sound c = subst (λ (n : Numbers). IsLooping (looping_of_fast n)) c.parts.ensures.value (fast_sound _ c.parts.ensures.sound)
+
+pub returns-clause-inside : goal.returns-clause-inside
+returns-clause-inside c = λ xi h. h.0
