@@ -104,12 +104,19 @@ fn run_cost_with(
     ))
 }
 
+// The same of a design that is yet to be condensed.
+fn run_cost_of(alloc: Global, design: &Design, steps: u32, f: u32) -> Result<i128, Fail>
+    requires bits { f ≤ 48 }
+{
+    let condensed = condense(alloc, design)?;
+    run_cost_with(alloc, design, &condensed, steps, f)
+}
+
 fn run_cost(alloc: Global, steps: u32, f: u32) -> Result<i128, Fail>
     requires bits { f ≤ 48 }
 {
     let design = design(alloc, DESIGN)?;
-    let condensed = condense(alloc, &design)?;
-    run_cost_with(alloc, &design, &condensed, steps, f)
+    run_cost_of(alloc, &design, steps, f)
 }
 
 // An entry of the gradient misses 4 by the rounding of the plan, and 2 by that of the means: (4 + 2)^2 / 2 = 18 over 4^6, and the residuals 6 * (2 + 4) over 2^7.
