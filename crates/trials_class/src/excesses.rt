@@ -1,4 +1,5 @@
 // Expected values are those of another program, in whole numbers without a limit.
+ghost use Rattle.std.specs.Prelude.{◌≤◌, length};
 ghost use Rattle.condensed_form.specs.Form.{IsFormOf};
 ghost use Rattle.qp_model.specs.problem.Parts.{design_of};
 ghost use Rattle.qp_model.specs.problem.Policy.{plans_of, IsPolicyFor};
@@ -77,7 +78,41 @@ fn is_excess_of(
     }
 }
 
-// The same of these plans. No plans of the trials are longer than 1000 bytes.
+// The same of the text of reference plans.
+fn is_excess_by(
+    alloc: Global,
+    condensed: &Condensed,
+    design: &Design,
+    policy: &Policy,
+    references: &[u8],
+    want: &Result<i128, SizeFault>,
+) -> Result<bool, Fail>
+    requires form { IsFormOf design.now condensed.now }
+    requires plans { IsPolicyFor (design_of design.now) (plans_of policy.now) }
+    requires room { length references.now ≤ 1000 }
+{
+    let reference = read_policy(alloc, references, design)?;
+    is_excess_of(alloc, condensed, design, policy, &reference, want)
+}
+
+// And of that of the plans.
+fn is_excess_from(
+    alloc: Global,
+    condensed: &Condensed,
+    design: &Design,
+    plans: &[u8],
+    references: &[u8],
+    want: &Result<i128, SizeFault>,
+) -> Result<bool, Fail>
+    requires form { IsFormOf design.now condensed.now }
+    requires room { length plans.now ≤ 1000 }
+    requires more_room { length references.now ≤ 1000 }
+{
+    let policy = read_policy(alloc, plans, design)?;
+    is_excess_by(alloc, condensed, design, &policy, references, want)
+}
+
+// And of a design that is yet to be condensed. No plans of the trials are longer than 1000 bytes.
 fn is_excess_with(
     alloc: Global,
     design: &Design,
@@ -89,9 +124,7 @@ fn is_excess_with(
         return Ok(false);
     }
     let condensed = condense(alloc, design)?;
-    let policy = read_policy(alloc, plans, design)?;
-    let reference = read_policy(alloc, references, design)?;
-    is_excess_of(alloc, &condensed, design, &policy, &reference, want)
+    is_excess_from(alloc, &condensed, design, plans, references, want)
 }
 
 // The same of a changed text.
