@@ -1,8 +1,10 @@
 // Controllers of one design. Expected values are those of bench/assemble/expected.py.
 ghost use Rattle.std.specs.Prelude.{◌≤◌, ◌^◌, pos, ◌≤ℤ◌, IfOk};
+ghost use Rattle.condensed_form.specs.Form.{IsFormOf};
 ghost use Rattle.qp_model.specs.problem.Range.{LiesIn};
 
 use approx_inverse::solve_all;
+use condensed_form::Condensed;
 use controller_maker::{Settings, controller_of};
 use design_engine::condense;
 use design_files::read_design;
@@ -52,7 +54,26 @@ fn design_at(alloc: Global, f: u32) -> Result<Design, Fail>
     Ok(design)
 }
 
-// The controller of a design, or why there is none.
+// The controller of a design and its condensed form, or why there is none.
+fn controller_by(
+    alloc: Global,
+    design: &Design,
+    condensed: &Condensed,
+    settings: Settings,
+) -> Result<Result<Controller, SizeFault>, Fail>
+    requires form { IsFormOf design.now condensed.now }
+    requires bits { LiesIn design.now.grid 48 settings.f }
+    requires exponent { settings.s ≤ 40 }
+    requires steps { LiesIn 1 (2 ^ 22) settings.steps }
+    requires low { pos 1 ≤ℤ settings.r }
+    requires high { settings.r ≤ℤ pos (2 ^ 44) }
+{
+    let exps = vec![in alloc; settings.s; condensed.g.rows()]?;
+    let gains = solve_all(alloc, condensed, settings.f)?;
+    Ok(controller_of(alloc, design, condensed, settings, exps, gains))
+}
+
+// The same of a design that is yet to be condensed.
 fn controller(
     alloc: Global,
     design: &Design,
@@ -68,10 +89,7 @@ fn controller(
     requires high { r ≤ℤ pos (2 ^ 44) }
 {
     let condensed = condense(alloc, design)?;
-    let gains = solve_all(alloc, &condensed, f)?;
-    let exps = vec![in alloc; s; condensed.g.rows()]?;
-    let settings = Settings { s, f, steps, r };
-    Ok(controller_of(alloc, design, &condensed, settings, exps, gains))
+    controller_by(alloc, design, &condensed, Settings { s, f, steps, r })
 }
 
 // Its numbers.
