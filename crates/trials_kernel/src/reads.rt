@@ -1,13 +1,18 @@
 // The text of a worked listing, read back and refused at its first bad line: it has nine lines, 38 instructions and `end`.
 use mac_listing::{BadListing, make_listing, read_listing, write_listing};
+use overflow_check::Controller;
 use std::alloc::Global;
 use std::test::Fail;
 use trials_worked_controllers::controller;
 
+fn text_of(alloc: Global, controller: &Controller) -> Result<Vec<u8>, Fail> {
+    let listing = make_listing(alloc, controller)?;
+    Ok(write_listing(alloc, &listing)?)
+}
+
 pub fn text(alloc: Global) -> Result<Vec<u8>, Fail> {
     let controller = controller(alloc, 2, 32768, 26, [1, 1, 0])?;
-    let listing = make_listing(alloc, &controller)?;
-    Ok(write_listing(alloc, &listing)?)
+    text_of(alloc, &controller)
 }
 
 // Whether a text is that of a listing which has this text.

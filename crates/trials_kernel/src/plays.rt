@@ -4,6 +4,7 @@ ghost use Rattle.std.specs.Prelude.{◌≡◌};
 
 use mac_listing::{Listing, Op, make_listing};
 use mac_machine::{Machine, Stop};
+use overflow_check::Controller;
 use std::alloc::Global;
 use std::test::Fail;
 use trials_worked_controllers::controller;
@@ -67,10 +68,18 @@ fn plays_on(alloc: Global, listing: &Listing, words: &Words) -> Result<bool, Fai
     Ok(plays(&mut machine, words))
 }
 
+fn plays_by(alloc: Global, controller: &Controller, words: &Words) -> Result<bool, Fail>
+    requires states { controller.now.states ≡ 1 }
+    requires inputs { controller.now.inputs ≡ 1 }
+    requires words { controller.now.words ≡ 6 }
+{
+    let listing = make_listing(alloc, controller)?;
+    plays_on(alloc, &listing, words)
+}
+
 fn plays_with(alloc: Global, clamp: i128, exps: [u32; 3], words: &Words) -> Result<bool, Fail> {
     let controller = controller(alloc, 2, clamp, 26, exps)?;
-    let listing = make_listing(alloc, &controller)?;
-    plays_on(alloc, &listing, words)
+    plays_by(alloc, &controller, words)
 }
 
 #[test]
@@ -81,10 +90,14 @@ fn runs_leave_the_words(rt: HostRuntime) -> Result<(), Fail> {
     Ok(())
 }
 
+fn begins_by(alloc: Global, controller: &Controller) -> Result<bool, Fail> {
+    let listing = make_listing(alloc, controller)?;
+    Ok(begins(&listing.parts().body))
+}
+
 fn begins_with(alloc: Global) -> Result<bool, Fail> {
     let controller = controller(alloc, 1, 32768, 26, [1, 1, 1])?;
-    let listing = make_listing(alloc, &controller)?;
-    Ok(begins(&listing.parts().body))
+    begins_by(alloc, &controller)
 }
 
 #[test]
