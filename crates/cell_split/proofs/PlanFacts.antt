@@ -8,7 +8,7 @@ use Rattle.number_text.specs.declared.text_fault.TextFault.{TextFault}
 use Rattle.number_text.specs.declared.text_fault.TextFault.TheVariants.{Memory, Count}
 use Rattle.qp_model.specs.problem.Design.{Design, entries}
 use Rattle.qp_model.specs.problem.Policy.{Plans}
-use Rattle.policy_file.specs.Records.{HoldsNumbers, IsRecordFault, record_at, records_of, field_room}
+use Rattle.policy_file.specs.Records.{HoldsNumbers, IsRecordFault, record_at, records_of}
 use Rattle.policy_file.specs.PolicyText.{policy_rule, record_length}
 use Rattle.policy_file.proofs.RecordFacts.{records_few}
 use Rattle.policy_file.proofs.TextFacts.{records_count, room_small}
@@ -22,9 +22,6 @@ readable records bytes e small = record {
   few = omega (arith, records_count records bytes e, records_few bytes, small);
   room = λ i row lt. room_small records bytes (get_or records i row) i e small lt (get_or_default records i row (get_or records i row) lt);
 }
-
-pub own_room : (records : List Row) (row : Row) (i : ℕ) → AreReadable records → i < length records → row ≡ get_or records i row → field_room (fields_of row) ≤ 2 ^ 32
-own_room records row i h lt is = rw (ap fields_of is) (h.room i row lt)
 
 -- a list is its first number and those behind it
 first_and_rest : (zs : List ℤ) → 1 ≤ length zs → at zs 0 ∷ drop 1 zs ≡ zs
@@ -48,16 +45,6 @@ module _ (rows : List (List (List ℕ))) (d : Design) (start : ℕ) where
         cols = h.cols;
         each = λ k m. rw (n, get_or_append_left heads (z ∷ []) (pos 0) k (omega (arith, l))) (h.each k m);
       })
-
-  -- all of them
-  pub plans_held : (number i : ℕ) (heads : List ℤ) (m : Matrix) → i ≤ number → number ≤ i → length heads ≡ i → Filled (HoldsAt heads) m (entries d) i →
-      HoldPlans rows d start number (record { denominators = heads; numerators = m })
-  plans_held number i heads m l k h f = record {
-    count = omega (arith, l, k, h);
-    numerators = omega (arith, l, k, f.long);
-    cols = f.cols;
-    each = λ e lt. f.each e (omega (arith, lt, k));
-  }
 
   held_between : (i : ℕ) (heads : List ℤ) (m : Matrix) → ((e : ℕ) → e < i → HoldsAt heads e (row_of m e)) → HoldBetween rows d start (start + i)
   held_between i heads m h e low high =

@@ -11,7 +11,7 @@ use Rattle.std.proofs.lemmas.Nat.{pow_pos}
 use Rattle.integer_algebra.specs.Sums.{at}
 use Rattle.mat_int.specs.Matrix.{row_of}
 use Rattle.number_text.specs.declared.text_fault.TextFault.{TextFault}
-use Rattle.number_text.specs.declared.text_fault.TextFault.TheVariants.{Memory, Range}
+use Rattle.number_text.specs.declared.text_fault.TextFault.TheVariants.{Memory}
 use Rattle.qp_model.specs.declared.policy.Policy.{Policy}
 use Rattle.qp_model.specs.problem.Design.{Design}
 use Rattle.qp_model.specs.problem.Policy.{Plans, plans_of, IsPolicyFor}
@@ -21,7 +21,7 @@ use Rattle.policy_file.specs.PolicyText.{policy_rule, record_length}
 use Rattle.policy_file.proofs.FieldFacts.{first_digit, signed_text}
 use Rattle.policy_file.proofs.UniqueFacts.{both_ways, wrong_or_right, same_record_fault, plans_by, sized_by}
 use Rattle.cell_split.specs.PoliciesText.{none_record, says_none, cell_start, covered, HoldPlans, HoldCell, HoldPolicies, ArePolicies, IsNoneOf, IsRight, IsPlanFault, IsSpanFault, IsPoliciesFault}
-use Rattle.cell_split.specs.ReadCells.{IsFaultBetween, IsLeftFault, IsCellAt, IsCellFault, HoldCells}
+use Rattle.cell_split.specs.ReadCells.{IsLeftFault, IsCellAt, IsCellFault, HoldCells}
 
 -- ---- what only rises
 pub next : (k : ℕ) → k + 1 ≡ suc k
@@ -172,25 +172,6 @@ module _ (rows : List (List (List ℕ))) (d : Design) where
     ];
   }
 
-  pub some_at : (start corners : ℕ) (plans : Plans) → corners ≡ 2 ^ d.states → false ≡ says_none (record_at rows start) → start + corners ≤ length rows → HoldPlans rows d start corners plans →
-      IsCellAt rows d start (Some plans) (start + corners)
-  some_at start corners plans is says inside h = record {
-    hold = subst (λ (n : ℕ). HoldPlans rows d start n plans) is h;
-    next = ap (λ (n : ℕ). start + n) is ∙ ap (λ (b : Bool). start + (if b then 1 else 2 ^ d.states)) says;
-    inside = inside;
-  }
-
-  -- its fault
-  pub short_cell : (start corners : ℕ) (fault : TextFault) → corners ≡ 2 ^ d.states → false ≡ says_none (record_at rows start) → length rows < start + corners → (fault ≡ Memory) ⊎ IsLeftFault rows d start fault →
-      (fault ≡ Memory) ⊎ IsCellFault rows d start fault
-  short_cell start corners fault is says short (inl memory) = inl memory
-  short_cell start corners fault is says short (inr f) = inr (record { plain = sym says; why = inr (f, rw (← is) short) })
-
-  pub wrong_cell : (start corners : ℕ) (fault : TextFault) → corners ≡ 2 ^ d.states → false ≡ says_none (record_at rows start) → (fault ≡ Memory) ⊎ IsFaultBetween rows d start corners fault →
-      (fault ≡ Memory) ⊎ IsCellFault rows d start fault
-  wrong_cell start corners fault is says (inl memory) = inl memory
-  wrong_cell start corners fault is says (inr f) = inr (record { plain = sym says; why = inl (subst (λ (n : ℕ). IsFaultBetween rows d start n fault) is f) })
-
   -- a cell with plans takes a record for each corner
   plain_more : (k : ℕ) → says_none (record_at rows (cell_start rows d k)) ≡ false → cell_start rows d (k + 1) ≡ cell_start rows d k + 2 ^ d.states
   plain_more k plain = start_more k ∙ ap (λ (b : Bool). cell_start rows d k + (if b then 1 else 2 ^ d.states)) plain
@@ -301,9 +282,6 @@ module _ (rows : List (List (List ℕ))) (d : Design) where
     told_cell k end fault inside h (inl memory) = inl memory
     told_cell k end fault inside h (inr f) = inr (cell_fault k end fault inside h f)
 
-    pub all_cells : (k end : ℕ) → k ≤ cells → cells ≤ k → HoldCells rows d k policies end → HoldCells rows d cells policies end
-    all_cells k end l m h = let e : k ≡ cells = omega (arith, l, m) in subst (λ (i : ℕ). HoldCells rows d i policies end) e h
-
     pub one_cell : (k start end : ℕ) (o : Option Plans) (more : List (Option Plans)) → more ≡ policies ++ o ∷ [] → IsCellAt rows d start o end → HoldCells rows d k policies start → HoldCells rows d (k + 1) more end
     one_cell k start end o more is here h = rw is (record {
       count = length_push policies o ∙ ap (λ (n : ℕ). n + 1) h.count;
@@ -357,22 +335,6 @@ module _ (bytes : List ℕ) (d : Design) (cells : ℕ) (rows : List (List (List 
     pub left_told : (fault : TextFault) → end < length rows → (fault ≡ Memory) ⊎ IsLeftFault rows d end fault → (fault ≡ Memory) ⊎ IsPoliciesFault bytes d cells fault
     left_told fault some (inl memory) = inl memory
     left_told fault some (inr f) = cells_told fault (inr (behind_fault rows d cells (map (option_map plans_of) policies) end fault h some f))
-
-    held : length rows ≤ end → HoldPolicies (records_of bytes) d cells (map (option_map plans_of) policies)
-    held whole = subst (λ (r : List (List (List ℕ))). HoldPolicies r d cells (map (option_map plans_of) policies)) e (record { records = omega (arith, whole, h.inside, h.end_is); count = h.count; each = h.each })
-
-    all_cells_long : length policies ≡ cells
-    all_cells_long = sym (length-map policies (option_map plans_of)) ∙ h.count
-
-    pub some_policies : length rows ≤ end → 1 ≤ covered (map (option_map plans_of) policies) (length policies) → ArePolicies bytes d cells (map (option_map plans_of) policies)
-    some_policies whole some = record { hold = held whole; some = rw all_cells_long at some }
-
-    pub bare_policies : length rows ≤ end → (1 ≤ covered (map (option_map plans_of) policies) (length policies) → ⊥) → (Range 0 ≡ Memory) ⊎ IsPoliciesFault bytes d cells (Range 0)
-    bare_policies whole none = inr (inr (inr (record { policies = map (option_map plans_of) policies; hold = held whole; none = zero_of (covered (map (option_map plans_of) policies) cells) (rw all_cells_long at none); told = refl })))
-      where
-        zero_of : (n : ℕ) → (1 ≤ n → ⊥) → n ≡ 0
-        zero_of zero h = refl
-        zero_of (suc n) h = absurd (h (omega arith))
 
 policies_not : (bytes : List ℕ) (d : Design) (cells : ℕ) (a : List (Option Plans)) (e : TextFault) → ArePolicies bytes d cells a → IsPoliciesFault bytes d cells e → ⊥
 policies_not bytes d cells a e h (inl f) = right_not (records_of bytes) d cells e f (all_right (records_of bytes) d cells a h.hold f.index f.inside)

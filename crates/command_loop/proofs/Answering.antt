@@ -1,13 +1,11 @@
 -- The script of `loop`, and what is answered and printed once its files are read.
-use Rattle.std.proofs.Common.{◌≡◌, ◌≢◌, inl, inr, ℕ, Bool, true, false, List, Option, Some, None, refl, ap, subst, arith}
+use Rattle.std.proofs.Common.{◌≡◌, ◌≢◌, inl, inr, ℕ, Bool, true, false, Option, Some, None, refl, ap, subst, arith}
 use Rattle.io_edge.specs.declared.sink.Sink.{Ghosts as Screen}
 use Rattle.mat_int.specs.Matrix.{Matrix}
 use Rattle.qp_model.specs.problem.Design.{Design}
 use Rattle.qp_model.specs.problem.Parts.{design_of}
 use Rattle.qp_model.specs.machine.Controller.{Numbers}
 use Rattle.qp_model.specs.machine.Successor.{IsFor}
-use Rattle.state_files.specs.TurnText.{IsShiftsText}
-use Rattle.state_files.proofs.TurnFacts.{turns_small}
 use Rattle.controller_file.specs.AnyText.{any_numbers}
 use Rattle.controller_file.specs.declared.any_controller.AnyController.{AnyController}
 use Rattle.command_line.specs.Answers.{Contents, IsAnswer, IsCaused}
@@ -24,7 +22,7 @@ use Rattle.command_design_files.proofs.Designs.{same_design}
 use Rattle.command_design_files.proofs.Stopping.{text_refused}
 use Rattle.command_files.proofs.Stopping.{controllers_refused}
 use Rattle.command_loop.specs.Loop.{Course, course_of_any, turn_size_of, MayPrintLine, IsMismatch, LoopsCall, loop_act, loop_shifts, loop_controller, loop_design}
-use Rattle.command_loop.specs.Printing.{LoopsEnd, LoopsDone, AreRowsFor}
+use Rattle.command_loop.specs.Printing.{LoopsEnd, LoopsDone}
 use Rattle.command_loop.specs.Deeds.{loop_work, loop_deeds}
 use Rattle.command_loop.proofs.Refusals.{mismatch_refusal}
 use Rattle.command_loop.proofs.Uniqueness.{one_call, one_mismatch, not_matched}
@@ -64,10 +62,6 @@ module _ (turns : ℕ) where
     );
     first = inl refl;
   }
-
--- the sizes of shifts
-pub rows_for : (n turns : ℕ) (bytes : List ℕ) (m : Matrix) → IsShiftsText bytes n turns m → AreRowsFor n turns m
-rows_for n turns bytes m text = record { cols = text.cols; rows = text.rows; small = turns_small bytes n turns m text }
 
 -- ---- all files are right
 module _ (size : ℕ) (c : Numbers) (l : Course) (turns : ℕ) (m : Matrix) (s : Status) where

@@ -12,7 +12,6 @@ use Rattle.command_design_files.proofs.Stopping.{text_refused}
 use Rattle.command_files.proofs.Stopping.{controllers_refused}
 use Rattle.plan_lines.specs.Making.{PrintsRecords}
 use Rattle.plan_lines.proofs.Acting.{lines_told, lines_telling, records_ended}
-use Rattle.command_serve.specs.Served.{cell_states}
 use Rattle.command_serve.specs.Making.{making_of_cells}
 use Rattle.command_serve.specs.Printing.{served_lines}
 use Rattle.command_serve.specs.Serve.{serve_act, serve_states}

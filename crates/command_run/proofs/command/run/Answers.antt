@@ -1,7 +1,6 @@
 use Rattle.std.proofs.Common.{refl, le_refl}
 use Rattle.command_line.specs.Commands.{AreOf, IsUsage}
 use Rattle.command_line.specs.Does.{Does}
-use Rattle.command_line.specs.declared.words.Command.{Command}
 use Rattle.command_line.specs.declared.words.Command.TheVariants.{Generate, Stay, Play, Lean, LeanStay, Split, Serve, C, Settle}
 use Rattle.command_line.proofs.OneCommand.{for_each}
 use Rattle.command_line.proofs.Doing.{none_falls}
