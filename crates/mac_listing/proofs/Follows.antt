@@ -2,7 +2,7 @@
 use Rattle.std.proofs.Common.{◌≡◌, inl, inr, ℕ, zero, suc, ◌+◌, ◌-◌, ◌*◌, ◌<◌, ◌≤◌, ℤ, pos, ◌≤ℤ◌, List, [], ◌∷◌, ◌++◌, length, get_or, take, drop, map, replicate, refl, sym, ap, subst, ◌∙◌, append_assoc, arith}
 use Rattle.std.specs.Prelude.{◌↔◌, ◌⊎◌, All, codes}
 use Rattle.std.specs.List.{AllByRecursion}
-use Rattle.std.proofs.lemmas.List.{append-nil, get_or_at, get_or_append_left, get_or-append-add, take_at, length-append, length-map, length-replicate, length-take-le, take-append-drop, get_or-map}
+use Rattle.std.proofs.lemmas.List.{get_or_at, get_or_append_left, get_or-append-add, take_at, length-append, length-map, length-replicate, length-take-le, take-append-drop, get_or-map}
 use Rattle.std.proofs.lemmas.List.Elements.{All-from_recursion, recursion_from_All, All-replicate}
 use Rattle.integer_algebra.specs.Sums.{at}
 use Rattle.qp_model.specs.problem.Range.{LiesIn, IsNumerator}
@@ -443,20 +443,3 @@ body_follows ls l n le len b fits = (
 )
 
 -- ---- all lines
-
-no_rest : (ms : List Keyed) → length ms ≡ 0 → ms ≡ []
-no_rest [] e = refl
-no_rest (m ∷ ms) e = absurd (omega (arith, e))
-
-pub whole_if : (ls : List Keyed) → IsBeginning IsWholeListing ls → 9 < length ls → length ls - 10 ≡ small_in ls 7 1 → IsWholeListing ls
-whole_if ls b lt e =
-    let over = no_rest b.more (omega (arith, lt, e, count_in ls b (omega (arith, lt)), line_count b.whole.numbers, ap length b.whole.lines, length-append ls b.more)) in
-    record { numbers = b.whole.numbers; listing = b.whole.listing; word = b.whole.word; lines = b.whole.lines ∙ ap (λ (ms : List Keyed). ls ++ ms) over ∙ append-nil ls }
-
-pub whole_long : (ls : List Keyed) → IsWholeListing ls → 9 < length ls
-whole_long ls w = omega (arith, line_count w.numbers, ap length w.lines)
-
-pub whole_only : (ls : List Keyed) → IsWholeListing ls → length ls - 10 ≡ small_in ls 7 1
-whole_only ls w =
-    let b : IsBeginning IsWholeListing ls = record { more = []; whole = record { numbers = w.numbers; listing = w.listing; word = w.word; lines = w.lines ∙ sym (append-nil ls) } } in
-    omega (arith, line_count w.numbers, ap length w.lines, count_in ls b (omega (arith, whole_long ls w)))
