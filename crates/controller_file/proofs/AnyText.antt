@@ -1,9 +1,7 @@
 -- A controller of either machine, by its numbers.
-use Rattle.std.proofs.Common.{◌≡◌, ◌≢◌, inl, inr, ℕ, List, Result, Ok, Err, ap, arith}
+use Rattle.std.proofs.Common.{◌≡◌, inl, inr, ℕ, List, Result, Ok, Err, ap, arith}
 use Rattle.std.specs.Prelude.{MatchResult, IfOk}
 use Rattle.qp_model.specs.machine.Controller.{Numbers}
-use Rattle.qp_model.specs.machine.AbsoluteSums.{IsController}
-use Rattle.overflow_check.specs.FastController.{IsFastController}
 use Rattle.controller_text.specs.TextForm.{IsTextForm}
 use Rattle.controller_text.specs.declared.bad_controller.BadController.{BadController}
 use Rattle.controller_text.specs.declared.bad_controller.BadController.TheVariants.{Memory}
@@ -20,15 +18,6 @@ either_form c (inr k) = fast_form c k.form
 pub either : (k : AnyController) → IsSafe k → IsEitherController (any_numbers k)
 either (Plain c) safe = inl safe
 either (Fast c) safe = inr safe
-
--- of one version alone
-pub no_fast : (c : Numbers) → c.version ≢ 3 → ¬ IsController c → ¬ IsEitherController c
-no_fast c slow none (inl k) = none k
-no_fast c slow none (inr k) = slow k.form.sized.version
-
-pub no_plain : (c : Numbers) → c.version ≡ 3 → ¬ IsFastController c → ¬ IsEitherController c
-no_plain c fast none (inl k) = omega (arith, fast, k.form.sized.version.1)
-no_plain c fast none (inr k) = none k
 
 -- the numbers tell the machine
 pub one_any : (k j : AnyController) → IsSafe k → IsSafe j → any_numbers k ≡ any_numbers j → k ≡ j

@@ -36,6 +36,3 @@ plain_begins (k ∷ ls) l b plain = record { more = b.more; whole = plain_whole 
 
 pub plain_follows : (ls : List Keyed) (l : Keyed) → IsBeginning IsWhole (ls ++ l ∷ []) ↔ (IsBeginning IsAnyWhole (ls ++ l ∷ []) × IsPlain (ls ++ l ∷ []))
 plain_follows ls l = (λ b. (any_begins (ls ++ l ∷ []) b, begins_plain (ls ++ l ∷ []) b), λ both. plain_begins ls l both.0 both.1)
-
-pub whole_plain : (ls : List Keyed) → IsBeginning IsWhole ls → IsAnyWhole ls ↔ IsWhole ls
-whole_plain ls b = (λ w. plain_whole ls w (begins_plain ls b), λ w. any_whole ls w)

@@ -7,7 +7,6 @@ use Rattle.std.proofs.lemmas.List.Splits.{join_with_byte-slice_split}
 use Rattle.number_text.specs.Lines.{text_of}
 use Rattle.qp_model.specs.machine.Controller.{Numbers, FitsWord}
 use Rattle.controller_text.specs.TextForm.{IsTextForm}
-use Rattle.qp_model.specs.text.ControllerText.{IsControllerText}
 use Rattle.number_text.proofs.Pieces.{ArePieces, split_text}
 use Rattle.controller_file.specs.FirstLine.{IsTextIn}
 use Rattle.controller_file.specs.Laws.{IsSomeControllerText, HasOneController, HasNoPrefix}
@@ -62,9 +61,6 @@ in_form bytes c (inr p) = record { form = fast_form c p.controller.form; word = 
 
 pub one_any_controller : HasOneController
 one_any_controller bytes c d p q = one_form bytes c d (in_form bytes c p) (in_form bytes d q)
-
-pub one_controller : (bytes : List ℕ) (c d : Numbers) → IsControllerText bytes c → IsControllerText bytes d → c ≡ d
-one_controller bytes c d p q = one_any_controller bytes c d (inl p) (inl q)
 
 -- ---- no prefix
 

@@ -91,8 +91,3 @@ all_seen m keys e = (λ i. record {
   violation = e 19 (omega arith) i;
   gap = e 20 (omega arith) i;
 })
-
--- another value at the version
-pub seen_with : (values : List (Bor Value)) (value : Bor Value) → 0 < length values → seen (record { values = set values 0 value }) ≡ record (seen (record { values = values })) { version = Some (view value.now) }
-seen_with [] value l = absurd (omega (arith, l))
-seen_with (v ∷ values) value l = refl
