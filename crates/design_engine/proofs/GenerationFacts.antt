@@ -8,7 +8,7 @@ use mir.Val.{SFits}
 use Rattle.qp_model.specs.form.Class.{form_of}
 use Rattle.qp_model.specs.problem.Parts.{IsDesign, design_of}
 use Rattle.qp_model.specs.problem.Range.{IsDenominator, IsPositive}
-use Rattle.qp_model.specs.bounds.Choices.{multiplier_size, multiplier_size_of, violation_bound, row_violation_bound, multiplier_of}
+use Rattle.qp_model.specs.bounds.Choices.{multiplier_size, multiplier_size_of, row_violation_bound, multiplier_of, step_count}
 use Rattle.qp_model.specs.bounds.RealErrors.{real_cost}
 use Rattle.qp_model.specs.machine.Controller.{Numbers}
 use Rattle.qp_model.specs.declared.design_parts.DesignParts.{DesignParts}
@@ -160,30 +160,29 @@ plain_ranges p m h room = record {
 pub error_small : (a : Aim) → IsAim a → unsigned_abs a.error_target ≤ 2 ^ 71
 error_small a h = size_of a.error_target (2 ^ 71) h.errors h.small
 
--- the undercut of what is made with terms
-pub undercut_room : (p : DesignParts) (x : Terms) (c : Numbers) → AreTerms x → IsMadeWith p x.aim c →
-    HasUndercutRoom x c (real_cost (design_of p) (form_of (design_of p)) (unsigned_abs x.aim.r) c)
-undercut_room p x c t made =
-    room x.target c.step_exponent r c.steps cost (size_of x.aim.r (2 ^ 44) t.aim.some t.aim.narrow) violation t.short
+-- the undercut of what is made with terms, after at least as many steps as their aim asks for
+pub undercut_fits : (x : Terms) (s k cost : ℕ) → AreTerms x → step_count s (unsigned_abs x.aim.r) (unsigned_abs x.aim.step_target) ≤ k → cost ≤ unsigned_abs x.aim.error_target →
+    unsigned_abs x.aim.r * repaired x.target (row_bound x.target s s (unsigned_abs x.aim.r) k cost) ≤ 2 ^ 126
+undercut_fits x s k cost t steps limited = room x.target s r k cost (size_of x.aim.r (2 ^ 44) t.aim.some t.aim.narrow) violation t.short
   where
     r : ℕ
     r = unsigned_abs x.aim.r
 
-    cost : ℕ
-    cost = real_cost (design_of p) (form_of (design_of p)) (unsigned_abs x.aim.r) c
-
-    violation : row_violation_bound c.step_exponent c.step_exponent r c.steps cost ≤ 2 ^ 72
+    violation : row_violation_bound s s r k cost ≤ 2 ^ 72
     violation = omega (
       arith,
-      greatest_row c.step_exponent r c.steps cost,
+      greatest_row s r k cost,
       t.steps,
-      subst (λ (k : ℕ). violation_bound c.step_exponent r k cost ≤ 2 * unsigned_abs x.aim.step_target)
-          (sym made.steps) (halves c.step_exponent r (unsigned_abs x.aim.step_target) cost (some_of x.aim.r t.aim.some) (some_of x.aim.step_target t.aim.steps) within),
+      halves s r (unsigned_abs x.aim.step_target) k cost (some_of x.aim.r t.aim.some) (some_of x.aim.step_target t.aim.steps) steps (omega (arith, limited, t.share)),
     )
-      where
-        within : cost ≤ r * unsigned_abs x.aim.step_target
-        within = omega (arith, cost_limited p x.aim c made, t.share)
 
     room : (o : Option ℤ) (s r k e : ℕ) → r ≤ 2 ^ 44 → row_violation_bound s s r k e ≤ 2 ^ 72 → repaired o 0 ≤ 2 ^ 71 → r * repaired o (row_bound o s s r k e) ≤ 2 ^ 126
     room None s r k e h v t = omega (arith, mul-le r (row_violation_bound s s r k e) (2 ^ 44) (2 ^ 72) h v)
     room (Some target) s r k e h v t = omega (arith, mul-le r (unsigned_abs target) (2 ^ 44) (2 ^ 71) h t)
+
+pub undercut_room : (p : DesignParts) (x : Terms) (c : Numbers) → AreTerms x → IsMadeWith p x.aim c →
+    HasUndercutRoom x c (real_cost (design_of p) (form_of (design_of p)) (unsigned_abs x.aim.r) c)
+undercut_room p x c t made = undercut_fits x c.step_exponent c.steps _ t (no_more made.steps) (cost_limited p x.aim c made)
+  where
+    no_more : {a n : ℕ} → a ≡ n → n ≤ a
+    no_more {a} {n} e = omega (arith, e)

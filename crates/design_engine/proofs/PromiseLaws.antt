@@ -21,7 +21,7 @@ use Rattle.qp_model.specs.problem.Cost.{cost, cost_scale}
 use Rattle.qp_model.specs.problem.Residual.{residual, residual_scale, IsFeasible}
 use Rattle.qp_model.specs.problem.Policy.{Plans, IsPolicyFor}
 use Rattle.qp_model.specs.bounds.Margin.{BoundsCorners}
-use Rattle.qp_model.specs.bounds.CornerClass.{shown}
+use Rattle.qp_model.specs.bounds.CornerClass.{shown, IsMargin}
 use Rattle.qp_model.specs.machine.Controller.{Numbers}
 use Rattle.qp_model.specs.machine.Machine.{average_denominator, averaged_plan, exponent_of}
 use Rattle.qp_model.specs.machine.Machine as machine
@@ -31,6 +31,7 @@ use Rattle.qp_model.specs.bounds.Built.{HasSizesOf}
 use Rattle.qp_model.specs.bounds.Choices.{violation_bound, row_violation_bound, multiplier_of, lean_multiplier, lean_row_violation}
 use Rattle.qp_model.specs.machine.ValuesMet.{RunFits}
 use Rattle.qp_model.specs.bounds.Certified.{ExceedsAtMost, CostsAtMost, HasFeasible, IsCertifiedAt}
+use Rattle.qp_model.specs.declared.bounds.Margin.{Margin}
 use Rattle.qp_model.specs.declared.design_parts.DesignParts.{DesignParts}
 use Rattle.qp_model.specs.bounds.Printed.{Printed}
 use Rattle.overflow_check.proofs.ValuesMet.{values_law}
@@ -126,17 +127,23 @@ repairs_law d rho p units excess r share threshold s f h pu large enough xi insi
     lessened s t d v h pd k = cancel-le_z (pos (2 ^ 24)) _ _ (omega (arith, ints)) (le_by (add-le-add_z (mul-le-mul_left_z d pd h) k)
         (by_ring (s ∷ t ∷ d ∷ v ∷ []) (search quotes depth 60 fits 20000) refl))
 
--- the corners truly have the margin that is printed, since what is shown of them is no more than they have
-kept : (p : DesignParts) (plans : Plans) (h : Form) (e : StepErrors) (c : Numbers) (b : Printed) → IsBacked p plans h e c b → KeepsMargin (design_of p) plans (margin_of b)
-kept p plans h e c b backed = record {
-  slacks = λ k i first last inside. bounds.slacks b.margin k i first last inside (backed.margin.slacks k i first last inside);
-  costs = λ k first last. bounds.costs b.cost k first last (backed.margin.costs k first last);
+-- the corners truly have a margin that is shown of them, since that is no more than they have
+kept : (p : DesignParts) (plans : Plans) (m : Margin) → IsDesign p → IsPolicyFor (design_of p) plans → IsMargin (design_of p) plans m → KeepsMargin (design_of p) plans m
+kept p plans m design policy margin = record {
+  slacks = λ k i first last inside. bounds.slacks m.units k i first last inside (margin.slacks k i first last inside);
+  costs = λ k first last. bounds.costs m.cost k first last (margin.costs k first last);
 }
   where
     bounds : BoundsCorners (design_of p) plans (shown (design_of p) plans)
-    bounds = shown_law (design_of p) 1 plans (sound p backed.design) backed.policy
+    bounds = shown_law (design_of p) 1 plans (sound p design) policy
 
--- so what the promise rests on supports a run, with no threshold
+-- so repairs cost at most R times what exceeds any row
+pub margin_repairs : (p : DesignParts) (plans : Plans) (m : Margin) → IsDesign p → IsPolicyFor (design_of p) plans → IsMargin (design_of p) plans m →
+    pos 1 ≤ℤ m.units → HasRepairs (design_of p) (multiplier_of m) 0
+margin_repairs p plans m design policy margin slack = λ xi inside q u pq over den po pd least.
+    repair_law (design_of p) 1 plans m (sound p design) policy (kept p plans m design policy margin) slack xi inside q u pq over den po pd
+
+-- and what the promise rests on supports a run, with no threshold
 supported_by : (p : DesignParts) (plans : Plans) (h : Form) (e : StepErrors) (c : Numbers) (b : Printed) → IsBacked p plans h e c b →
     IsSupported p h e c (multiplier_of (margin_of b)) 0
 supported_by p plans h e c b backed = record {
@@ -146,8 +153,7 @@ supported_by p plans h e c b backed = record {
   controller = backed.controller;
   made = backed.made;
   errors = backed.errors;
-  repairs = λ xi inside q u pq over den po pd least.
-      repair_law (design_of p) 1 plans (margin_of b) (sound p backed.design) backed.policy (kept p plans h e c b backed) backed.slack xi inside q u pq over den po pd;
+  repairs = margin_repairs p plans (margin_of b) backed.design backed.policy backed.margin backed.slack;
 }
 
 pub certified_from : MachineRunLaw → CertifiedLaw

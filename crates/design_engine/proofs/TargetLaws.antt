@@ -6,14 +6,14 @@ use Rattle.std.proofs.Math.Nat.{mul-le-mul_left, mul-le-mul_right, div-mul-le_se
 use Rattle.integer_algebra.specs.Sums.{at}
 use Rattle.integer_algebra.specs.Division.{ceil_div}
 use Rattle.integer_algebra.proofs.DivisionLaws.{le-mul-ceil_div, ceil_div-le}
-use Rattle.qp_model.specs.bounds.Choices.{step_count, violation_bound, multiplier_of}
+use Rattle.qp_model.specs.bounds.Choices.{step_count, violation_bound, row_violation_bound, multiplier_of}
 use Rattle.qp_model.specs.problem.Parts.{IsDesign}
 use Rattle.qp_model.specs.machine.Controller.{Numbers}
 use Rattle.qp_model.specs.machine.Machine.{exponent_of}
 use Rattle.qp_model.specs.bounds.Printed.{Printed}
 use Rattle.qp_model.specs.declared.design_parts.DesignParts.{DesignParts}
 use Rattle.dual_bounds.proofs.RowBounds.{row_below}
-use Rattle.design_engine.specs.Targets.{targets_of, half_target, violation_target, step_target, rest_target, gap_target, IsWithinTargets}
+use Rattle.design_engine.specs.Targets.{targets_of, half_target, error_limit, violation_target, step_target, rest_target, gap_target, IsWithinTargets}
 use Rattle.design_engine.specs.Bounds.{margin_of, AreBoundsWith}
 use Rattle.design_engine.specs.Promise.{TargetsLaw}
 use Rattle.design_engine.specs.Threshold.{ThresholdTargetsLaw}
@@ -30,13 +30,15 @@ quotient_some a d h k = more (a / d) (omega arith) k
 at_most : (n a d : ℕ) → 1 ≤ d → n * d ≤ a → n ≤ a / d
 at_most n a d h k = (le-div_iff_mul-le {k = d} {x = n} {y = a} h).1 k
 
--- after the chosen steps the first part of the violation is at most the half target
-steps_enough : (a h : ℕ) → 1 ≤ a → 1 ≤ h → ceil_div a (ceil_div a h) ≤ h
-steps_enough a h o l =
-    let e = le-mul-ceil_div a h l in
-    let some : 0 < ceil_div a h = positive a h (ceil_div a h) o e in
-    ceil_div-le a (ceil_div a h) h some (omega (arith, e))
+-- after at least the chosen steps the first part of the violation is at most the half target
+steps_enough : (a h k : ℕ) → 1 ≤ a → 1 ≤ h → ceil_div a h ≤ k → ceil_div a k ≤ h
+steps_enough a h k o l m =
+    let e = through _ _ _ (le-mul-ceil_div a h l) (mul-le-mul_left h m) in
+    ceil_div-le a k h (positive a h k o e) (omega (arith, e))
   where
+    through : (a b c : ℕ) → a ≤ b → b ≤ c → a ≤ c
+    through a b c h k = omega (arith, h, k)
+
     positive : (a h k : ℕ) → 1 ≤ a → a ≤ h * k → 0 < k
     positive a h zero o e = absurd (omega (arith, e))
     positive a h (suc k) o e = omega arith
@@ -53,11 +55,11 @@ steps_some s r k o h = close (2 ^ (s + 41) * r) k (ceil_div (2 ^ (s + 41) * r) k
     close a k (suc q) h l = omega arith
 
 -- both parts
-pub halves : (s r h e : ℕ) → 1 ≤ r → 1 ≤ h → e ≤ r * h → violation_bound s r (step_count s r h) e ≤ 2 * h
-halves s r h e o l k =
+pub halves : (s r h k e : ℕ) → 1 ≤ r → 1 ≤ h → step_count s r h ≤ k → e ≤ r * h → violation_bound s r k e ≤ 2 * h
+halves s r h k e o l n g =
     let some : 0 < 2 ^ (s + 41) = pow_pos (s + 41) in
     let whole : 1 ≤ 2 ^ (s + 41) * r = omega (arith, mul-le-mul_left (2 ^ (s + 41)) o, some) in
-    omega (arith, steps_enough (2 ^ (s + 41) * r) h whole l, ceil_div-le e r h (omega arith) k)
+    omega (arith, steps_enough (2 ^ (s + 41) * r) h k whole l n, ceil_div-le e r h (omega arith) g)
 
 -- a bound over 2^40 that is at most a target's, as the law says it
 as_targets : (bound : ℤ) (n den target : ℕ) → bound ≡ pos n → n * den ≤ 2 ^ 40 * target → (bound *ℤ pos den) ≤ℤ (pos (2 ^ 40) *ℤ pos target)
@@ -80,36 +82,40 @@ some_of z h = omega (arith, ints)
 pub size_of : (z : ℤ) (n : ℕ) → pos 1 ≤ℤ z → z ≤ℤ pos n → unsigned_abs z ≤ n
 size_of z n h k = omega (arith, ints)
 
-pub targets_law : TargetsLaw
-targets_law p cost c b h = record {
-  violation = as_targets b.violation _ (unsigned_abs p.target_den) (unsigned_abs p.violation) h.bounds.violation
-      (twice_half _ (half_target (targets_of p)) (unsigned_abs p.violation) (unsigned_abs p.target_den) (rw h.steps parts) refl);
-  rows = λ i l. (let inside = subst (λ (n : ℕ). i < n) h.bounds.row_count l in
-      as_targets (at b.row_violations i) _ (unsigned_abs p.target_den) (unsigned_abs p.violation) (h.bounds.row_violations i inside)
+-- bounds of two halves, after at least the chosen steps with exponents up to s, where those of the rows are told by `own`
+pub halves_within : (p : DesignParts) → IsDesign p → (c : Numbers) (b : Printed) (r cost s k repaired : ℕ) (own : ℕ → ℕ) → 1 ≤ r →
+    step_count s r (half_target (targets_of p)) ≤ k → cost ≤ error_limit (targets_of p) r → ((i : ℕ) → i < c.rows → own (exponent_of c i) ≤ s) →
+    AreBoundsWith c b r cost (violation_bound s r k cost) (λ e. row_violation_bound (own e) s r k cost) repaired → IsWithinTargets (targets_of p) b
+halves_within p design c b r cost s k repaired own bound steps errors exponents bounds = record {
+  violation = as_targets b.violation _ (unsigned_abs p.target_den) (unsigned_abs p.violation) bounds.violation
+      (twice_half _ (half_target (targets_of p)) (unsigned_abs p.violation) (unsigned_abs p.target_den) parts refl);
+  rows = λ i l. (let inside = subst (λ (n : ℕ). i < n) bounds.row_count l in
+      as_targets (at b.row_violations i) _ (unsigned_abs p.target_den) (unsigned_abs p.violation) (bounds.row_violations i inside)
       (twice_half _ (half_target (targets_of p)) (unsigned_abs p.violation) (unsigned_abs p.target_den)
-      (through _ _ _ (row_below (exponent_of c i) c.step_exponent r c.steps cost (h.exponents i inside) some) (rw h.steps parts)) refl));
-  gap = as_targets b.gap _ (unsigned_abs p.target_den) (unsigned_abs p.gap) h.bounds.gap
-      (whole_target _ (unsigned_abs p.gap) (unsigned_abs p.target_den) (omega (arith, h.errors)));
+      (through _ _ _ (row_below (own (exponent_of c i)) s r k cost (exponents i inside) some) parts) refl));
+  gap = as_targets b.gap _ (unsigned_abs p.target_den) (unsigned_abs p.gap) bounds.gap
+      (whole_target _ (unsigned_abs p.gap) (unsigned_abs p.target_den) (omega (arith, errors)));
 }
   where
-    r : ℕ
-    r = multiplier_of (margin_of b)
-
     through : (a b c : ℕ) → a ≤ b → b ≤ c → a ≤ c
     through a b c h k = omega (arith, h, k)
 
-    den : 1 ≤ unsigned_abs p.target_den
-    den = some_of p.target_den h.design.target_den.low
-
     half_some : 1 ≤ half_target (targets_of p)
-    half_some = quotient_some (2 ^ 39 * unsigned_abs p.violation) (unsigned_abs p.target_den) den
-        (omega (arith, size_of p.target_den (2 ^ 20) h.design.target_den.low h.design.target_den.high, some_of p.violation h.design.violation.low))
+    half_some = quotient_some (2 ^ 39 * unsigned_abs p.violation) (unsigned_abs p.target_den) (some_of p.target_den design.target_den.low)
+        (omega (arith, size_of p.target_den (2 ^ 20) design.target_den.low design.target_den.high, some_of p.violation design.violation.low))
 
-    some : 1 ≤ c.steps
-    some = subst (λ (n : ℕ). 1 ≤ n) (sym h.steps) (steps_some c.step_exponent r (half_target (targets_of p)) (omega arith) half_some)
+    some : 1 ≤ k
+    some = through _ _ _ (steps_some s r (half_target (targets_of p)) bound half_some) steps
 
-    parts : violation_bound c.step_exponent r (step_count c.step_exponent r (half_target (targets_of p))) cost ≤ 2 * half_target (targets_of p)
-    parts = halves c.step_exponent r (half_target (targets_of p)) cost (omega arith) half_some (omega (arith, h.errors))
+    parts : violation_bound s r k cost ≤ 2 * half_target (targets_of p)
+    parts = halves s r (half_target (targets_of p)) k cost bound half_some steps (omega (arith, errors))
+
+pub targets_law : TargetsLaw
+targets_law p cost c b h = halves_within p h.design c b (multiplier_of (margin_of b)) cost c.step_exponent c.steps (unsigned_abs b.violation) (λ e. e) (omega arith)
+    (no_more h.steps) h.errors h.exponents h.bounds
+  where
+    no_more : {a n : ℕ} → a ≡ n → n ≤ a
+    no_more {a} {n} e = omega (arith, e)
 
 -- ---- with a threshold
 -- the shares of a target are at most the target

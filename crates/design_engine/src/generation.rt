@@ -88,8 +88,8 @@ fn error_limit(parts: &DesignParts, r: i128) -> i128
     gap_target(parts).min(r * half_target(parts))
 }
 
-// What the targets ask for with a margin and its R.
-fn plain_terms(parts: &DesignParts, margin: &Margin, r: i128) -> Terms
+/// What the targets ask for with a margin and its R.
+pub fn plain_terms(parts: &DesignParts, margin: &Margin, r: i128) -> Terms
     requires design { IsDesign parts.now }
     requires bound { r ≡ pos (multiplier_of margin.now) }
     requires room { multiplier_size_of margin.now ≤ 2 ^ 126 }

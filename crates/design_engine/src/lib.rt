@@ -17,6 +17,6 @@ pub use bounds::{
 pub use condensing::{condense, form_law};
 pub use controller_maker::{Settings, controller_of};
 pub use corners::{margins, shown_law};
-pub use generation::{Made, gap_target, generate, made_with};
+pub use generation::{Made, gap_target, generate, made_with, plain_terms};
 pub use laws::{agreement_law, causes_law, certified_law, targets_law, threshold_law};
 pub use qp_model::Refusal;
