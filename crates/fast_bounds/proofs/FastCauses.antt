@@ -68,7 +68,7 @@ module _ (p : DesignParts) (a : Aim) (design : IsDesign p) (s : ℕ) where
       (sized_none Descent _ _ h.descent (sized_none Width _ Nothing h.width nothing_none)))))
 
 -- out of memory is told by none of them
-fast_aim_apart : (d : Design) (a : Aim) (s : ℕ) → IsApart (HasFastAimCause d a s)
+pub fast_aim_apart : (d : Design) (a : Aim) (s : ℕ) → IsApart (HasFastAimCause d a s)
 fast_aim_apart d a s e memory (inl h) = long (pos h.0) (sym memory ∙ h.1)
   where
     long : (k : ℤ) → Memory ≡ TooManySteps k → ⊥

@@ -1,9 +1,6 @@
 -- What is made with a slack, an excess and R, and why the tests of these refuse it.
-use Rattle.std.proofs.Common.{◌≡◌, inl, inr, ℕ, ◌*◌, ◌^◌, ◌<◌, ◌≤◌, max, ℤ, pos, ◌≤ℤ◌, unsigned_abs, arith, ap, rules, refl, subst, sym, ◌∙◌, Result, Option, Some, None}
-use Rattle.std.specs.Prelude.{IsSome}
-use Rattle.std.proofs.lemmas.Bool.{false≢true}
+use Rattle.std.proofs.Common.{◌≡◌, inl, inr, ℕ, ◌*◌, ◌^◌, ◌<◌, ◌≤◌, max, ℤ, pos, ◌≤ℤ◌, unsigned_abs, arith, ap, rules, refl, subst, sym, ◌∙◌, Result}
 use Rattle.std.proofs.lemmas.Int.{ints}
-use Rattle.std.proofs.lemmas.Nat.{mul-le}
 use Rattle.qp_model.specs.problem.Design.{Design}
 use Rattle.qp_model.specs.problem.Parts.{design_of}
 use Rattle.qp_model.specs.problem.Policy.{Plans, IsPolicyFor}
@@ -25,18 +22,15 @@ use Rattle.dual_bounds.specs.FastSteps.{fast_multiplier_size}
 use Rattle.design_engine.specs.Targets.{Targets, targets_of, floor_target, violation_target}
 use Rattle.design_engine.specs.Stages.{OfForm}
 use Rattle.design_engine.specs.Tests.{IsRefusedFor, HasFormCause}
-use Rattle.design_engine.specs.Terms.{repaired, AreTerms}
 use Rattle.design_engine.specs.Refusals.{PassesMargin}
 use Rattle.design_engine.specs.declared.bounds.Terms.{Terms}
 use Rattle.design_engine.proofs.CauseCases.{refused_map}
 use Rattle.design_engine.proofs.StageLaws.{form_told, form_passed, corner_passed}
-use Rattle.design_engine.proofs.TargetLaws.{size_of}
 use Rattle.lean_engine.specs.Lean.{bound_of, lean_aim, lean_terms}
 use Rattle.lean_engine.specs.Refusals.{policy_excess, policy_excess_size, aim_at, PassesScaling}
 use Rattle.fast_bounds.specs.FastAnswers.{real_cost_for, stated_cost_for, IsFastMadeBy, IsFastBuiltAs, TellsOf}
 use Rattle.fast_bounds.specs.FastCertified.{IsFastMadeWith, AreFastThresholdBoundsOf}
 use Rattle.fast_bounds.specs.FastRefusals.{fast_multiplier_size_at, HasFastAimCause, AfterFastExponent, HasFastCause, PassesSomeFastAim, PassesSomeFast}
-use Rattle.fast_bounds.specs.FastTerms.{HasFastUndercutRoom}
 use Rattle.fast_bounds.specs.declared.generation.FastMade.{FastMade}
 use Rattle.fast_bounds.proofs.FastAnswers.{told_as}
 
@@ -62,18 +56,6 @@ bound_of_target units excess z t r e h = (
   subst (λ (n : ℕ). fast_multiplier_size units excess n ≤ 2 ^ 126) (ap unsigned_abs e) h.0,
   h.1 ∙ ap (λ (n : ℕ). pos (lean_multiplier units excess n)) (ap unsigned_abs e),
 )
-
--- a lean controller's terms have a target
-pub terms_some : (t : Targets) (units excess : ℕ) (x : Terms) → x ≡ lean_terms t units excess → IsSome x.target
-terms_some t units excess x e = subst (λ (y : Terms). IsSome y.target) (sym e) refl
-
--- the undercut lies in its range, where a repair is known for a target
-pub undercut_room : (x : Terms) (c : Numbers) (cost : ℕ) → AreTerms x → x.aim.r ≤ℤ pos (2 ^ 42) → IsSome x.target → HasFastUndercutRoom x c cost
-undercut_room x c cost t narrow some = room x.target (unsigned_abs x.aim.r) _ (size_of x.aim.r (2 ^ 42) t.aim.some narrow) some t.short
-  where
-    room : (o : Option ℤ) (r v : ℕ) → r ≤ 2 ^ 42 → IsSome o → repaired o 0 ≤ 2 ^ 71 → r * repaired o v ≤ 2 ^ 126
-    room None r v h some t = absurd (false≢true some)
-    room (Some target) r v h some t = omega (arith, mul-le r (unsigned_abs target) (2 ^ 42) (2 ^ 71) h t)
 
 -- ---- the refusals
 module _ (d : Design) (t : Targets) (plans references : Plans) where

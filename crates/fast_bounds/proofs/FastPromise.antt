@@ -24,7 +24,7 @@ use Rattle.step_error.proofs.Ceilings.{ceil_rises}
 use Rattle.step_error.proofs.FallingLaws.{squares_rise, errors_cost_rises}
 use Rattle.step_error.proofs.RealCosts.{real_gradient_le, plan_le}
 use Rattle.design_engine.specs.Targets.{targets_of, violation_target, step_target, rest_target, gap_target}
-use Rattle.design_engine.specs.Threshold.{IsEnoughOf}
+use Rattle.design_engine.specs.Threshold.{HasRepairs, IsEnoughOf}
 use Rattle.design_engine.specs.declared.aimed.Aim.{Aim}
 use Rattle.design_engine.proofs.FormLaws.{form_law}
 use Rattle.design_engine.proofs.TargetLaws.{some_of, step_some, shares_fit, shares_enough, above_targets}
@@ -128,6 +128,31 @@ pub cost_limited : (p : DesignParts) (a : Aim) (c : Numbers) → IsFastMadeWith 
     cost_for p (form_of (design_of p)) (unsigned_abs a.r) c (real_errors (design_of p) (form_of (design_of p)) (unsigned_abs a.r) c) ≤ unsigned_abs a.error_target
 cost_limited p a c h = omega (arith, real_within p a c h, h.bits.within)
 
+-- made with an aim, where repairs are known for a threshold
+pub supported_with : (p : DesignParts) (a : Aim) (c : Numbers) (threshold : ℕ) → 1 ≤ unsigned_abs a.r → IsFastMadeWith p a c →
+    HasRepairs (design_of p) (unsigned_abs a.r) threshold →
+    IsFastSupported p (form_of (design_of p)) (real_errors (design_of p) (form_of (design_of p)) (unsigned_abs a.r) c) c (unsigned_abs a.r) threshold
+supported_with p a c threshold some h repairs = record {
+  design = h.design;
+  some = some;
+  form = formed;
+  controller = h.controller;
+  made = h.made;
+  errors = λ xi long inside. fast_carried.real p (form_of (design_of p)) (unsigned_abs a.r) c xi (record {
+    design = h.design;
+    bound = some;
+    form = formed;
+    controller = h.controller;
+    made = h.made;
+    long = long;
+    inside = inside;
+  });
+  repairs = repairs;
+}
+  where
+    formed : IsFormFor (design_of p) (form_of (design_of p))
+    formed = form_law p h.design h.narrow
+
 -- ---- made for a design, a policy and reference plans
 module _ (p : DesignParts) (plans references : Plans) (c : Numbers) (b : Printed) (h : IsFastBuilt p plans references c b) where
   abbrev d : Design
@@ -151,9 +176,6 @@ module _ (p : DesignParts) (plans references : Plans) (c : Numbers) (b : Printed
   abbrev cost : ℕ
   cost = cost_for p form r c (real_errors d form r c)
 
-  formed : IsFormFor d form
-  formed = form_law p h.made.design h.made.narrow
-
   some : 1 ≤ r
   some = bound_some (targets_of p) units excess
 
@@ -161,24 +183,8 @@ module _ (p : DesignParts) (plans references : Plans) (c : Numbers) (b : Printed
   cheap = cost_limited p (lean_aim (targets_of p) units excess) c h.made
 
   supported : IsFastSupported p form (real_errors d form r c) c r t
-  supported = record {
-    design = h.made.design;
-    some = some;
-    form = formed;
-    controller = h.made.controller;
-    made = h.made.made;
-    errors = λ xi long inside. fast_carried.real p form r c xi (record {
-      design = h.made.design;
-      bound = some;
-      form = formed;
-      controller = h.made.controller;
-      made = h.made.made;
-      long = long;
-      inside = inside;
-    });
-    repairs = repairs_above p plans units excess h.made.design h.policy
-        (corners p plans references b h.greatest_cost h.made.design h.made.narrow h.policy h.reference h.margin h.slack h.excess) (some_of b.margin h.slack);
-  }
+  supported = supported_with p (lean_aim (targets_of p) units excess) c t some h.made (repairs_above p plans units excess h.made.design h.policy
+      (corners p plans references b h.greatest_cost h.made.design h.made.narrow h.policy h.reference h.margin h.slack h.excess) (some_of b.margin h.slack))
 
   enough : IsEnoughOf (quarter_steps c.steps) (c.step_exponent + 2) r t cost
   enough = shares_enough (c.step_exponent + 2) r cost (quarter_steps c.steps) t (step_target (targets_of p)) (rest_target (targets_of p))

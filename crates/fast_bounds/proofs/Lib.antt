@@ -17,4 +17,5 @@ pub mod FastAssembled
 pub mod FastResiduals
 pub mod FastAnswers
 pub mod FastPriced
+pub mod FastMargin
 mod FastBoundsWorked

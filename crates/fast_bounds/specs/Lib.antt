@@ -3,3 +3,4 @@ pub mod FastCertified
 pub mod FastRefusals
 pub mod FastTerms
 pub mod FastAnswers
+pub mod FastMargin

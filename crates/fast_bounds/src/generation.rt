@@ -1,5 +1,5 @@
 // From a design, a policy and reference plans to a controller of the accelerated machine and its bounds.
-ghost use Rattle.std.specs.Prelude.{◌≡◌, ◌⊎◌, ◌≤ℤ◌, ◌^◌, ℕ, List, pos, unsigned_abs, IfOk, OnOk, IfErr, IsOk, IsSome, Err};
+ghost use Rattle.std.specs.Prelude.{◌≡◌, ◌⊎◌, ◌≤ℤ◌, ◌^◌, ℕ, List, pos, unsigned_abs, IfOk, OnOk, IfErr, IsOk, Err};
 ghost use Rattle.qp_model.specs.problem.Parts.{design_of};
 ghost use Rattle.qp_model.specs.problem.Policy.{plans_of, IsPolicyFor};
 ghost use Rattle.qp_model.specs.bounds.Printed.{printed};
@@ -32,8 +32,8 @@ pub struct FastMade {
     pub eps: i128,
 }
 
-// What is made of a design with these terms, of a lean controller: the tests after the step exponent, the controller, and its bounds.
-fn fast_made_with(
+// What is made of a design with these terms: the tests after the step exponent, the controller, and its bounds.
+pub(crate) fn fast_made_with(
     alloc: Global,
     design: &Design,
     stepped: &SteppedForm,
@@ -42,7 +42,6 @@ fn fast_made_with(
     requires stepped { IsSteppedFormOf design.now stepped.now }
     requires terms { AreTerms terms }
     requires narrow { terms.aim.r ≤ℤ pos (2 ^ 42) }
-    requires lean { IsSome terms.target }
     ensures { TellsOf FastMade (IsFastMadeBy design.now terms) (PassesSomeFastAim (design_of design.now) terms.aim stepped.now.s)
         (HasFastAimCause (design_of design.now) terms.aim stepped.now.s) result }
 {

@@ -1,5 +1,6 @@
 // The errors of the accelerated machine's steps on a design, and the bound of its runs.
 ghost use Rattle.fast_bounds.specs.FastCertified.{FastCertifiedLaw, FastLeanLaw};
+ghost use Rattle.fast_bounds.specs.FastMargin.{FastMarginLaw, FastMarginCausesLaw, FastMarginPassingLaw};
 ghost use Rattle.fast_bounds.specs.FastRefusals.{FastCausesLaw, FastPassingLaw};
 ghost use Rattle.fast_bounds.specs.FastDesign.{PlanErrorsLaw, FastCarriedLaw, FastDesignRunLaw, FastStatedRunLaw};
 
@@ -38,8 +39,16 @@ pub fn fast_lean_law()
     ensures { FastLeanLaw }
 {}
 
-/// A design with a policy and reference plans has at most one refusal with a cause by the tests of this machine, and none where it passes every test.
+/// So does one that is made for a design and a policy alone.
+pub fn fast_margin_law()
+    ensures { FastMarginLaw }
+{}
+
+/// A design with a policy and reference plans has at most one refusal with a cause by the tests of this machine, and none where it passes every test. So has
+/// a design with a policy alone.
 pub fn fast_causes_law()
     ensures one { FastCausesLaw }
     ensures none { FastPassingLaw }
+    ensures one_by_margin { FastMarginCausesLaw }
+    ensures none_by_margin { FastMarginPassingLaw }
 {}

@@ -6,6 +6,7 @@ mod bounds;
 mod controller;
 mod generation;
 mod laws;
+mod margin;
 mod numbers;
 mod residuals;
 
@@ -16,6 +17,7 @@ pub use design_engine::{Run, fast_violations_after};
 pub use generation::{FastMade, generate_fast};
 pub use laws::{
     fast_carried_law, fast_causes_law, fast_certified_law, fast_design_run_law, fast_lean_law,
-    fast_stated_run_law, plan_errors_law,
+    fast_margin_law, fast_stated_run_law, plan_errors_law,
 };
+pub use margin::generate_fast_by_margin;
 pub use numbers::{RunNumbers, run_numbers};

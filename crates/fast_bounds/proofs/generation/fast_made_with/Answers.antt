@@ -1,13 +1,13 @@
-use Rattle.std.proofs.Common.{ℕ, inl, rules, refl, subst, ◌∙◌}
+use Rattle.std.proofs.Common.{ℕ, ◌+◌, inl, rules, refl, subst, ◌∙◌}
 use Rattle.std.specs.Int.{w128}
 use Rattle.std.proofs.lemmas.Int.{to_z-of_z}
 use mir.Val.{SFits}
 use Rattle.qp_model.specs.bounds.Printed.{printed}
-use Rattle.design_engine.proofs.GenerationFacts.{whole_is, whole_least, at_most, error_small}
+use Rattle.dual_bounds.specs.FastSteps.{quarter_steps}
+use Rattle.design_engine.proofs.GenerationFacts.{whole_is, whole_least, at_most, error_small, undercut_fits}
 use Rattle.fast_bounds.specs.FastTerms.{AreFastPrintedOf}
 use Rattle.fast_bounds.specs.declared.generation.FastMade.{FastMade}
 use Rattle.fast_bounds.proofs.FastAnswers.{handed}
-use Rattle.fast_bounds.proofs.FastPriced.{undercut_room}
 use Rattle.fast_bounds.proofs.FastPromise.{cost_limited}
 use Rattle.fast_bounds.proofs.generation.fast_made_with.Goals as goal
 
@@ -39,7 +39,12 @@ fast_bounds_of-requires-clause-small c =
     (cost_limited c.args.design.now c.args.terms.aim c.in_ok-aimed.aimed.controller c.in_ok-aimed.ensures.made.made) (error_small c.args.terms.aim c.requires.terms.aim)
 
 pub fast_bounds_of-requires-clause-fits : goal.fast_bounds_of-requires-clause-fits
-fast_bounds_of-requires-clause-fits c = undercut_room c.args.terms c.in_ok-aimed.aimed.controller _ c.requires.terms c.requires.narrow c.requires.lean
+fast_bounds_of-requires-clause-fits c =
+    let e : SFits w128 c.in_ok-aimed.aimed.cost = search rules in
+    let n = c.in_ok-aimed.aimed.controller in
+    let made = c.in_ok-aimed.ensures.made.made in
+    rw (to_z-of_z w128 _ e ∙ c.in_ok-aimed.ensures.made.cost)
+    (undercut_fits c.args.terms (n.step_exponent + 2) (quarter_steps n.steps) _ c.requires.terms made.steps.enough (cost_limited c.args.design.now c.args.terms.aim n made))
 
 -- ---- what is told
 pub returns-in_err-aimed : goal.returns-in_err-aimed

@@ -14,7 +14,7 @@ use Rattle.lean_engine.specs.Lean.{lean_terms}
 use Rattle.lean_engine.proofs.LeanFacts.{lean_ranges}
 use Rattle.fast_bounds.specs.declared.generation.FastMade.{FastMade}
 use Rattle.fast_bounds.proofs.FastAnswers.{handed}
-use Rattle.fast_bounds.proofs.FastPriced.{room_of, bound_narrow, bound_of_target, terms_some, excess_refused, multiplier_refused, fast_told}
+use Rattle.fast_bounds.proofs.FastPriced.{room_of, bound_narrow, bound_of_target, excess_refused, multiplier_refused, fast_told}
 use Rattle.fast_bounds.proofs.generation.fast_priced.Goals as goal
 
 pub returns-in_err-excess : goal.returns-in_err-excess
@@ -88,13 +88,6 @@ fast_made_with-requires-clause-narrow c =
     let bound = bound_of_target _ _ _ _ _ c.floor_target.ensures (rw (to_z-of_z w128 _ u, to_z-of_z w128 _ x, to_z-of_z w128 _ t) at c.in_ok-r.ensures.value) in
     let is = rw (to_z-of_z w128 _ u, to_z-of_z w128 _ x) at c.lean_terms-terms.ensures in
     bound_narrow _ _ _ c.lean_terms-terms.result.aim.r (ap (λ (x : Terms). x.aim.r) is) bound.0
-
-pub fast_made_with-requires-clause-lean : goal.fast_made_with-requires-clause-lean
-fast_made_with-requires-clause-lean c =
-    let u : SFits w128 c.args.margin.units = search rules in
-    let x : SFits w128 c.in_ok-excess.excess = search rules in
-    let is = rw (to_z-of_z w128 _ u, to_z-of_z w128 _ x) at c.lean_terms-terms.ensures in
-    terms_some _ _ _ _ is
 
 pub returns : goal.returns
 returns c =
