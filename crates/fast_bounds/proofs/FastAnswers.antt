@@ -4,8 +4,8 @@ use Rattle.std.specs.Prelude.{IsOk}
 use Rattle.std.specs.Result.{IsErr, IsErrAnd}
 use Rattle.qp_model.specs.declared.refusal.Refusal.{Refusal}
 use Rattle.qp_model.specs.declared.refusal.Refusal.TheVariants.{Memory}
-use Rattle.design_engine.specs.Tests.{IsRefusedFor}
-use Rattle.design_engine.proofs.TestLaws.{IsOne, IsNone}
+use Rattle.lean_engine.specs.Engine.Tests.{IsRefusedFor}
+use Rattle.lean_engine.proofs.Engine.TestLaws.{IsOne, IsNone}
 use Rattle.fast_bounds.specs.FastAnswers.{TellsOf}
 
 -- a refusal that is handed on

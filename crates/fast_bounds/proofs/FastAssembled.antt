@@ -19,12 +19,12 @@ use Rattle.controller_maker.specs.Widest.{fast_width_size}
 use Rattle.controller_maker.specs.Assembled.{HasFastExponents, IsFastAssembled}
 use Rattle.dual_bounds.specs.FastSteps.{quarter_steps}
 use Rattle.dual_bounds.proofs.QuarterLaws.{few}
-use Rattle.hessian_check.specs.Steps.{IsExponentOf}
-use Rattle.hessian_check.specs.RowExponents.{AreExponentsOf}
+use Rattle.lean_engine.specs.Steps.{IsExponentOf}
+use Rattle.lean_engine.specs.Engine.RowExponents.{AreExponentsOf}
 use Rattle.overflow_check.specs.FastController.{most_fast_steps, IsFastController}
-use Rattle.design_engine.specs.Tests.{IsRefusedFor}
-use Rattle.design_engine.specs.declared.aimed.Aim.{Aim}
-use Rattle.design_engine.proofs.BuiltFacts.{exponents_listed}
+use Rattle.lean_engine.specs.Engine.Tests.{IsRefusedFor}
+use Rattle.lean_engine.specs.Engine.declared.aimed.Aim.{Aim}
+use Rattle.lean_engine.proofs.Engine.BuiltFacts.{exponents_listed}
 use Rattle.fast_bounds.specs.FastCertified.{IsFastMadeWith}
 use Rattle.fast_bounds.specs.FastRefusals.{AreStepsFor, AfterFastBits, HasFastAimCause}
 use Rattle.fast_bounds.specs.FastTerms.{PassesFastBits}

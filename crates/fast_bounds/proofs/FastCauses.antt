@@ -10,17 +10,17 @@ use Rattle.qp_model.specs.declared.quantity.Quantity.TheVariants.{Multiplier, Ex
 use Rattle.qp_model.specs.declared.refusal.Refusal.{Refusal}
 use Rattle.qp_model.specs.declared.refusal.Refusal.TheVariants.{Memory, TooManySteps, TooFine}
 use Rattle.controller_maker.specs.Widest.{fast_width_size}
-use Rattle.hessian_check.specs.RowExponents.{AreExponentsOf}
+use Rattle.lean_engine.specs.Engine.RowExponents.{AreExponentsOf}
 use Rattle.dual_bounds.specs.FastSteps.{quarter_steps, IsLeastQuarter}
 use Rattle.step_error.specs.CarriedErrors.{run_sums_of}
 use Rattle.step_error.proofs.SumFacts.{floor_range}
 use Rattle.overflow_check.specs.FastController.{most_fast_steps}
-use Rattle.design_engine.specs.Stages.{Nothing, Sized, Finds, OfForm}
-use Rattle.design_engine.specs.Targets.{Targets}
-use Rattle.design_engine.specs.declared.aimed.Aim.{Aim}
-use Rattle.design_engine.proofs.TestLaws.{IsOne, IsNone, IsApart, nothing_one, nothing_none, sized_one, sized_none, sized_apart, finds_one, finds_none}
-use Rattle.design_engine.proofs.OneOfEach.{one_choice, no_choice, one_exponents}
-use Rattle.design_engine.proofs.StageLaws.{form_one, form_none, form_apart, corners_one, corners_none, corners_apart}
+use Rattle.lean_engine.specs.Engine.Stages.{Nothing, Sized, Finds, OfForm}
+use Rattle.lean_engine.specs.Engine.Targets.{Targets}
+use Rattle.lean_engine.specs.Engine.declared.aimed.Aim.{Aim}
+use Rattle.lean_engine.proofs.Engine.TestLaws.{IsOne, IsNone, IsApart, nothing_one, nothing_none, sized_one, sized_none, sized_apart, finds_one, finds_none}
+use Rattle.lean_engine.proofs.Engine.OneOfEach.{one_choice, no_choice, one_exponents}
+use Rattle.lean_engine.proofs.Engine.StageLaws.{form_one, form_none, form_apart, corners_one, corners_none, corners_apart}
 use Rattle.lean_engine.specs.Refusals.{aim_at}
 use Rattle.fast_bounds.specs.FastRefusals.{AreStepsFor, AreFastBitsOf, AfterFastBits, IsFastFine, AfterExponents, IsFastLong, HasFastAimCause, PassesFastAim}
 use Rattle.fast_bounds.specs.FastRefusals.{AfterFastExponent, HasFastCause, FastCausesLaw, FastPassingLaw}

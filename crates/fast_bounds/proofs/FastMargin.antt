@@ -1,5 +1,5 @@
 -- A controller that is made of a design and a policy alone: why it keeps the whole promise of its bounds, and why it is refused.
-use Rattle.std.proofs.Common.{◌≡◌, inl, inr, ℕ, ◌+◌, ◌*◌, ◌^◌, ◌<◌, ◌≤◌, max, ℤ, pos, ◌≤ℤ◌, unsigned_abs, arith, ap, refl, subst, sym, ◌∙◌, Result}
+use Rattle.std.proofs.Common.{◌≡◌, inl, inr, ℕ, ◌+◌, ◌*◌, ◌^◌, ◌<◌, ◌≤◌, max, ℤ, pos, ◌≤ℤ◌, unsigned_abs, arith, refl, subst, sym, ◌∙◌, Result}
 use Rattle.std.proofs.lemmas.Int.{ints}
 use Rattle.qp_model.specs.problem.Design.{Design}
 use Rattle.qp_model.specs.problem.Parts.{design_of}
@@ -18,20 +18,19 @@ use Rattle.qp_model.specs.declared.refusal.Refusal.{Refusal}
 use Rattle.qp_model.specs.declared.refusal.Refusal.TheVariants.{Memory, TooWide}
 use Rattle.dual_bounds.specs.FastSteps.{quarter_steps}
 use Rattle.dual_bounds.proofs.RowBounds.{greatest_row}
-use Rattle.hessian_check.specs.Steps.{IsExponentOf}
-use Rattle.design_engine.specs.Aims.{aim_of}
-use Rattle.design_engine.specs.Bounds.{margin_of, printed_multiplier, AreBoundsWith}
-use Rattle.design_engine.specs.Refusals.{PassesMargin}
-use Rattle.design_engine.specs.Stages.{OfForm}
-use Rattle.design_engine.specs.Targets.{Targets, targets_of}
-use Rattle.design_engine.specs.Terms.{plain_terms}
-use Rattle.design_engine.specs.Tests.{PassesForm, IsRefusedFor, HasFormCause}
-use Rattle.design_engine.specs.declared.bounds.Terms.{Terms}
-use Rattle.design_engine.proofs.CauseCases.{refused_map}
-use Rattle.design_engine.proofs.PromiseLaws.{margin_repairs}
-use Rattle.design_engine.proofs.StageLaws.{form_one, form_none, form_apart, form_told, form_passed, corners_one, corners_none, corners_apart, corner_passed}
-use Rattle.design_engine.proofs.TargetLaws.{halves_within}
-use Rattle.design_engine.proofs.TestLaws.{sized_one, sized_none, sized_apart}
+use Rattle.lean_engine.specs.Steps.{IsExponentOf}
+use Rattle.lean_engine.specs.Engine.Aims.{aim_of}
+use Rattle.lean_engine.specs.Engine.Bounds.{margin_of, printed_multiplier, AreBoundsWith}
+use Rattle.lean_engine.specs.Engine.Refusals.{PassesMargin}
+use Rattle.lean_engine.specs.Engine.Targets.{Targets, targets_of}
+use Rattle.lean_engine.specs.Engine.Terms.{plain_terms}
+use Rattle.lean_engine.specs.Engine.Tests.{PassesForm, IsRefusedFor, HasFormCause}
+use Rattle.lean_engine.specs.Engine.declared.bounds.Terms.{Terms}
+use Rattle.lean_engine.proofs.Engine.CauseCases.{refused_map}
+use Rattle.lean_engine.proofs.Engine.PromiseLaws.{margin_repairs}
+use Rattle.lean_engine.proofs.Engine.StageLaws.{form_one, form_none, form_apart, form_told, form_passed, corners_one, corners_none, corners_apart, corner_passed}
+use Rattle.lean_engine.proofs.Engine.TargetLaws.{halves_within}
+use Rattle.lean_engine.proofs.Engine.TestLaws.{sized_one, sized_none, sized_apart}
 use Rattle.fast_bounds.specs.FastAnswers.{real_cost_for, stated_cost_for, IsFastMadeBy, TellsOf}
 use Rattle.fast_bounds.specs.FastCertified.{IsFastMadeWith}
 use Rattle.fast_bounds.specs.FastMargin.{fast_margin_size, AfterFastMargin, HasFastMarginCause, PassesSomeFastMargin, FastMarginCausesLaw, FastMarginPassingLaw}

@@ -17,9 +17,9 @@ use Rattle.step_error.specs.RunSums.{mean_squares, run_error_size}
 use Rattle.step_error.proofs.Ceilings.{ceil_rises}
 use Rattle.step_error.proofs.FallingLaws.{squares_rise}
 use Rattle.step_error.proofs.RunLaws.{carry_some}
-use Rattle.hessian_check.specs.RowExponents.{AreExponentsOf}
+use Rattle.lean_engine.specs.Engine.RowExponents.{AreExponentsOf}
 use Rattle.overflow_check.specs.FastController.{most_fast_steps}
-use Rattle.design_engine.specs.declared.aimed.Aim.{Aim}
+use Rattle.lean_engine.specs.Engine.declared.aimed.Aim.{Aim}
 use Rattle.fast_bounds.specs.FastRefusals.{AreStepsFor, AfterExponents, HasFastAimCause}
 
 -- ---- `error` of a run is no less than that of a step

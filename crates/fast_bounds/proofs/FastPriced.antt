@@ -1,5 +1,5 @@
 -- What is made with a slack, an excess and R, and why the tests of these refuse it.
-use Rattle.std.proofs.Common.{◌≡◌, inl, inr, ℕ, ◌*◌, ◌^◌, ◌<◌, ◌≤◌, max, ℤ, pos, ◌≤ℤ◌, unsigned_abs, arith, ap, rules, refl, subst, sym, ◌∙◌, Result}
+use Rattle.std.proofs.Common.{◌≡◌, inl, inr, ℕ, ◌*◌, ◌^◌, ◌<◌, ◌≤◌, max, ℤ, pos, ◌≤ℤ◌, unsigned_abs, arith, ap, rules, subst, sym, ◌∙◌, Result}
 use Rattle.std.proofs.lemmas.Int.{ints}
 use Rattle.qp_model.specs.problem.Design.{Design}
 use Rattle.qp_model.specs.problem.Parts.{design_of}
@@ -17,15 +17,15 @@ use Rattle.qp_model.specs.declared.size_fault.SizeFault.{SizeFault}
 use Rattle.qp_model.specs.declared.size_fault.SizeFault.TheVariants.{Memory as size_memory, TooWide as size_wide}
 use Rattle.qp_model.specs.declared.refusal.Refusal.{Refusal}
 use Rattle.qp_model.specs.declared.refusal.Refusal.TheVariants.{TooWide}
-use Rattle.plan_excess.specs.Fault.{IsExcessFault}
+use Rattle.lean_engine.specs.ExcessFault.{IsExcessFault}
 use Rattle.dual_bounds.specs.FastSteps.{fast_multiplier_size}
-use Rattle.design_engine.specs.Targets.{Targets, targets_of, floor_target, violation_target}
-use Rattle.design_engine.specs.Stages.{OfForm}
-use Rattle.design_engine.specs.Tests.{IsRefusedFor, HasFormCause}
-use Rattle.design_engine.specs.Refusals.{PassesMargin}
-use Rattle.design_engine.specs.declared.bounds.Terms.{Terms}
-use Rattle.design_engine.proofs.CauseCases.{refused_map}
-use Rattle.design_engine.proofs.StageLaws.{form_told, form_passed, corner_passed}
+use Rattle.lean_engine.specs.Engine.Targets.{Targets, targets_of, floor_target, violation_target}
+use Rattle.lean_engine.specs.Engine.Stages.{OfForm}
+use Rattle.lean_engine.specs.Engine.Tests.{IsRefusedFor, HasFormCause}
+use Rattle.lean_engine.specs.Engine.Refusals.{PassesMargin}
+use Rattle.lean_engine.specs.Engine.declared.bounds.Terms.{Terms}
+use Rattle.lean_engine.proofs.Engine.CauseCases.{refused_map}
+use Rattle.lean_engine.proofs.Engine.StageLaws.{form_told, form_passed, corner_passed}
 use Rattle.lean_engine.specs.Lean.{bound_of, lean_aim, lean_terms}
 use Rattle.lean_engine.specs.Refusals.{policy_excess, policy_excess_size, aim_at, PassesScaling}
 use Rattle.fast_bounds.specs.FastAnswers.{real_cost_for, stated_cost_for, IsFastMadeBy, IsFastBuiltAs, TellsOf}

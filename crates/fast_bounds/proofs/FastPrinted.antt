@@ -3,10 +3,10 @@ use Rattle.std.proofs.Common.{◌≡◌, ℕ, ◌<◌, ◌≤◌, ◌^◌, ℤ, 
 use Rattle.qp_model.specs.machine.Controller.{Numbers}
 use Rattle.qp_model.specs.machine.Machine.{exponent_of}
 use Rattle.qp_model.specs.problem.Runs.{Holds}
-use Rattle.hessian_check.specs.RowExponents.{exponent_in}
+use Rattle.lean_engine.specs.Engine.RowExponents.{exponent_in}
 use Rattle.overflow_check.specs.FastController.{IsFastController}
-use Rattle.design_engine.specs.Terms.{IsTarget, IsFastRunWithin}
-use Rattle.design_engine.specs.declared.bounds.Run.{Run}
+use Rattle.lean_engine.specs.Engine.Terms.{IsTarget, IsFastRunWithin}
+use Rattle.lean_engine.specs.Engine.declared.bounds.Run.{Run}
 
 -- what holds of the rows of a list holds of the controller's
 pub listed : (c : Numbers) (xs : List ℤ) (es : List ℕ) (f : ℕ → ℤ) → IsFastController c → es ≡ c.exponents → Holds xs (length es) (λ i. f (exponent_in es i)) →

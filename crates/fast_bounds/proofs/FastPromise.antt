@@ -23,13 +23,13 @@ use Rattle.qp_model.specs.declared.design_parts.DesignParts.{DesignParts}
 use Rattle.step_error.proofs.Ceilings.{ceil_rises}
 use Rattle.step_error.proofs.FallingLaws.{squares_rise, errors_cost_rises}
 use Rattle.step_error.proofs.RealCosts.{real_gradient_le, plan_le}
-use Rattle.design_engine.specs.Targets.{targets_of, violation_target, step_target, rest_target, gap_target}
-use Rattle.design_engine.specs.Threshold.{HasRepairs, IsEnoughOf}
-use Rattle.design_engine.specs.declared.aimed.Aim.{Aim}
-use Rattle.design_engine.proofs.FormLaws.{form_law}
-use Rattle.design_engine.proofs.TargetLaws.{some_of, step_some, shares_fit, shares_enough, above_targets}
-use Rattle.design_engine.proofs.RunPromise.{Point, left_kept, threshold_kept}
-use Rattle.design_engine.proofs.PromiseLaws.{sound, repairs_above}
+use Rattle.lean_engine.specs.Engine.Targets.{targets_of, violation_target, step_target, rest_target, gap_target}
+use Rattle.lean_engine.specs.Engine.Threshold.{HasRepairs, IsEnoughOf}
+use Rattle.lean_engine.specs.Engine.declared.aimed.Aim.{Aim}
+use Rattle.lean_engine.proofs.Engine.FormLaws.{form_law}
+use Rattle.lean_engine.proofs.Engine.TargetLaws.{some_of, step_some, shares_fit, shares_enough, above_targets}
+use Rattle.lean_engine.proofs.Engine.RunPromise.{Point, left_kept, threshold_kept}
+use Rattle.lean_engine.proofs.Engine.PromiseLaws.{sound, repairs_above}
 use Rattle.lean_engine.specs.Lean.{bound_of, lean_aim}
 use Rattle.lean_engine.proofs.LeanFacts.{bound_some}
 use Rattle.lean_engine.proofs.LeanLaws.{corners}

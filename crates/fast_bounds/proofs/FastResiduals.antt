@@ -15,9 +15,9 @@ use Rattle.step_error.specs.CarriedErrors.{with_means, cost_of_run}
 use Rattle.step_error.specs.Made.{AreSolutionsOf, IsRunMadeFor, HasGains}
 use Rattle.step_error.specs.declared.sums.ErrorSums.{ErrorSums}
 use Rattle.overflow_check.specs.FastController.{with_last_version, IsFastController}
-use Rattle.design_engine.specs.Aims.{IsSteppedFormOf}
-use Rattle.design_engine.specs.declared.aimed.Aim.{Aim}
-use Rattle.design_engine.specs.declared.aimed.SteppedForm.{SteppedForm}
+use Rattle.lean_engine.specs.Engine.Aims.{IsSteppedFormOf}
+use Rattle.lean_engine.specs.Engine.declared.aimed.Aim.{Aim}
+use Rattle.lean_engine.specs.Engine.declared.aimed.SteppedForm.{SteppedForm}
 use Rattle.fast_bounds.specs.FastAnswers.{real_cost_for, stated_cost_for, IsFastGivenFor}
 use Rattle.fast_bounds.specs.FastRefusals.{fast_stated_cost}
 use Rattle.fast_bounds.specs.FastTerms.{AreRunNumbersOf}

@@ -12,9 +12,9 @@ use Rattle.qp_model.specs.declared.refusal.Refusal.{Refusal}
 use Rattle.condensed_form.specs.declared.condensed.Condensed.{Condensed}
 use Rattle.step_error.specs.Made.{IsRunMadeFor}
 use Rattle.step_error.specs.declared.sums.ErrorSums.{ErrorSums}
-use Rattle.design_engine.specs.Tests.{IsRefusedFor}
-use Rattle.design_engine.specs.declared.aimed.Aim.{Aim}
-use Rattle.design_engine.specs.declared.bounds.Terms.{Terms}
+use Rattle.lean_engine.specs.Engine.Tests.{IsRefusedFor}
+use Rattle.lean_engine.specs.Engine.declared.aimed.Aim.{Aim}
+use Rattle.lean_engine.specs.Engine.declared.bounds.Terms.{Terms}
 use Rattle.fast_bounds.specs.FastCertified.{cost_for, IsFastMadeWith, IsFastBuilt}
 use Rattle.fast_bounds.specs.FastRefusals.{fast_stated_cost}
 use Rattle.fast_bounds.specs.FastTerms.{AreRunNumbersOf, AreFastPrintedOf}

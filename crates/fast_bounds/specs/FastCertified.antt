@@ -20,13 +20,13 @@ use Rattle.qp_model.specs.bounds.RealErrors.{real_errors}
 use Rattle.qp_model.specs.declared.design_parts.DesignParts.{DesignParts}
 use Rattle.overflow_check.specs.Width.{IsWidth}
 use Rattle.dual_bounds.specs.FastSteps.{quarter_steps, IsFastStepCount}
-use Rattle.hessian_check.specs.RowExponents.{AreExponentsOf}
-use Rattle.hessian_check.specs.Steps.{IsExponentOf}
+use Rattle.lean_engine.specs.Engine.RowExponents.{AreExponentsOf}
+use Rattle.lean_engine.specs.Steps.{IsExponentOf}
 use Rattle.step_error.specs.Choice.{IsChoice}
-use Rattle.design_engine.specs.Bounds.{AreBoundsWith}
-use Rattle.design_engine.specs.Targets.{targets_of, violation_target, IsWithinTargets}
-use Rattle.design_engine.specs.Threshold.{HasRepairs, IsEnoughOf}
-use Rattle.design_engine.specs.declared.aimed.Aim.{Aim}
+use Rattle.lean_engine.specs.Engine.Bounds.{AreBoundsWith}
+use Rattle.lean_engine.specs.Engine.Targets.{targets_of, violation_target, IsWithinTargets}
+use Rattle.lean_engine.specs.Engine.Threshold.{HasRepairs, IsEnoughOf}
+use Rattle.lean_engine.specs.Engine.declared.aimed.Aim.{Aim}
 use Rattle.lean_engine.specs.Lean.{bound_of, lean_aim}
 use Rattle.overflow_check.specs.FastMachine.{fast_denominator, fast_plan}
 use Rattle.overflow_check.specs.FastController.{IsFastController, greatest_fast_sum}

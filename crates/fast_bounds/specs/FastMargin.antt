@@ -14,13 +14,13 @@ use Rattle.qp_model.specs.declared.bounds.Margin.{Margin}
 use Rattle.qp_model.specs.declared.design_parts.DesignParts.{DesignParts}
 use Rattle.qp_model.specs.declared.quantity.Quantity.TheVariants.{Multiplier}
 use Rattle.qp_model.specs.declared.refusal.Refusal.{Refusal}
-use Rattle.hessian_check.specs.Steps.{IsExponentOf}
-use Rattle.design_engine.specs.Aims.{aim_of}
-use Rattle.design_engine.specs.Bounds.{margin_of, printed_multiplier}
-use Rattle.design_engine.specs.Refusals.{PassesMargin}
-use Rattle.design_engine.specs.Stages.{Sized, OfForm, OfCorners}
-use Rattle.design_engine.specs.Targets.{Targets, targets_of}
-use Rattle.design_engine.specs.Tests.{PassesForm}
+use Rattle.lean_engine.specs.Steps.{IsExponentOf}
+use Rattle.lean_engine.specs.Engine.Aims.{aim_of}
+use Rattle.lean_engine.specs.Engine.Bounds.{margin_of, printed_multiplier}
+use Rattle.lean_engine.specs.Engine.Refusals.{PassesMargin}
+use Rattle.lean_engine.specs.Engine.Stages.{Sized, OfForm, OfCorners}
+use Rattle.lean_engine.specs.Engine.Targets.{Targets, targets_of}
+use Rattle.lean_engine.specs.Engine.Tests.{PassesForm}
 use Rattle.fast_bounds.specs.FastAnswers.{stated_cost_for}
 use Rattle.fast_bounds.specs.FastCertified.{cost_for, IsFastMadeWith, AreFastBoundsOf, KeepsFastPromise}
 use Rattle.fast_bounds.specs.FastRefusals.{HasFastAimCause, PassesFastAim}

@@ -11,17 +11,17 @@ use Rattle.qp_model.specs.bounds.Errors.{epsilon}
 use Rattle.qp_model.specs.declared.bounds.Margin.{Margin}
 use Rattle.qp_model.specs.declared.quantity.Quantity.TheVariants.{Multiplier, Excess, Error, Descent, Width}
 use Rattle.controller_maker.specs.Widest.{fast_width_size}
-use Rattle.hessian_check.specs.Steps.{IsExponentOf}
-use Rattle.hessian_check.specs.RowExponents.{AreExponentsOf}
+use Rattle.lean_engine.specs.Steps.{IsExponentOf}
+use Rattle.lean_engine.specs.Engine.RowExponents.{AreExponentsOf}
 use Rattle.dual_bounds.specs.FastSteps.{IsFastStepCount, fast_multiplier_size}
 use Rattle.step_error.specs.Choice.{IsChoice}
 use Rattle.step_error.specs.CarriedErrors.{run_sums_of}
 use Rattle.step_error.specs.RunSums.{run_error_size}
-use Rattle.design_engine.specs.Targets.{Targets, floor_target}
-use Rattle.design_engine.specs.Stages.{Nothing, Sized, Finds, OfForm, OfCorners}
-use Rattle.design_engine.specs.Tests.{PassesForm}
-use Rattle.design_engine.specs.Refusals.{PassesMargin}
-use Rattle.design_engine.specs.declared.aimed.Aim.{Aim}
+use Rattle.lean_engine.specs.Engine.Targets.{Targets, floor_target}
+use Rattle.lean_engine.specs.Engine.Stages.{Nothing, Sized, Finds, OfForm, OfCorners}
+use Rattle.lean_engine.specs.Engine.Tests.{PassesForm}
+use Rattle.lean_engine.specs.Engine.Refusals.{PassesMargin}
+use Rattle.lean_engine.specs.Engine.declared.aimed.Aim.{Aim}
 use Rattle.lean_engine.specs.Refusals.{policy_excess, policy_excess_size, aim_at}
 use Rattle.overflow_check.specs.FastController.{most_fast_steps}
 use Rattle.qp_model.specs.declared.refusal.Refusal.{Refusal}

@@ -12,12 +12,12 @@ use Rattle.step_error.specs.ErrorSums.{AreSums, sums_of}
 use Rattle.step_error.specs.CarriedErrors.{run_sums_of}
 use Rattle.step_error.specs.RunSums.{run_error_size}
 use Rattle.dual_bounds.specs.FastSteps.{quarter_steps}
-use Rattle.hessian_check.specs.RowExponents.{exponent_in, AreExponentsOf}
+use Rattle.lean_engine.specs.Engine.RowExponents.{exponent_in, AreExponentsOf}
 use Rattle.overflow_check.specs.FastController.{most_fast_steps}
-use Rattle.design_engine.specs.Bounds.{AreBoundsWith}
-use Rattle.design_engine.specs.Terms.{row_bound, repaired}
-use Rattle.design_engine.specs.declared.aimed.Aim.{Aim}
-use Rattle.design_engine.specs.declared.bounds.Terms.{Terms}
+use Rattle.lean_engine.specs.Engine.Bounds.{AreBoundsWith}
+use Rattle.lean_engine.specs.Engine.Terms.{row_bound, repaired}
+use Rattle.lean_engine.specs.Engine.declared.aimed.Aim.{Aim}
+use Rattle.lean_engine.specs.Engine.declared.bounds.Terms.{Terms}
 use Rattle.fast_bounds.specs.FastRefusals.{AreStepsFor, AreFastBitsOf, fast_stated_cost}
 use Rattle.fast_bounds.specs.declared.numbers.RunNumbers.{RunNumbers}
 

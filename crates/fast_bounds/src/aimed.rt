@@ -1,15 +1,15 @@
 // A controller of the accelerated machine that is made with an aim: its steps, the exponents of its rows, its bits, and what the errors of a run of it cost.
 ghost use Rattle.std.specs.Prelude.{◌^◌, pos, ◌≤ℤ◌, unsigned_abs, IfOk, IfErr};
 ghost use Rattle.qp_model.specs.problem.Parts.{design_of};
-ghost use Rattle.design_engine.specs.Aims.{IsAim, IsSteppedFormOf};
-ghost use Rattle.design_engine.specs.Tests.{IsRefusedFor};
+ghost use Rattle.lean_engine.specs.Engine.Aims.{IsAim, IsSteppedFormOf};
+ghost use Rattle.lean_engine.specs.Engine.Tests.{IsRefusedFor};
 ghost use Rattle.fast_bounds.specs.FastAnswers.{IsRunForAim, IsFastAimedOf, TellsOf};
 ghost use Rattle.fast_bounds.specs.FastRefusals.{HasFastAimCause, PassesSomeFastAim};
 
 use crate::controller::fast_controller_with;
 use crate::numbers::{RunNumbers, run_numbers};
 use crate::residuals::fast_real_cost;
-use design_engine::{Aim, SteppedForm, row_exponents};
+use lean_engine::{Aim, SteppedForm, row_exponents};
 use dual_bounds::fast_steps;
 use overflow_check::FastController;
 use qp_model::{Design, Refusal};

@@ -1,10 +1,10 @@
 // The bounds of a controller of the accelerated machine.
 ghost use Rattle.std.specs.Prelude.{◌^◌, pos, ◌≤ℤ◌, unsigned_abs, IfOk};
 ghost use Rattle.qp_model.specs.bounds.Printed.{printed};
-ghost use Rattle.design_engine.specs.Terms.{AreTerms};
+ghost use Rattle.lean_engine.specs.Engine.Terms.{AreTerms};
 ghost use Rattle.fast_bounds.specs.FastTerms.{HasFastUndercutRoom, AreFastPrintedOf};
 
-use design_engine::{Run, Terms, fast_violation, fast_violations_after};
+use lean_engine::{Run, Terms, fast_violation, fast_violations_after};
 use dual_bounds::undercut;
 use overflow_check::FastController;
 use qp_model::Bounds;

@@ -2,15 +2,15 @@
 ghost use Rattle.std.specs.Prelude.{unsigned_abs, IfOk, IfErr, OnOk};
 ghost use Rattle.qp_model.specs.problem.Parts.{design_of};
 ghost use Rattle.controller_maker.specs.Assembled.{IsFastAssembled};
-ghost use Rattle.design_engine.specs.Aims.{IsAim, IsSteppedFormOf};
-ghost use Rattle.design_engine.specs.Tests.{IsRefusedFor};
+ghost use Rattle.lean_engine.specs.Engine.Aims.{IsAim, IsSteppedFormOf};
+ghost use Rattle.lean_engine.specs.Engine.Tests.{IsRefusedFor};
 ghost use Rattle.fast_bounds.specs.FastCertified.{IsFastMadeWith};
 ghost use Rattle.fast_bounds.specs.FastRefusals.{PassesFastAim, HasFastAimCause};
 ghost use Rattle.fast_bounds.specs.FastTerms.{PassesFastBits};
 
 use approx_inverse::solve_all;
 use controller_maker::fast_controller_of;
-use design_engine::{Aim, Settings, SteppedForm};
+use lean_engine::{Aim, Settings, SteppedForm};
 use overflow_check::FastController;
 use qp_model::{Design, Refusal};
 use std::alloc::Global;

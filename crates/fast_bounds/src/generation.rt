@@ -4,9 +4,9 @@ ghost use Rattle.qp_model.specs.problem.Parts.{design_of};
 ghost use Rattle.qp_model.specs.problem.Policy.{plans_of, IsPolicyFor};
 ghost use Rattle.qp_model.specs.bounds.Printed.{printed};
 ghost use Rattle.qp_model.specs.declared.bounds.Margin.{Margin};
-ghost use Rattle.design_engine.specs.Targets.{targets_of, IsWithinTargets};
-ghost use Rattle.design_engine.specs.Aims.{IsSteppedFormOf};
-ghost use Rattle.design_engine.specs.Terms.{AreTerms};
+ghost use Rattle.lean_engine.specs.Engine.Targets.{targets_of, IsWithinTargets};
+ghost use Rattle.lean_engine.specs.Engine.Aims.{IsSteppedFormOf};
+ghost use Rattle.lean_engine.specs.Engine.Terms.{AreTerms};
 ghost use Rattle.lean_engine.specs.Refusals.{PassesScaling};
 ghost use Rattle.fast_bounds.specs.FastAnswers.{stated_cost_for, IsFastMadeBy, IsFastBuiltAs, TellsOf};
 ghost use Rattle.fast_bounds.specs.FastCertified.{IsFastBuilt, IsFastCertified};
@@ -14,11 +14,11 @@ ghost use Rattle.fast_bounds.specs.FastRefusals.{HasFastAimCause, HasFastCause, 
 
 use crate::aimed::fast_controller_for;
 use crate::bounds::fast_bounds_of;
-use design_engine::{SteppedForm, Terms, margins, stepped_form};
 use dual_bounds::fast_multiplier;
-use lean_engine::{floor_target, lean_terms};
+use lean_engine::{
+    SteppedForm, Terms, excess, floor_target, lean_terms, margins, stepped_form,
+};
 use overflow_check::FastController;
-use plan_excess::excess;
 use qp_model::{Bounds, Design, Margin, Policy, Refusal};
 use std::alloc::Global;
 

@@ -7,14 +7,14 @@ ghost use Rattle.qp_model.specs.bounds.Choices.{multiplier_of};
 ghost use Rattle.qp_model.specs.bounds.Printed.{printed};
 ghost use Rattle.qp_model.specs.declared.bounds.Margin.{Margin};
 ghost use Rattle.qp_model.specs.declared.quantity.Quantity.TheVariants.{Multiplier};
-ghost use Rattle.design_engine.specs.Targets.{targets_of, IsWithinTargets};
-ghost use Rattle.design_engine.specs.Bounds.{printed_multiplier};
+ghost use Rattle.lean_engine.specs.Engine.Targets.{targets_of, IsWithinTargets};
+ghost use Rattle.lean_engine.specs.Engine.Bounds.{printed_multiplier};
 ghost use Rattle.fast_bounds.specs.FastAnswers.{stated_cost_for, TellsOf};
 ghost use Rattle.fast_bounds.specs.FastCertified.{IsFastCertified};
 ghost use Rattle.fast_bounds.specs.FastMargin.{fast_margin_size, HasFastMarginCause, PassesFastMargin, PassesSomeFastMargin, IsFastMarginBuilt, IsFastMarginBuiltAs};
 
 use crate::generation::{FastMade, fast_made_with};
-use design_engine::{margins, plain_terms, stepped_form};
+use lean_engine::{margins, plain_terms, stepped_form};
 use dual_bounds::multiplier;
 use qp_model::{Design, Margin, Policy, Quantity, Refusal, Wide};
 use std::alloc::Global;

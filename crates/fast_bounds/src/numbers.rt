@@ -2,13 +2,13 @@
 ghost use Rattle.std.specs.Prelude.{◌≤◌, unsigned_abs, IfOk, IfErr};
 ghost use Rattle.qp_model.specs.problem.Parts.{design_of};
 ghost use Rattle.qp_model.specs.form.Curvature.{AreExponents};
-ghost use Rattle.hessian_check.specs.RowExponents.{exponent_in, AreExponentsOf};
+ghost use Rattle.lean_engine.specs.Engine.RowExponents.{exponent_in, AreExponentsOf};
 ghost use Rattle.overflow_check.specs.FastController.{most_fast_steps};
-ghost use Rattle.design_engine.specs.Aims.{IsAim, IsSteppedFormOf};
+ghost use Rattle.lean_engine.specs.Engine.Aims.{IsAim, IsSteppedFormOf};
 ghost use Rattle.fast_bounds.specs.FastRefusals.{AreStepsFor, HasFastAimCause};
 ghost use Rattle.fast_bounds.specs.FastTerms.{AreRunNumbersOf};
 
-use design_engine::{Aim, SteppedForm};
+use lean_engine::{Aim, SteppedForm};
 use qp_model::{Design, Refusal};
 use step_error::{Choice, ErrorSums, choose_bits, error_sums, run_sums};
 

@@ -7,7 +7,13 @@ mod laws;
 mod targets;
 mod violations;
 
+// Handed on: a crate above that names fewer others is stamped on fewer paths.
+pub use design_engine::{
+    Aim, Made, Run, Settings, SteppedForm, Terms, fast_violation, fast_violations_after, margins,
+    plain_terms, row_exponents, stepped_form,
+};
 pub use generation::{generate_lean, lean_terms};
 pub use laws::{causes_law, lean_law};
+pub use plan_excess::excess;
 pub use targets::{floor_target, violation_target};
 pub use violations::row_violations;

@@ -4,10 +4,10 @@ use Rattle.std.proofs.lemmas.Int.{to_z-of_z}
 use mir.Val.{SFits}
 use Rattle.qp_model.specs.problem.Parts.{design_of}
 use Rattle.qp_model.specs.form.Curvature.{AreExponents}
-use Rattle.hessian_check.specs.RowExponents.{exponent_in, AreExponentsOf}
-use Rattle.design_engine.proofs.AnswerLaws.{absent_of_error}
-use Rattle.design_engine.proofs.RefusalFacts.{refused_by}
-use Rattle.design_engine.proofs.BuiltFacts.{exponent_small}
+use Rattle.lean_engine.specs.Engine.RowExponents.{exponent_in, AreExponentsOf}
+use Rattle.lean_engine.proofs.Engine.AnswerLaws.{absent_of_error}
+use Rattle.lean_engine.proofs.Engine.RefusalFacts.{refused_by}
+use Rattle.lean_engine.proofs.Engine.BuiltFacts.{exponent_small}
 use Rattle.fast_bounds.specs.FastTerms.{AreRunNumbersOf}
 use Rattle.fast_bounds.proofs.FastAssembled.{steps_refused}
 use Rattle.fast_bounds.proofs.aimed.fast_run.Goals as goal

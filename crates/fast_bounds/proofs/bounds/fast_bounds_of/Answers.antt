@@ -5,10 +5,10 @@ use mir.Val.{SFits}
 use Rattle.qp_model.specs.bounds.Choices.{undercut_bound}
 use Rattle.qp_model.specs.machine.Controller.{Numbers}
 use Rattle.dual_bounds.specs.FastSteps.{quarter_steps}
-use Rattle.hessian_check.specs.RowExponents.{exponent_in}
+use Rattle.lean_engine.specs.Engine.RowExponents.{exponent_in}
 use Rattle.overflow_check.specs.FastController.{IsFastController}
-use Rattle.design_engine.specs.Terms.{row_bound, repaired}
-use Rattle.design_engine.proofs.PrintedFacts.{repaired_is, repaired_least}
+use Rattle.lean_engine.specs.Engine.Terms.{row_bound, repaired}
+use Rattle.lean_engine.proofs.Engine.PrintedFacts.{repaired_is, repaired_least}
 use Rattle.fast_bounds.specs.FastTerms.{HasFastUndercutRoom}
 use Rattle.fast_bounds.proofs.FastPrinted.{below, listed, run_of}
 use Rattle.fast_bounds.proofs.bounds.fast_bounds_of.Goals as goal

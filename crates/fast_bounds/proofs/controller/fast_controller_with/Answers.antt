@@ -3,10 +3,10 @@ use Rattle.std.specs.Int.{w128}
 use Rattle.std.proofs.lemmas.Int.{to_z-of_z}
 use mir.Val.{SFits}
 use Rattle.qp_model.specs.problem.Parts.{design_of}
-use Rattle.design_engine.proofs.AnswerLaws.{absent_of_error, ok_of_error}
-use Rattle.design_engine.proofs.RefusalFacts.{refused_by}
-use Rattle.design_engine.proofs.GenerationFacts.{size_kept}
-use Rattle.design_engine.proofs.BuiltFacts.{exponent_small}
+use Rattle.lean_engine.proofs.Engine.AnswerLaws.{absent_of_error, ok_of_error}
+use Rattle.lean_engine.proofs.Engine.RefusalFacts.{refused_by}
+use Rattle.lean_engine.proofs.Engine.GenerationFacts.{size_kept}
+use Rattle.lean_engine.proofs.Engine.BuiltFacts.{exponent_small}
 use Rattle.fast_bounds.proofs.FastAssembled.{solve_refused, width_refused, exponents_held, made_from}
 use Rattle.fast_bounds.proofs.controller.fast_controller_with.Goals as goal
 

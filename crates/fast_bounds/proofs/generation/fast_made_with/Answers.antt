@@ -4,7 +4,7 @@ use Rattle.std.proofs.lemmas.Int.{to_z-of_z}
 use mir.Val.{SFits}
 use Rattle.qp_model.specs.bounds.Printed.{printed}
 use Rattle.dual_bounds.specs.FastSteps.{quarter_steps}
-use Rattle.design_engine.proofs.GenerationFacts.{whole_is, whole_least, at_most, error_small, undercut_fits}
+use Rattle.lean_engine.proofs.Engine.GenerationFacts.{whole_is, whole_least, at_most, error_small, undercut_fits}
 use Rattle.fast_bounds.specs.FastTerms.{AreFastPrintedOf}
 use Rattle.fast_bounds.specs.declared.generation.FastMade.{FastMade}
 use Rattle.fast_bounds.proofs.FastAnswers.{handed}

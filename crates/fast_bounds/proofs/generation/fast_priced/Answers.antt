@@ -6,10 +6,10 @@ use Rattle.qp_model.specs.declared.design_parts.DesignParts.{DesignParts}
 use Rattle.qp_model.specs.problem.Parts.{design_of}
 use Rattle.qp_model.specs.problem.Policy.{plans_of}
 use Rattle.dual_bounds.specs.FastSteps.{fast_multiplier_size}
-use Rattle.design_engine.specs.Targets.{targets_of, floor_target}
-use Rattle.design_engine.specs.Terms.{AreTerms}
-use Rattle.design_engine.specs.declared.bounds.Terms.{Terms}
-use Rattle.design_engine.proofs.GenerationFacts.{whole_least}
+use Rattle.lean_engine.specs.Engine.Targets.{targets_of, floor_target}
+use Rattle.lean_engine.specs.Engine.Terms.{AreTerms}
+use Rattle.lean_engine.specs.Engine.declared.bounds.Terms.{Terms}
+use Rattle.lean_engine.proofs.Engine.GenerationFacts.{whole_least}
 use Rattle.lean_engine.specs.Lean.{lean_terms}
 use Rattle.lean_engine.proofs.LeanFacts.{lean_ranges}
 use Rattle.fast_bounds.specs.declared.generation.FastMade.{FastMade}

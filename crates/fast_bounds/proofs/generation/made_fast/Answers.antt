@@ -1,8 +1,8 @@
 use Rattle.qp_model.specs.problem.Parts.{design_of}
 use Rattle.qp_model.specs.problem.Policy.{plans_of}
-use Rattle.design_engine.specs.Stages.{OfForm}
-use Rattle.design_engine.specs.Targets.{targets_of}
-use Rattle.design_engine.proofs.RefusalFacts.{margin_refused}
+use Rattle.lean_engine.specs.Engine.Stages.{OfForm}
+use Rattle.lean_engine.specs.Engine.Targets.{targets_of}
+use Rattle.lean_engine.proofs.Engine.RefusalFacts.{margin_refused}
 use Rattle.fast_bounds.specs.FastRefusals.{AfterFastExponent}
 use Rattle.fast_bounds.specs.declared.generation.FastMade.{FastMade}
 use Rattle.fast_bounds.proofs.FastAnswers.{handed}

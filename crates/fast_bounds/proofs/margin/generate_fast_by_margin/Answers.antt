@@ -1,8 +1,8 @@
 use Rattle.std.proofs.Common.{rules}
 use Rattle.qp_model.specs.problem.Policy.{plans_of}
 use Rattle.qp_model.specs.bounds.Printed.{printed}
-use Rattle.design_engine.specs.Targets.{targets_of}
-use Rattle.design_engine.proofs.AnswerLaws.{ok_map}
+use Rattle.lean_engine.specs.Engine.Targets.{targets_of}
+use Rattle.lean_engine.proofs.Engine.AnswerLaws.{ok_map}
 use Rattle.fast_bounds.specs.declared.generation.FastMade.{FastMade}
 use Rattle.fast_bounds.proofs.FastAnswers.{every_from, accepted_from}
 use Rattle.fast_bounds.proofs.FastMargin.{margin_law, margin_one_cause, margin_no_cause}

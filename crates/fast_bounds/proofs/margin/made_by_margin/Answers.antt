@@ -5,11 +5,11 @@ use mir.Val.{SFits}
 use Rattle.qp_model.specs.problem.Parts.{design_of}
 use Rattle.qp_model.specs.problem.Policy.{plans_of}
 use Rattle.qp_model.specs.declared.design_parts.DesignParts.{DesignParts}
-use Rattle.design_engine.specs.Targets.{targets_of}
-use Rattle.design_engine.specs.Terms.{AreTerms, plain_terms}
-use Rattle.design_engine.specs.declared.bounds.Terms.{Terms}
-use Rattle.design_engine.proofs.GenerationFacts.{plain_ranges}
-use Rattle.design_engine.proofs.RefusalFacts.{margin_refused}
+use Rattle.lean_engine.specs.Engine.Targets.{targets_of}
+use Rattle.lean_engine.specs.Engine.Terms.{AreTerms, plain_terms}
+use Rattle.lean_engine.specs.Engine.declared.bounds.Terms.{Terms}
+use Rattle.lean_engine.proofs.Engine.GenerationFacts.{plain_ranges}
+use Rattle.lean_engine.proofs.Engine.RefusalFacts.{margin_refused}
 use Rattle.fast_bounds.specs.FastMargin.{AfterFastMargin}
 use Rattle.fast_bounds.specs.declared.generation.FastMade.{FastMade}
 use Rattle.fast_bounds.proofs.FastAnswers.{handed}

@@ -6,10 +6,10 @@ use Rattle.qp_model.specs.bounds.Errors.{ErrorSums, epsilon}
 use Rattle.qp_model.specs.problem.Parts.{design_of}
 use Rattle.qp_model.specs.declared.design_parts.DesignParts.{DesignParts}
 use Rattle.step_error.specs.ErrorSums.{sums_of}
-use Rattle.design_engine.proofs.RefusalFacts.{refused_by, choice_same}
-use Rattle.design_engine.proofs.GenerationFacts.{size_kept, kept_least}
-use Rattle.design_engine.proofs.AnswerLaws.{absent_of_error}
-use Rattle.design_engine.proofs.BuiltFacts.{exponent_small, exponents_listed}
+use Rattle.lean_engine.proofs.Engine.RefusalFacts.{refused_by, choice_same}
+use Rattle.lean_engine.proofs.Engine.GenerationFacts.{size_kept, kept_least}
+use Rattle.lean_engine.proofs.Engine.AnswerLaws.{absent_of_error}
+use Rattle.lean_engine.proofs.Engine.BuiltFacts.{exponent_small, exponents_listed}
 use Rattle.fast_bounds.proofs.FastNumbers.{step_refused, sums_refused, choice_refused}
 use Rattle.fast_bounds.proofs.numbers.run_numbers.Goals as goal
 

@@ -5,8 +5,8 @@ use mir.Val.{SFits}
 use Rattle.qp_model.specs.machine.Controller.{numbers}
 use Rattle.qp_model.specs.declared.design_parts.DesignParts.{DesignParts}
 use Rattle.condensed_form.specs.Form.{IsFormOf}
-use Rattle.hessian_check.specs.RowExponents.{exponent_in}
-use Rattle.design_engine.proofs.GenerationFacts.{whole_least}
+use Rattle.lean_engine.specs.Engine.RowExponents.{exponent_in}
+use Rattle.lean_engine.proofs.Engine.GenerationFacts.{whole_least}
 use Rattle.fast_bounds.proofs.FastResiduals.{named, own_gains, counted, cost_same}
 use Rattle.fast_bounds.proofs.residuals.fast_real_cost.Goals as goal
 
