@@ -256,7 +256,7 @@ def header_lines(name, c):
     sizes = {"STATES": c.n, "INPUTS": c.p, "STAGES": c.stages, "STEPS": c.steps, "BITS": c.f, "GRID": c.g}
     yield from (f"#define {name}_{word} {number}" for word, number in sizes.items())
     yield from ("", "#ifdef __cplusplus", 'extern "C" {', "#endif", "")
-    yield "/* From a state over 2^GRID: 0, and the sums of the plans of all steps; or the first number, from 1, outside the box, and nothing is written. */"
+    yield "/* From a state over 2^GRID: 0, and the numerators of the averaged plan, as solve prints them; or the first number, from 1, outside the box, and nothing is written. */"
     yield from (solve + ";", "", "/* From these sums: the averaged first inputs over 2^BITS, to the nearest, ties upward. */", first_inputs + ";")
     yield from ("", "#ifdef __cplusplus", "}", "#endif", "", "#endif")
 

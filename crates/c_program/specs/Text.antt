@@ -146,7 +146,7 @@ size_lines name c =
 abbrev pub function_lines : List ℕ → CProgram → List (List ℕ)
 function_lines name p =
     [] ∷ codes "#ifdef __cplusplus" ∷ codes "extern \"C\" {" ∷ codes "#endif"
-    ∷ [] ∷ codes "/* From a state over 2^GRID: 0, and the sums of the plans of all steps; or the first number, from 1, outside the box, and nothing is written. */"
+    ∷ [] ∷ codes "/* From a state over 2^GRID: 0, and the numerators of the averaged plan, as solve prints them; or the first number, from 1, outside the box, and nothing is written. */"
     ∷ (head_text name p ++ codes ";")
     ∷ [] ∷ codes "/* From these sums: the averaged first inputs over 2^BITS, to the nearest, ties upward. */"
     ∷ (average_head_text name p ++ codes ";")

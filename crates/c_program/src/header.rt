@@ -77,7 +77,7 @@ fn push_functions(
 {
     text.push_str("\n#ifdef __cplusplus\nextern \"C\" {\n#endif\n\n")?;
     text.push_str(
-        "/* From a state over 2^GRID: 0, and the sums of the plans of all steps; or the first number, from 1, outside the box, and nothing is written. */\n",
+        "/* From a state over 2^GRID: 0, and the numerators of the averaged plan, as solve prints them; or the first number, from 1, outside the box, and nothing is written. */\n",
     )?;
     push_head(alloc, text, c, name)?;
     text.push_str(

@@ -135,7 +135,7 @@ pub static HEADER: [&str; 27] = [
     "extern \"C\" {",
     "#endif",
     "",
-    "/* From a state over 2^GRID: 0, and the sums of the plans of all steps; or the first number, from 1, outside the box, and nothing is written. */",
+    "/* From a state over 2^GRID: 0, and the numerators of the averaged plan, as solve prints them; or the first number, from 1, outside the box, and nothing is written. */",
     "int first_solve(const int32_t state[1], int64_t sums[1]);",
     "",
     "/* From these sums: the averaged first inputs over 2^BITS, to the nearest, ties upward. */",
