@@ -1,9 +1,9 @@
-// Lean controllers of the accelerated machine of worked designs. Expected values are those of another program, in whole numbers without a limit.
+// Controllers of the accelerated machine of worked designs, lean ones and those that are made of a policy alone. Expected values are those of another program, in whole numbers without a limit.
 ghost use Rattle.qp_model.specs.problem.Parts.{design_of};
 ghost use Rattle.qp_model.specs.problem.Policy.{plans_of, IsPolicyFor};
 
 use crate::rows::{BEST, PLANS, Row, SECOND, has_bounds};
-use fast_bounds::{FastMade, generate_fast};
+use fast_bounds::{FastMade, generate_fast, generate_fast_by_margin};
 use policy_file::read_policy;
 use qp_model::{Design, Policy, Refusal};
 use std::alloc::{AllocError, Global};
@@ -71,11 +71,38 @@ fn fast_of(
     fast(alloc, design, &policy, &reference)
 }
 
+// The same of a policy alone.
+fn by_margin(
+    alloc: Global,
+    design: &Design,
+    policy: &Policy,
+) -> Result<Result<FastMade, Refusal>, Fail>
+    requires { IsPolicyFor (design_of design.now) (plans_of policy.now) }
+{
+    match generate_fast_by_margin(alloc, design, policy) {
+        Err(Refusal::Memory) => Err(AllocError.into()),
+        answer => Ok(answer),
+    }
+}
+
+fn by_margin_of(
+    alloc: Global,
+    design: &Design,
+    plans: &[u8],
+) -> Result<Result<FastMade, Refusal>, Fail> {
+    if plans.len() > 1000 {
+        return Err("long".into());
+    }
+    let policy = read_policy(alloc, plans, design)?;
+    by_margin(alloc, design, &policy)
+}
+
 // Whether a controller and its bounds are those of a row.
-fn is_row(answer: Result<FastMade, Refusal>, row: &FastRow) -> bool {
+fn is_row(answer: Result<FastMade, Refusal>, row: &FastRow, lean: bool) -> bool {
     match answer {
         Ok(made) => {
-            has_bounds(&made.bounds, &row.row)
+            made.bounds.lean == lean
+                && has_bounds(&made.bounds, &row.row)
                 && made.controller.parts().clamp == row.row.clamp
                 && made.eps == row.eps
         }
@@ -87,7 +114,14 @@ fn is_row(answer: Result<FastMade, Refusal>, row: &FastRow) -> bool {
 fn is_row_of(alloc: Global, row: &FastRow) -> Result<bool, Fail> {
     let design = changed_design(alloc, row.row.design)?;
     let answer = fast_of(alloc, &design, row.row.policy, row.row.reference)?;
-    Ok(is_row(answer, row))
+    Ok(is_row(answer, row, true))
+}
+
+// And whether those that are made of its policy alone are.
+fn is_row_by_margin(alloc: Global, row: &FastRow) -> Result<bool, Fail> {
+    let design = changed_design(alloc, row.row.design)?;
+    let answer = by_margin_of(alloc, &design, row.row.policy)?;
+    Ok(is_row(answer, row, false))
 }
 
 static ROWS: [FastRow; 5] = [
@@ -168,6 +202,44 @@ static ROWS: [FastRow; 5] = [
 fn accelerated(rt: HostRuntime) -> Result<(), Fail> {
     for row in &ROWS {
         assert!(rt; is_row_of(rt.alloc(), row)?);
+    }
+    Ok(())
+}
+
+// Of a policy alone: there are no reference plans.
+static BY_MARGIN: [FastRow; 2] = [
+    // Where the other machine takes 4 steps.
+    FastRow {
+        row: Row {
+            design: WORKED,
+            policy: PLANS,
+            reference: b"",
+            bounds: [8192, 1, 8, 7873514904690, 438124412928, 62988119237520],
+            sizes: [1, 3, 10, 26, 12],
+            clamp: 32768,
+            rows: &[5918827566422, 7873514904690, 7873514904690],
+        },
+        eps: 810645716992,
+    },
+    // Where it takes 641.
+    FastRow {
+        row: Row {
+            design: CLOSER,
+            policy: PLANS,
+            reference: b"",
+            bounds: [8192, 1, 8, 80499519516, 219128266752, 643996156128],
+            sizes: [1, 50, 11, 29, 12],
+            clamp: 65536,
+            rows: &[67222397973, 80499519516, 80499519516],
+        },
+        eps: 425941008384,
+    },
+];
+
+#[test]
+fn of_a_policy(rt: HostRuntime) -> Result<(), Fail> {
+    for row in &BY_MARGIN {
+        assert!(rt; is_row_by_margin(rt.alloc(), row)?);
     }
     Ok(())
 }

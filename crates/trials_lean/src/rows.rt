@@ -3,10 +3,9 @@ ghost use Rattle.qp_model.specs.problem.Parts.{design_of};
 ghost use Rattle.qp_model.specs.problem.Policy.{plans_of, IsPolicyFor};
 
 use controller_text::write_controller;
-use design_engine::{Made, Refusal};
-use lean_engine::generate_lean;
+use lean_engine::{Made, generate_lean};
 use policy_file::read_policy;
-use qp_model::{Bounds, Design, Policy, Quantity};
+use qp_model::{Bounds, Design, Policy, Quantity, Refusal};
 use std::alloc::{AllocError, Global};
 use std::test::Fail;
 use trials_worked_designs::{
@@ -38,7 +37,7 @@ pub(crate) struct Row {
     pub(crate) design: Changed<'static>,
     pub(crate) policy: &'static [u8],
     pub(crate) reference: &'static [u8],
-    // The margin, the excess, R, the violation, the gap and the undercut.
+    // The margin, the excess or the cost, R, the violation, the gap and the undercut.
     pub(crate) bounds: [i128; 6],
     // The step exponent, the steps, the bits, the width and the words.
     pub(crate) sizes: [usize; 5],
@@ -48,15 +47,14 @@ pub(crate) struct Row {
 
 // Whether a report's numbers are those of a row.
 pub(crate) fn has_bounds(b: &Bounds, row: &Row) -> bool {
-    b.lean
-        && [
-            b.margin,
-            b.cost,
-            b.multiplier,
-            b.violation,
-            b.gap,
-            b.undercut,
-        ] == row.bounds
+    [
+        b.margin,
+        b.cost,
+        b.multiplier,
+        b.violation,
+        b.gap,
+        b.undercut,
+    ] == row.bounds
         && [
             b.step as usize,
             b.steps as usize,
@@ -101,7 +99,11 @@ fn lean_of(
 // Whether a controller and its bounds are those of a row.
 fn is_row(answer: Result<Made, Refusal>, row: &Row) -> bool {
     match answer {
-        Ok(made) => has_bounds(&made.bounds, row) && made.controller.parts().clamp == row.clamp,
+        Ok(made) => {
+            made.bounds.lean
+                && has_bounds(&made.bounds, row)
+                && made.controller.parts().clamp == row.clamp
+        }
         Err(_) => false,
     }
 }
