@@ -1,7 +1,8 @@
-"""python3 -m checks.plants.run [NAME ..] [--folder FOLDER] [--seconds S] [--tables] [--plain] [--few]:
+"""python3 -m checks.plants.run [NAME ..] [--folder FOLDER] [--seconds S] [--machine plain|accelerated] [--tables] [--plain] [--few]:
 designs each plant of this folder by `./mpc design --stay`, with --plain by `./mpc design`, and prints a table of what it came to.
 
-The models are as a new user writes them: a plant, limits with the tolerances of a data sheet, weights, a box. `--seconds` is the time of each search (40). A line has K; cycles of a run of the
+The models are as a new user writes them: a plant, limits with the tolerances of a data sheet, weights, a box. `--seconds` is the time of each search (40). With --machine the
+controllers are of that machine, else of the one that takes less. A line has K, and whether it is of version 3; cycles of a run of the
 straight C of `./mpc c`, counted on an emulated Cortex-M4 where gcc-arm-none-eabi and qemu-system-arm are installed, else (or with --tables) about those of tables; their share of a stage at 100 MHz;
 of the limit that is exceeded most of what is asked of it the tolerance, what is promised and what was measured at 100 states; how much of the model's box no loop leaves; the disturbances of a stage
 that it bears; seconds by the clock, and of the processor. Where there is no controller the line has the cause. With --few two loops of four turns and no random states are tried, where the program
@@ -78,7 +79,8 @@ def figures(folder, said, tables):
     part = f"{100 * counted / CLOCK / period:.2g} %" if counted else f"{share} %"
     box = re.findall(r"([\d.]+) % of the model's box, K", whole) or ["100"]
     bears = re.findall(r"bears disturbances from \S+ to \S+ a turn, \S+ \S+ to (\S+ \S+)", whole)
-    return [re.search(r"K = (\d+)", explained)[1], cycles, part, *most_exceeded(folder), f"{box[-1]} %", ", ".join(bears)]
+    third = " of version 3" * text_of(folder, "controller.txt").startswith("mpc-controller 3\n")
+    return [re.search(r"K = (\d+)", explained)[1] + third, cycles, part, *most_exceeded(folder), f"{box[-1]} %", ", ".join(bears)]
 
 
 def line_of(name, folder, seconds, tables, options):
@@ -95,6 +97,7 @@ def main():
     parser.add_argument("names", metavar="NAME", nargs="*", default=names)
     parser.add_argument("--folder")
     parser.add_argument("--seconds", type=float, default=40)
+    parser.add_argument("--machine", choices=["plain", "accelerated"])
     parser.add_argument("--tables", action="store_true")
     parser.add_argument("--plain", action="store_true")
     parser.add_argument("--few", action="store_true")
@@ -107,7 +110,7 @@ def main():
     for name in given.names:
         place = os.path.join(folder, name)
         shutil.rmtree(place, ignore_errors=True)
-        print(line_of(name, place, given.seconds, given.tables, [*([] if given.plain else ["--stay"]), *(FEW if given.few else [])]), flush=True)
+        print(line_of(name, place, given.seconds, given.tables, [*([] if given.plain else ["--stay"]), *(["--" + given.machine] if given.machine else []), *(FEW if given.few else [])]), flush=True)
     print(f"the designs are in {folder}", file=sys.stderr)
 
 
