@@ -169,7 +169,7 @@ class Refused(unittest.TestCase):
         self.assertEqual(answer(["loop", "d", "c", "s", "1"], None, d=DESIGN, c=text, s="1\n").out, [b"1 1 1 128 -64\n"])
         self.refused(["settle", "d", "c", "t"], "5 text 3 count 0", None, d=third(DESIGN), c=text, t="")
         self.refused(["list", "c", "l"], "11 controller 1 line 1", c=text)
-        self.refused(["c", "c", "mpc", "t", "h"], "11 controller 1 line 1", c=text)
+        self.assertEqual(answer(["c", "c", "mpc", "t", "h"], None, c=text).status, 0)
         self.refused(LEAN, "5 text 1 range 1", d=DESIGN.replace("version = 1", "version = 4"), p=POLICY, q=REFERENCE)
 
 
