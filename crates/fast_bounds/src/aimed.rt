@@ -9,8 +9,8 @@ ghost use Rattle.fast_bounds.specs.FastRefusals.{HasFastAimCause, PassesSomeFast
 use crate::controller::fast_controller_with;
 use crate::numbers::{RunNumbers, run_numbers};
 use crate::residuals::fast_real_cost;
-use lean_engine::{Aim, SteppedForm, row_exponents};
 use dual_bounds::fast_steps;
+use lean_engine::{Aim, SteppedForm, row_exponents};
 use overflow_check::FastController;
 use qp_model::{Design, Refusal};
 use std::alloc::Global;

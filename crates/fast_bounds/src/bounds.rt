@@ -4,8 +4,8 @@ ghost use Rattle.qp_model.specs.bounds.Printed.{printed};
 ghost use Rattle.lean_engine.specs.Engine.Terms.{AreTerms};
 ghost use Rattle.fast_bounds.specs.FastTerms.{HasFastUndercutRoom, AreFastPrintedOf};
 
-use lean_engine::{Run, Terms, fast_violation, fast_violations_after};
 use dual_bounds::undercut;
+use lean_engine::{Run, Terms, fast_violation, fast_violations_after};
 use overflow_check::FastController;
 use qp_model::Bounds;
 use std::alloc::{AllocError, Global};

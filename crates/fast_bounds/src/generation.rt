@@ -15,9 +15,7 @@ ghost use Rattle.fast_bounds.specs.FastRefusals.{HasFastAimCause, HasFastCause, 
 use crate::aimed::fast_controller_for;
 use crate::bounds::fast_bounds_of;
 use dual_bounds::fast_multiplier;
-use lean_engine::{
-    SteppedForm, Terms, excess, floor_target, lean_terms, margins, stepped_form,
-};
+use lean_engine::{SteppedForm, Terms, excess, floor_target, lean_terms, margins, stepped_form};
 use overflow_check::FastController;
 use qp_model::{Bounds, Design, Margin, Policy, Refusal};
 use std::alloc::Global;

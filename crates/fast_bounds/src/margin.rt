@@ -14,8 +14,8 @@ ghost use Rattle.fast_bounds.specs.FastCertified.{IsFastCertified};
 ghost use Rattle.fast_bounds.specs.FastMargin.{fast_margin_size, HasFastMarginCause, PassesFastMargin, PassesSomeFastMargin, IsFastMarginBuilt, IsFastMarginBuiltAs};
 
 use crate::generation::{FastMade, fast_made_with};
-use lean_engine::{margins, plain_terms, stepped_form};
 use dual_bounds::multiplier;
+use lean_engine::{margins, plain_terms, stepped_form};
 use qp_model::{Design, Margin, Policy, Quantity, Refusal, Wide};
 use std::alloc::Global;
 
