@@ -78,7 +78,9 @@ def figures(folder, said, tables):
     cycles = f"{counted:,}" if counted else f"about {about}"
     part = f"{100 * counted / CLOCK / period:.2g} %" if counted else f"{share} %"
     box = re.findall(r"([\d.]+) % of the model's box, K", whole) or ["100"]
-    bears = re.findall(r"bears disturbances from \S+ to \S+ a turn, \S+ \S+ to (\S+ \S+)", whole)
+    # faces are made once more where the other machine is taken
+    last = whole[whole.rfind(" faces ") :]
+    bears = re.findall(r"bears disturbances from \S+ to \S+ a turn, \S+ \S+ to (\S+ \S+)", last)
     third = " of version 3" * text_of(folder, "controller.txt").startswith("mpc-controller 3\n")
     return [re.search(r"K = (\d+)", explained)[1] + third, cycles, part, *most_exceeded(folder), f"{box[-1]} %", ", ".join(bears)]
 

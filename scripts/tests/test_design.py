@@ -192,34 +192,42 @@ class WholeWay(unittest.TestCase):
         # where it is too much, loops without it
         self.assertEqual(self.settled((12, ""), (0, "every loop\n"), model=model, program=False)[1], [script + under, script])
 
-    def machines(self, steps, *options):
-        """The commands by which a controller is made, the plain one of which has so many steps."""
-        texts = {"--lean": FIRST_LEAN_CONTROLLER.replace("steps 1\n", f"steps {steps}\n").replace("bits 6 0 1 16", "bits 6 0 1 30"), "--accelerated": "mpc-controller 3\n"}
+    def machines(self, steps, *options, third="mpc-controller 3\n", width=40):
+        """The commands by which a controller is made, the plain one of which has so many steps, and what is said; the accelerated one is this, of such a width, or is refused."""
+        texts = {"--lean": FIRST_LEAN_CONTROLLER.replace("steps 1\n", f"steps {steps}\n").replace("bits 6 0 1 16", "bits 6 0 1 30"), "--accelerated": third}
         folder, paths = folder_with(self, model=MASS)
-        ran = []
+        ran, last = [], []
 
         def run(made, *words, to=None):
             ran.append(" ".join(os.path.basename(word) for word in words))
             if words[0] == "draft":
+                last[:] = words[-1:]
                 files.write(made.path("controller.txt"), texts[words[-1]])
-            return design.Step(0, "")
+            return design.Step(int(words[0] == "lean" and last == ["--accelerated"] and not third), "")
 
         given = design.Namespace(generate=False, accelerated="--accelerated" in options, plain="--plain" in options, gap=0.1)
-        version = lambda text: types.SimpleNamespace(version=3) if text == texts["--accelerated"] else controller_of(text)
-        with unittest.mock.patch.object(design.Steps, "run", run), unittest.mock.patch.object(design, "controller_of", version), contextlib.redirect_stdout(io.StringIO()) as said:
+        read = lambda text: types.SimpleNamespace(version=3, width=width) if text == third else controller_of(text)
+        with unittest.mock.patch.object(design.Steps, "run", run), unittest.mock.patch.object(design, "controller_of", read), contextlib.redirect_stdout(io.StringIO()) as said:
             design.make(design.Steps(folder), paths["model"], given, False)
-        return [line.split(" --gap 0.1 ")[1] for line in ran if line.startswith("draft")], "version 3 is taken" in said.getvalue(), ran
+        return [line.split(" --gap 0.1 ")[1] for line in ran if line.startswith("draft")], said.getvalue(), ran
 
     def test_takes_the_machine_that_takes_less(self):
         # far more steps than the accelerated machine would need, and a few
-        both = ["--lean", "--accelerated"]
-        self.assertEqual(self.machines(20000)[:2], (both, True))
-        ran = self.machines(20000)[2]
-        self.assertEqual((ran[3], ran[4:]), ("draft model design.toml --gap 0.1 --accelerated", ran[1:3]))
-        self.assertEqual(self.machines(50)[:2], (both[:1], False))
+        plain, both = ["--lean"], ["--lean", "--accelerated"]
+        drafts, said, ran = self.machines(20000)
+        self.assertEqual((drafts, "so version 3 is taken" in said, ran[4:]), (both, True, ran[1:3]))
+        self.assertEqual(self.machines(50)[:2], (plain, ""))
         # where one is asked for, that one
-        self.assertEqual(self.machines(20000, "--plain")[:2], (both[:1], False))
-        self.assertEqual(self.machines(50, "--accelerated")[:2], (both[1:], False))
+        self.assertEqual(self.machines(20000, "--plain")[:2], (plain, ""))
+        self.assertEqual(self.machines(50, "--accelerated")[:2], (both[1:], ""))
+        # where it is too wide for `c`, or refused, the plain one
+        drafts, said, _ = self.machines(20000, width=65)
+        self.assertEqual((drafts, "its sums take more than 64 bits: so the plain machine is kept" in said), ([*both, *plain], True))
+        drafts, said, _ = self.machines(20000, third="")
+        self.assertEqual((drafts, "./mpc lean ended with status 1: what stands above says why: so the plain machine is kept" in said), ([*both, *plain], True))
+        wide = FIRST_LEAN_CONTROLLER.replace("bits 6 0 1 16", "bits 6 0 1 65").replace("steps 1\n", "steps 20000\n")
+        folder, _ = folder_with(self, **{"controller.txt": wide})
+        self.assertFalse(design.takes_less(design.Steps(folder)))
 
     def test_starts_after_one_that_leaves(self):
         # of four starts the first leaves after a turn, and the third at once; the launcher ends at each
