@@ -33,6 +33,8 @@ STEP = {
     "entry's product": (4.9, 13.7, 0.1),
     "entry's product of 64 bits": (14.3, 39.7, 3.5),
     "entry's product, long factor": (6.2, 19.5, 0.1),
+    "entry's sum": (4.4, 13.7, 0.1),
+    "entry's sum of 64 bits": (5.4, 26.0, 3.5),
     "number beyond the registers": (1.2, 3.8, 0.3),
     "pair": (9.5, 10.0, 0.0),
     "pair of 64 bits": (21.8, 34.9, 3.7),

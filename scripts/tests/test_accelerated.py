@@ -179,6 +179,9 @@ class Explained(unittest.TestCase):
         self.assertEqual((costs.step["accelerated row"], costs.step["accelerated product"]), (3, 2))
         self.assertEqual(c_costs.accelerated_cycles(found, 3), costs.cycles)
         self.assertRegex("\n".join(told), rf"as C \(./mpc c\): no tables; .*\n.*on a Cortex-M4 about {c_costs.rounded(costs.cycles)} cycles a run, .*; about [0-9,]+ bytes of flash, {costs.ram} of RAM")
+        # a gain of 1 is a sum
+        one = AcceleratedCosts(controller_of(controller.replace("W 128 -128 128", "W 1 -128 128").replace("exps 0 1 1", "exps 1 1 1")))
+        self.assertEqual((one.step["entry's sum"], one.cycles > 0, one.flash > 0, one.ram > 0), (1, True, True, True))
         # of more than 64 bits no C is written
         wide = "\n".join(self.told(controller=controller.replace("bits 9 0 1 22", "bits 9 0 1 65")))
         self.assertRegex(wide, rf"an estimate, since of version 3 no C of more than 64 bits is written: each row takes {c_costs.ACCELERATED_ROW} cycles more")
