@@ -28,7 +28,8 @@ from scipy.optimize import linprog
 
 from .common import files, matching, sizes
 from .common.arguments import Parser
-from .common.corners import corners_of, cost_limit, lean_multiplier_of, margin_of, multiplier_of, step_share
+from .common.condensed import step_of
+from .common.corners import corners_of, cost_limit, lean_multiplier_of, margin_of, multiplier_of, step_share, steps_of
 from .common.design_text import plain, read_design
 from .common.disturbances import box_in
 from .common.excess import excesses_of
@@ -83,13 +84,20 @@ def excesses(design, policy, reference=None):
 
 
 def rounding_of(design, form, bound, lean):
-    """What the errors of a step cost at most with the fewest bits that do, over 2^40, or None. Those of the accelerated machine rest on its steps and exponents, which aren't known here: they cost no
-    more than they may."""
+    """What the errors of a run cost at most with the fewest bits that do, over 2^40, or None."""
     limit = cost_limit(design, bound, lean)
-    if is_accelerated(design.version):
-        return limit
-    errors = sizes.Errors(design, form, bound)
-    return next((cost for cost in map(errors.cost, range(design.grid, 49)) if cost <= limit), None)
+    if not is_accelerated(design.version):
+        return least_cost(design, sizes.Errors(design, form, bound), limit)[1]
+    # they rest on the exponents of the rows, which aren't known here: where those that make the errors least and greatest need as many bits, they cost no more than with these, else than they may
+    step, _ = step_of(design)
+    steps = steps_of(design, step, bound, lean)
+    (bits, known), (most_bits, most) = (least_cost(design, sizes.Errors(design, form, bound, steps, step, exponents), limit) for exponents in ([step] * design.rows, None))
+    return None if known is None else most if bits == most_bits else limit
+
+
+def least_cost(design, errors, limit):
+    """The fewest bits with which errors cost at most so much, and what they cost; None, None where none do."""
+    return next(((bits, cost) for bits in range(design.grid, 49) if (cost := errors.cost(bits)) <= limit), (None, None))
 
 
 # ---- one face

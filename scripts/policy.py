@@ -23,7 +23,7 @@ from .common.libraries import need, run, say
 need("numpy", "cvxopt")
 from .common import files
 from .common.arguments import Parser, positive, several, turns
-from .common.condensed import condense, curvature
+from .common.condensed import step_of
 from .common.corners import corners_of, lean_multiplier_of, margin_of, multiplier_of, steps_of
 from .common.design_text import Design, plain, read_design
 from .common.excess import excesses_of
@@ -177,9 +177,7 @@ def are_told(design: Design, programs: Programs, found: bool, slack: float, most
 def tell(design: Design, policy: list[list[int]], turns: int, reference: list[list[int]] | None = None) -> None:
     """What the policy makes of R and K, and whether the loops stay in the box."""
     corners = corners_of(design, policy)
-    steep, step = curvature(design, condense(design)), 0
-    while 2**step < steep:
-        step += 1
+    step, steep = step_of(design)
     least = min(corners, key=lambda c: c.least[0])
     say(f"plans over {policy[0][0]}: least slack {plain(least.least[0])} at {design.corner_words(least.number)} in {design.row_words(least.least[1])}")
     dearest, bound = dearest_words(design, policy, reference)

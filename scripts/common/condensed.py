@@ -104,3 +104,11 @@ def curvature(design, form=None):
             return 0.0
         x, value = [v / size for v in x], size
     return value
+
+
+def step_of(design):
+    """The least s with 2^s at least the curvature, and this."""
+    steep, step = curvature(design), 0
+    while 2**step < steep:
+        step += 1
+    return step, steep
