@@ -43,7 +43,7 @@ MOST_WIDTH = 64
 
 def at_end(c, r):
     """A controller with one number brought to the end of its type, or by 1 beside it, and which; None where that takes more than 64 bits."""
-    end, what = 2**31 - 1 + r.choice([-1, 0, 0, 1, 1, 2]), r.choice(["clamp", "entry", "moved", "sum", "row", "state", *["twice the clamp", "reached"] * (c.version == 3)])
+    end, what = 2**31 - 1 + r.choice([-1, 0, 0, 1, 1, 2]), r.choice(["clamp", "entry", "moved", "sum", "row", "state", *["twice the clamp", "reached", "quick", "divisor"] * (c.version == 3)])
     i, j = r.randrange(c.rows), r.randrange(c.entries)
     _, _, plan, rows, moved, _ = absolute_sums(c)
     to = lambda number, most: r.choice([-1, 1]) * (abs(number) + most)
@@ -54,6 +54,13 @@ def at_end(c, r):
         c.T[j] = to(c.T[j], end - plan[j])
     elif what == "twice the clamp":
         c.clamp = end + r.randrange(2) >> 1 << c.step - c.exps[i]
+    elif what == "quick":
+        # the greatest multiplier whose mean is made by a reciprocal
+        lowered = c.step - c.exps[i]
+        c.clamp = ((2**30 - r.randrange(3)) << lowered) + r.randrange(1 << lowered) >> 1
+    elif what == "divisor":
+        # the most steps of which means are, and one step more
+        c.steps = 46338 + r.randrange(2)
     elif what == "reached":
         c.clamp = r.choice([end, 2**63 - 1]) // (2 * machine_of(3).total(c.steps)) + r.choice([0, 1])
     elif what == "sum":

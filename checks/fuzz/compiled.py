@@ -53,6 +53,10 @@ def shifted(a, k):
     return f"(({a[0]}) >> {k})", False
 
 
+def shifted_by(a, name):
+    return f"(({a[0]}) >> {value(name)[0]})", False
+
+
 def lowered(name, k):
     """A variable's value over 2^k, rounded down."""
     return shifted(value(name), k) if k else value(name)
@@ -190,6 +194,9 @@ class AcceleratedProgram(Program):
         super().__init__(c)
         self.own_tops = [2 * c.clamp >> k for k in self.lowering]
         self.reached = self.kind(2 * c.clamp * c.total)
+        self.divisor = Accelerated.mean_divisor(c.steps)
+        # the rows whose means are made by a reciprocal
+        self.quick = [i for i in self.rows if self.divisor < 2**31 and self.own_tops[i] < 2**30]
 
     def before(self):
         yield from super().before()
@@ -198,17 +205,39 @@ class AcceleratedProgram(Program):
         for i in self.rows:
             yield self.declared(self.reached, f"v{i}", constant(0))
         yield self.declared("int32_t", "k0", constant(2))
+        if self.quick:
+            yield self.declared("int32_t", "e0", constant(1))
+            yield self.declared("int64_t", "p0", constant(2**33))
 
     def weighted(self, a):
         return times(value("k0"), a)
 
+    def scale(self):
+        """The shift that leaves a divisor two bits, and the divisor's reciprocal."""
+        divisor, doubling, shift, power = map(value, ("b0", "c0", "e0", "p0"))
+        yield self.declared("int32_t", "c0", plus(constant(1), shifted(minus(times(divisor, constant(2**30)), power), 63)))
+        yield self.assigned("int32_t", "e0", plus(shift, doubling))
+        yield self.assigned("int64_t", "p0", plus(power, times(doubling, power)))
+        yield self.declared("int32_t", "q0", over(minus(power, constant(1)), "b0"))
+
+    def mean(self, i, numerator):
+        if i not in self.quick:
+            yield self.assigned(self.kind(self.tops[i]), f"l{i}", over(numerator, "b0"))
+            return
+        yield self.declared("int64_t", f"n{i}", numerator)
+        yield self.declared("int32_t", f"h{i}", shifted_by(value(f"n{i}"), "e0"))
+        yield self.assigned("int32_t", f"l{i}", shifted(times(value(f"h{i}"), value("q0")), 32))
+        yield self.declared("int32_t", f"z{i}", minus(minus(value(f"n{i}"), times(value(f"l{i}"), value("b0"))), value("b0")))
+        yield self.assigned("int32_t", f"l{i}", plus(plus(value(f"l{i}"), constant(1)), shifted(value(f"z{i}"), 31)))
+
     def body(self):
         reached = lambda i: plus(value(f"v{i}"), self.weighted(value(f"m{i}")))
         if self.rows:
-            kind = self.kind(Accelerated.mean_divisor(self.c.steps))
-            yield self.declared(kind, "b0", times(minus(value("k0"), constant(1)), plus(value("k0"), constant(2))))
+            yield self.declared(self.kind(self.divisor), "b0", times(minus(value("k0"), constant(1)), plus(value("k0"), constant(2))))
+        if self.quick:
+            yield from self.scale()
         for i in self.rows:
-            yield self.assigned(self.kind(self.tops[i]), f"l{i}", over(reached(i), "b0"))
+            yield from self.mean(i, reached(i))
         yield from self.differences()
         yield from self.plan()
         yield from self.sums()

@@ -65,7 +65,15 @@ end
 """
 FAST_BODY = """    for (int32_t step = 0; step < 3; step++) {
         int32_t b0 = (int32_t)((((int64_t)k0 - INT64_C(1)) * ((int64_t)k0 + INT64_C(2))));
-        l0 = (int32_t)((((int64_t)v0 + ((int64_t)k0 * (int64_t)m0)) / (int64_t)b0));
+        int32_t c0 = (int32_t)(INT64_C(1) + ((((int64_t)b0 * INT64_C(1073741824)) - (int64_t)p0) >> 63));
+        e0 = (int32_t)((int64_t)e0 + (int64_t)c0);
+        p0 = (int64_t)((int64_t)p0 + ((int64_t)c0 * (int64_t)p0));
+        int32_t q0 = (int32_t)((((int64_t)p0 - INT64_C(1)) / (int64_t)b0));
+        int64_t n0 = (int64_t)((int64_t)v0 + ((int64_t)k0 * (int64_t)m0));
+        int32_t h0 = (int32_t)((((int64_t)n0) >> (int64_t)e0));
+        l0 = (int32_t)(((((int64_t)h0 * (int64_t)q0)) >> 32));
+        int32_t z0 = (int32_t)((int64_t)n0 - ((int64_t)l0 * (int64_t)b0) - (int64_t)b0);
+        l0 = (int32_t)((int64_t)l0 + INT64_C(1) + (((int64_t)z0) >> 31));
 """
 
 

@@ -13,12 +13,12 @@ use Rattle.qp_model.specs.machine.ValuesMet.{FitsWidth}
 use Rattle.qp_model.proofs.AbsoluteLaws.{le_times_pow}
 use Rattle.qp_model.proofs.MagnitudeLaws.{get_or-le-greatest}
 use Rattle.overflow_check.proofs.ValuesMet.{fits_width}
-use Rattle.c_program.specs.Syntax.{Variable, Kind, bits_of, Statement, groups}
+use Rattle.c_program.specs.Syntax.{Variable, variable, Kind, bits_of, Statement, groups}
 use Rattle.c_program.specs.Syntax.Kind.{Narrow, Wide}
-use Rattle.c_program.specs.Syntax.Family.{State, Loaded, EntryBase, RowBase, Multiplier, Sum, Own, Reached, Weight}
-use Rattle.c_program.specs.Meaning.{Environment, with_value, new_value, variable_of, HasOperands, done, begun}
-use Rattle.c_program.specs.Of.{Sizes, state_top, multiplier_top, kind_for, kind_by, loaded_statements, entry_base_statements, row_base_statements, zero_statements, before_of}
-use Rattle.c_program.specs.FastOf.{first_weight, fast_before_of}
+use Rattle.c_program.specs.Syntax.Family.{State, Loaded, EntryBase, RowBase, Multiplier, Sum, Own, Reached, Weight, Shift, Power}
+use Rattle.c_program.specs.Meaning.{Environment, with_value, new_value, variable_of, HasOperands, begun}
+use Rattle.c_program.specs.Of.{Sizes, state_top, multiplier_top, kind_for, kind_by, loaded_statements, entry_base_statements, row_base_statements, zero_statements, before_of, has_short_divisor}
+use Rattle.c_program.specs.FastOf.{first_weight, first_scale_lines, first_scale, fast_before_of}
 use Rattle.c_program.proofs.Runs.{Runs, runs_none, runs_first, runs_append, runs_groups}
 use Rattle.c_program.proofs.Terms.{fits64, kind_fits}
 use Rattle.c_program.proofs.Parts.{Ready, entry_base, row_base, entry_base_made, row_base_made}
@@ -27,11 +27,16 @@ use Rattle.c_program.proofs.Parts.{Ready, entry_base, row_base, entry_base_made,
 abbrev pub kinds : Numbers → Sizes → Variable → Kind
 kinds c sizes v = kind_by c sizes v.family v.number
 
+-- with others behind it
+pub runs_next : (kind : Variable → Kind) (e : Environment) (s : Statement) (rest : List Statement) (z : ℤ) (P : Environment → Type 0) → HasOperands e s → new_value e s ≡ z →
+    FitsWidth (bits_of (kind (variable_of s))) z → Runs kind (with_value e (variable_of s) z) rest P → Runs kind e (s ∷ rest) P
+runs_next kind e s rest z P operands is fits h =
+    runs_first kind e s rest P (record { operands = operands; fits = subst (FitsWidth (bits_of (kind (variable_of s)))) (sym is) fits })
+    (subst (λ (y : ℤ). Runs kind (with_value e (variable_of s) y) rest P) (sym is) h)
+
 pub runs_one : (kind : Variable → Kind) (e : Environment) (s : Statement) (z : ℤ) (P : Environment → Type 0) → HasOperands e s → new_value e s ≡ z →
     FitsWidth (bits_of (kind (variable_of s))) z → P (with_value e (variable_of s) z) → Runs kind e (s ∷ []) P
-runs_one kind e s z P operands is fits h =
-    runs_first kind e s [] P (record { operands = operands; fits = subst (FitsWidth (bits_of (kind (variable_of s)))) (sym is) fits })
-    (runs_none kind (done e s) P (subst (λ (y : ℤ). P (with_value e (variable_of s) y)) (sym is) h))
+runs_one kind e s z P operands is fits h = runs_next kind e s [] z P operands is fits (runs_none kind (with_value e (variable_of s) z) P h)
 
 -- one more variable of a family is put in its place
 pub put : (f g : ℕ → ℤ) (n : ℕ) (z : ℤ) → z ≡ g n → ((k : ℕ) → k < n → f k ≡ g k) → (k : ℕ) → k < suc n → (if n == k then z else f k) ≡ g k
@@ -45,6 +50,11 @@ pub kept : (f g : ℕ → ℤ) (n m : ℕ) (z : ℤ) → ((k : ℕ) → n ≤ k 
 kept f g n m z old k l h =
     let e : (n ≡ k) → ⊥ = λ same. absurd (omega (arith, same, l)) in
     rw (ne_eqb n k e) (old k (omega (arith, l)) h)
+
+pub before_kept : (f g : ℕ → ℤ) (n : ℕ) (z : ℤ) → ((k : ℕ) → k < n → f k ≡ g k) → (k : ℕ) → k < n → (if n == k then z else f k) ≡ g k
+before_kept f g n z old k l =
+    let e : (n ≡ k) → ⊥ = λ same. absurd (omega (arith, same, l)) in
+    rw (ne_eqb n k e) (old k l)
 
 -- the same of a family of which only some are declared
 pub put_where : (b : ℕ → Bool) (f g : ℕ → ℤ) (n : ℕ) (z : ℤ) → z ≡ g n → ((k : ℕ) → k < n → b k ≡ true → f k ≡ g k) → (k : ℕ) → k < suc n → b k ≡ true → (if n == k then z else f k) ≡ g k
@@ -175,9 +185,30 @@ reached_runs c sizes xi i e b =
       reached = put (e Reached) (λ k. pos 0) i _ refl b.reached;
     })
 
--- the first step's weight, too
-abbrev pub FastBegun : (c : Numbers) (xi : List ℤ) → Environment → Type 0
-FastBegun c xi e = FastBegins c xi (length c.bounds) (length c.bounds) e × (e Weight 0 ≡ pos 2)
+-- the first step's weight, and the scale of its divisor
+pub record FastBegun (c : Numbers) (xi : List ℤ) (e : Environment) : Type 0 where
+  pub begun : FastBegins c xi (length c.bounds) (length c.bounds) e
+  pub weight : e Weight 0 ≡ pos 2
+  pub scale : has_short_divisor c ≡ true → (e Shift 0 ≡ pos 1) × (e Power 0 ≡ pos (2 ^ 33))
+
+first_scale_runs : (c : Numbers) (sizes : Sizes) (xi : List ℤ) (e : Environment) → FastBegins c xi (length c.bounds) (length c.bounds) e → e Weight 0 ≡ pos 2 → Runs (kinds c sizes) e (first_scale c) (FastBegun c xi)
+first_scale_runs c sizes xi e b weight =
+    let kind = kinds c sizes in
+    let P = FastBegun c xi in
+    let p = b.plain in
+    cond_both (has_short_divisor c) first_scale_lines [] (λ ss. Runs kind e ss P)
+    (λ t. runs_next kind e _ _ (pos 1) P (omega arith) refl (fits_width 32 (pos 1) (omega arith))
+    (runs_one kind (with_value e (variable Shift 0) (pos 1)) _ (pos (2 ^ 33)) P (omega arith) refl (fits64 (pos (2 ^ 33)) (omega arith))
+    (record {
+      begun = record {
+        plain = record { state = p.state; inputs = p.inputs; entries = p.entries; rows = p.rows; multipliers = p.multipliers; sums = p.sums };
+        own = b.own;
+        reached = b.reached;
+      };
+      weight = weight;
+      scale = λ u. (refl, refl);
+    })))
+    (λ f. runs_none kind e P (record { begun = b; weight = weight; scale = λ t. absurd (both_ways (has_short_divisor c) f t) }))
 
 pub fast_before_runs : (c : Numbers) (sizes : Sizes) (xi : List ℤ) → Ready c (loaded c xi) → Runs (kinds c sizes) (begun xi) (fast_before_of c) (FastBegun c xi)
 fast_before_runs c sizes xi r =
@@ -188,12 +219,14 @@ fast_before_runs c sizes xi r =
     (λ e b. runs_groups (kinds c sizes) (zero_statements Own) (λ k. FastBegins c xi k 0) m e b (λ k t l h. own_runs c sizes xi k t h)) in
     let two = runs_append (kinds c sizes) (begun xi) _ (groups (zero_statements Reached) m) (FastBegins c xi m 0) (FastBegins c xi m m) one
     (λ e b. runs_groups (kinds c sizes) (zero_statements Reached) (λ k. FastBegins c xi m k) m e b (λ k t l h. reached_runs c sizes xi k t h)) in
-    runs_append (kinds c sizes) (begun xi) _ (first_weight ∷ []) (FastBegins c xi m m) (FastBegun c xi) two (λ e b. let p = b.plain in
-    runs_one (kinds c sizes) e first_weight (pos 2) (FastBegun c xi) (omega arith) refl (fits_width 32 (pos 2) (omega arith)) (
+    let W = λ (e : Environment). FastBegins c xi m m e × (e Weight 0 ≡ pos 2) in
+    let three = runs_append (kinds c sizes) (begun xi) _ (first_weight ∷ []) (FastBegins c xi m m) W two (λ e b. let p = b.plain in
+    runs_one (kinds c sizes) e first_weight (pos 2) W (omega arith) refl (fits_width 32 (pos 2) (omega arith)) (
       record {
         plain = record { state = p.state; inputs = p.inputs; entries = p.entries; rows = p.rows; multipliers = p.multipliers; sums = p.sums };
         own = b.own;
         reached = b.reached;
       },
       refl,
-    ))
+    )) in
+    runs_append (kinds c sizes) (begun xi) _ (first_scale c) W (FastBegun c xi) three (λ e b. first_scale_runs c sizes xi e b.0 b.1)

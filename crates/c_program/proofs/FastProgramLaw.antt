@@ -21,7 +21,8 @@ use Rattle.c_program.specs.Laws.{inputs_of, SolvesTo, FastProgramLaw}
 use Rattle.c_program.proofs.Runs.{Runs}
 use Rattle.c_program.proofs.Parts.{Ready}
 use Rattle.c_program.proofs.Before.{kinds, FastBegun, fast_before_runs}
-use Rattle.c_program.proofs.FastStep.{FastHolds, fast_body_runs}
+use Rattle.c_program.proofs.FastMeans.{FastHolds}
+use Rattle.c_program.proofs.FastStep.{fast_body_runs}
 use Rattle.c_program.proofs.ProgramNeeds.{fast_program_closed, outputs_needed}
 use Rattle.c_program.proofs.Box.{none_outside, first_told, refused_at}
 use Rattle.c_program.proofs.Solving.{state_fits, Tracks, sums_held, AreSums, solves_to}
@@ -74,12 +75,13 @@ starts : (c : Numbers) (xi : List ℤ) (e : Environment) → FastBegun c xi e �
 unfolding Made
 starts c xi e b =
     subst (λ (made : FastIterate). FastHolds c (loaded c xi) 0 made e) (sym (fast_after_zero c (loaded c xi))) (record {
-      entry_bases = b.0.plain.entries;
-      row_bases = b.0.plain.rows;
-      own = λ i l. b.0.own i l ∙ sym (zeros_at (length c.bounds) i);
-      reached = λ i l. b.0.reached i l ∙ sym (zeros_at (length c.bounds) i);
-      sums = λ j l. b.0.plain.sums j l ∙ sym (zeros_at (length c.offsets) j);
-      weight = b.1;
+      entry_bases = b.begun.plain.entries;
+      row_bases = b.begun.plain.rows;
+      own = λ i l. b.begun.own i l ∙ sym (zeros_at (length c.bounds) i);
+      reached = λ i l. b.begun.reached i l ∙ sym (zeros_at (length c.bounds) i);
+      sums = λ j l. b.begun.plain.sums j l ∙ sym (zeros_at (length c.offsets) j);
+      weight = b.weight;
+      scale = λ t. let first = b.scale t in record { bits = 1; shifts = first.0; powers = first.1; low = omega arith; high = omega arith };
     })
 
 steps : (c : Numbers) (xi : List ℤ) (k : ℕ) (e : Environment) → IsFastController c → c.width ≤ 64 → IsAdmissible c xi → k < c.steps → Made c xi k e →

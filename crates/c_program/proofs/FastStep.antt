@@ -1,8 +1,7 @@
 -- One repetition of the body makes one step of the accelerated machine.
-use Rattle.std.proofs.Common.{◌≡◌, ℕ, suc, ◌+◌, ◌-◌, ◌*◌, ◌^◌, ◌<◌, ◌≤◌, ℤ, pos, ◌+ℤ◌, ◌*ℤ◌, ◌≤ℤ◌, List, [], ◌∷◌, length, map, unsigned_abs, refl, sym, ap, subst, ◌∙◌, arith, le_refl, mul-pos, inl, inr}
-use Rattle.std.specs.List.{range_with_len}
+use Rattle.std.proofs.Common.{◌≡◌, ℕ, suc, ◌+◌, ◌*◌, ◌^◌, ◌<◌, ◌≤◌, ℤ, pos, ◌+ℤ◌, ◌*ℤ◌, ◌≤ℤ◌, List, [], ◌∷◌, length, unsigned_abs, refl, sym, ap, subst, ◌∙◌, arith, le_refl, inl, inr}
 use Rattle.std.specs.Int.{int_max}
-use Rattle.std.proofs.lemmas.Int.{ints, unsigned_abs-mul}
+use Rattle.std.proofs.lemmas.Int.{ints}
 use Rattle.std.proofs.lemmas.Nat.{mul-le}
 use Rattle.std.proofs.lemmas.Bool.{cases_lt}
 use Rattle.std.proofs.lemmas.List.{get_or_past}
@@ -13,135 +12,27 @@ use Rattle.qp_model.specs.machine.Controller.{Numbers}
 use Rattle.qp_model.specs.machine.Machine.{raised, plan_entry, row_sum}
 use Rattle.qp_model.specs.machine.AbsoluteSums.{row_absolute_sum}
 use Rattle.qp_model.proofs.AbsoluteLaws.{floor_nonneg}
-use Rattle.qp_model.proofs.MagnitudeLaws.{top_le_clamp}
 use Rattle.overflow_check.specs.FastMachine.{FastIterate, step_weight, all_weights, mean_divisor, fast_top, mean_at, moved_multiplier, fast_step}
 use Rattle.overflow_check.specs.FastController.{moved_magnitude, reached_magnitude, fast_sum_magnitude}
 use Rattle.overflow_check.proofs.ValuesMet.{fits_width}
-use Rattle.fast_machine.specs.FastReady.{LiesUpTo, IsFastReady}
+use Rattle.fast_machine.specs.FastReady.{LiesUpTo}
 use Rattle.fast_machine.proofs.WeightSums.{more_weights}
 use Rattle.fast_machine.proofs.FastRuns.{top_le, top_low, kept_up, mean_up, mean_le, moved_item, moved_long, added_item}
-use Rattle.fast_machine.proofs.FastSums.{FastSumsFit, weights_with, one_weight, weight_le, tops_within}
-use Rattle.c_program.specs.Syntax.{variable, Expression, groups}
-use Rattle.c_program.specs.Syntax.Family.{EntryBase, RowBase, Multiplier, Entry, Moved, Sum, Own, Reached, Weight, Divisor}
-use Rattle.c_program.specs.Syntax.Expression.{Constant, Plus, Minus, Times}
+use Rattle.fast_machine.proofs.FastSums.{weights_with, one_weight, weight_le}
+use Rattle.c_program.specs.Syntax.{variable, groups}
+use Rattle.c_program.specs.Syntax.Family.{EntryBase, Entry, Moved, Sum, Own, Reached, Weight, Shift, Power}
+use Rattle.c_program.specs.Syntax.Expression.{Constant}
 use Rattle.c_program.specs.Syntax.Statement.{Assign}
 use Rattle.c_program.specs.Meaning.{Environment, with_value}
 use Rattle.c_program.specs.Of.{entry_top, multiplier_top, difference_statements, entry_statements}
-use Rattle.c_program.specs.FastOf.{fast_sizes, weight_value, weighted, divisor_statement, mean_statements, weighted_sum_statements, fast_moved_expression, reached_expression, fast_move_statements, fast_row_statements, next_weight, fast_body}
+use Rattle.c_program.specs.FastOf.{fast_sizes, weight_value, divisor_statement, scale_statements, mean_statements, weighted_sum_statements, fast_moved_expression, reached_expression, fast_move_statements, fast_row_statements, next_weight, fast_body}
 use Rattle.c_program.proofs.Runs.{Runs, runs_append, runs_groups, held_new}
-use Rattle.c_program.proofs.Terms.{Makes, fits64, kind_fits, makes_same, makes_constant, makes_value, makes_plus, makes_minus, makes_multiplied, makes_over}
+use Rattle.c_program.proofs.Terms.{Makes, fits64, kind_fits, makes_same, makes_constant, makes_value, makes_plus}
 use Rattle.c_program.proofs.Pairs.{AreMultipliers}
-use Rattle.c_program.proofs.Parts.{Ready, entry_base, row_base, IsPlanned, residual_made}
+use Rattle.c_program.proofs.Parts.{entry_base, IsPlanned, residual_made}
 use Rattle.c_program.proofs.Before.{kinds, runs_one, put, kept}
-use Rattle.c_program.proofs.Planning.{made_at, StaysBeside, PlanReady, Plans, differences_run, entries_run, is_planned, abs_raised_le, move_runs, Rows, Summed, rows_run, row_sum_small}
-
--- ---- what a step needs
-pub record FastStepReady (c : Numbers) (state : List ℤ) (k : ℕ) (made : FastIterate) : Type 0 where
-  pub ready : Ready c state
-  pub fit : FastSumsFit c (2 ^ 63 - 1)
-  pub inside : k < c.steps
-  pub few : c.steps < 2 ^ 16
-  pub before : IsFastReady c k made
-
--- what the state adds, and what the machine has made before step k
-pub record FastHolds (c : Numbers) (state : List ℤ) (k : ℕ) (made : FastIterate) (e : Environment) : Type 0 where
-  pub entry_bases : (j : ℕ) → j < length c.offsets → e EntryBase j ≡ entry_base c state j
-  pub row_bases : (i : ℕ) → i < length c.bounds → e RowBase i ≡ row_base c state i
-  pub own : (i : ℕ) → i < length c.bounds → e Own i ≡ at made.multipliers i
-  pub reached : (i : ℕ) → i < length c.bounds → e Reached i ≡ at made.reached i
-  pub sums : (j : ℕ) → j < length c.offsets → e Sum j ≡ at made.sums j
-  pub weight : e Weight 0 ≡ pos (step_weight k)
-
--- ---- numbers times the step's weight
-weight_made : (e : Environment) (k : ℕ) → k < 2 ^ 16 → e Weight 0 ≡ pos (step_weight k) → Makes e weight_value (pos (step_weight k)) (step_weight k)
-weight_made e k l is = makes_value e (variable Weight 0) (pos (step_weight k)) (step_weight k) is (le_refl (step_weight k)) (omega (arith, l))
-
-weighted_made : (e : Environment) (k : ℕ) (a : Expression) (z : ℤ) (m most : ℕ) → k < 2 ^ 16 → e Weight 0 ≡ pos (step_weight k) → Makes e a z m → step_weight k * m ≤ most → most < 2 ^ 63 →
-    Makes e (weighted a) (pos (step_weight k) *ℤ z) most
-weighted_made e k a z m most l is h le room =
-    makes_multiplied e weight_value a (pos (step_weight k)) z (step_weight k) m most (weight_made e k l is) h
-    (omega (arith, unsigned_abs-mul (pos (step_weight k)) z, mul-le (step_weight k) (unsigned_abs z) (step_weight k) m (le_refl (step_weight k)) h.within, le)) room
-
--- ---- the means
-abbrev used_of : Numbers → ℕ → FastIterate → List ℤ
-used_of c k made = map (mean_at k made.multipliers made.reached) (range_with_len 0 (length c.bounds))
-
-used_at : (c : Numbers) (k : ℕ) (made : FastIterate) (i : ℕ) → i < length c.bounds → mean_at k made.multipliers made.reached i ≡ at (used_of c k made) i
-used_at c k made i l = made_at (mean_at k made.multipliers made.reached) (length c.bounds) i l
-
-parts_sum : (u a b t : ℕ) → u ≡ a + b → a * t + b * t ≡ u * t
-parts_sum u a b t e = rw e (omega arith)
-
--- what is reached with so many times a number added
-reached_le : (c : Numbers) (k i : ℕ) → k < c.steps → all_weights k * unsigned_abs (fast_top c i) + step_weight k * unsigned_abs (fast_top c i) ≤ reached_magnitude c
-reached_le c k i l = omega (arith, parts_sum (all_weights (suc k)) (all_weights k) (step_weight k) (unsigned_abs (fast_top c i)) (more_weights k), tops_within c (all_weights (suc k)) i (weights_with k c.steps l))
-
--- so many means are new
-record Means (c : Numbers) (state : List ℤ) (k : ℕ) (made : FastIterate) (d : ℕ) (e : Environment) : Type 0 where
-  entry_bases : (j : ℕ) → j < length c.offsets → e EntryBase j ≡ entry_base c state j
-  row_bases : (i : ℕ) → i < length c.bounds → e RowBase i ≡ row_base c state i
-  own : (i : ℕ) → i < length c.bounds → e Own i ≡ at made.multipliers i
-  reached : (i : ℕ) → i < length c.bounds → e Reached i ≡ at made.reached i
-  sums : (j : ℕ) → j < length c.offsets → e Sum j ≡ at made.sums j
-  weight : e Weight 0 ≡ pos (step_weight k)
-  divisor : e Divisor 0 ≡ pos (mean_divisor k)
-  means : (i : ℕ) → i < d → e Multiplier i ≡ at (used_of c k made) i
-
-divisor_small : (n : ℕ) → n < 2 ^ 16 → mean_divisor n < 2 ^ 63
-divisor_small n h = omega (arith, mul-le (n + 1) (n + 4) (2 ^ 16) (2 ^ 17) (omega (arith, h)) (omega (arith, h)))
-
-divisor_le : (k n : ℕ) → k ≤ n → mean_divisor k ≤ mean_divisor n
-divisor_le k n h = mul-le (k + 1) (k + 4) (n + 1) (n + 4) (omega (arith, h)) (omega (arith, h))
-
-divisor_made : (e : Environment) (k : ℕ) → k < 2 ^ 16 → e Weight 0 ≡ pos (step_weight k) → Makes e (Times (Minus weight_value (Constant (pos 1))) (Plus weight_value (Constant (pos 2)))) (pos (mean_divisor k)) (mean_divisor k)
-divisor_made e k l is =
-    let w = weight_made e k l is in
-    let less = makes_minus e weight_value (Constant (pos 1)) (pos (k + 2)) (pos 1) (k + 2) 1 (k + 1) w (makes_constant e (pos 1) 1 (omega arith) (omega arith)) (omega (arith, ints)) (omega (arith, l)) in
-    let more = makes_plus e weight_value (Constant (pos 2)) (pos (k + 2)) (pos 2) (k + 2) 2 w (makes_constant e (pos 2) 2 (omega arith) (omega arith)) (omega (arith, l)) in
-    makes_multiplied e _ _ (pos (k + 1)) (pos (k + 4)) (k + 1) (k + 4) (mean_divisor k)
-    (makes_same e _ _ _ (k + 1) (k + 1) less (omega (arith, ints)) (omega arith)) (makes_same e _ _ _ (k + 2 + 2) (k + 4) more (omega (arith, ints)) (omega arith))
-    (le_refl (mean_divisor k)) (divisor_small k l)
-
-divisor_runs : (c : Numbers) (state : List ℤ) (k : ℕ) (made : FastIterate) (e : Environment) → FastStepReady c state k made → FastHolds c state k made e →
-    Runs (kinds c (fast_sizes c)) e (divisor_statement ∷ []) (Means c state k made 0)
-divisor_runs c state k made e r h =
-    let m = divisor_made e k (omega (arith, r.inside, r.few)) h.weight in
-    runs_one (kinds c (fast_sizes c)) e divisor_statement (pos (mean_divisor k)) (Means c state k made 0) m.defined m.is
-    (kind_fits (mean_divisor c.steps) (pos (mean_divisor k)) (divisor_le k c.steps (omega (arith, r.inside))) (divisor_small c.steps r.few))
-    (record {
-      entry_bases = h.entry_bases;
-      row_bases = h.row_bases;
-      own = h.own;
-      reached = h.reached;
-      sums = h.sums;
-      weight = h.weight;
-      divisor = refl;
-      means = λ i l. absurd (omega (arith, l));
-    })
-
-mean_runs : (c : Numbers) (state : List ℤ) (k : ℕ) (made : FastIterate) (i : ℕ) (e : Environment) → FastStepReady c state k made → i < length c.bounds → Means c state k made i e →
-    Runs (kinds c (fast_sizes c)) e (mean_statements i) (Means c state k made (suc i))
-mean_runs c state k made i e r l s =
-    let t = unsigned_abs (fast_top c i) in
-    let rows = r.before.rows in
-    let short : k < 2 ^ 16 = omega (arith, r.inside, r.few) in
-    let room : all_weights k * t + step_weight k * t < 2 ^ 63 = omega (arith, reached_le c k i r.inside, r.fit.reached) in
-    let old = makes_value e (variable Reached i) (at made.reached i) (all_weights k * t) (s.reached i l) (rows.summed i l).high (omega (arith, room)) in
-    let own = makes_value e (variable Own i) (at made.multipliers i) t (s.own i l) (rows.own i l).high (omega (arith, top_le c i, r.fit.moved i l)) in
-    let sum = makes_plus e _ _ _ _ (all_weights k * t) (step_weight k * t) old (weighted_made e k _ _ t (step_weight k * t) short s.weight own (le_refl (step_weight k * t)) (omega (arith, room))) room in
-    let m = makes_over e _ (variable Divisor 0) _ _ (mean_divisor k) sum s.divisor (mul-pos (let a : 0 < k + 1 = omega arith in a) (let b : 0 < k + 4 = omega arith in b)) (divisor_small k short) (mean_up c k made.multipliers made.reached i rows l).low in
-    runs_one (kinds c (fast_sizes c)) e _ (mean_at k made.multipliers made.reached i) (Means c state k made (suc i)) m.defined m.is
-    (kind_fits (multiplier_top c i) (mean_at k made.multipliers made.reached i) (mean_le c k made.multipliers made.reached i r.ready.nonneg rows l) (omega (arith, top_le_clamp c i, r.ready.fit.next i l)))
-    (record {
-      entry_bases = s.entry_bases;
-      row_bases = s.row_bases;
-      own = s.own;
-      reached = s.reached;
-      sums = s.sums;
-      weight = s.weight;
-      divisor = s.divisor;
-      means = put (e Multiplier) (at (used_of c k made)) i _ (used_at c k made i l) s.means;
-    })
+use Rattle.c_program.proofs.FastMeans.{FastStepReady, ScaledTo, FastHolds, weight_made, weighted_made, used_of, used_at, parts_sum, reached_le, Means, divisor_runs, Reciprocated, scale_runs, next_scale, mean_runs}
+use Rattle.c_program.proofs.Planning.{StaysBeside, PlanReady, Plans, differences_run, entries_run, is_planned, abs_raised_le, move_runs, Rows, Summed, rows_run, row_sum_small}
 
 -- ---- the plan at them
 used_ranges : (c : Numbers) (state : List ℤ) (k : ℕ) (made : FastIterate) → FastStepReady c state k made → AreMultipliers c (used_of c k made)
@@ -175,23 +66,24 @@ record Beside (c : Numbers) (k : ℕ) (made : FastIterate) (e : Environment) : T
   reached : (i : ℕ) → i < length c.bounds → e Reached i ≡ at made.reached i
   sums : (j : ℕ) → j < length c.offsets → e Sum j ≡ at made.sums j
   weight : e Weight 0 ≡ pos (step_weight k)
+  scale : ScaledTo c (mean_divisor k) 4 e
 
 beside_stays : (c : Numbers) (k : ℕ) (made : FastIterate) → StaysBeside (Beside c k made)
 beside_stays c k made = record {
-  difference = λ e i z h. record { own = h.own; reached = h.reached; sums = h.sums; weight = h.weight };
-  entry = λ e j z h. record { own = h.own; reached = h.reached; sums = h.sums; weight = h.weight };
-  gradient = λ e i z h. record { own = h.own; reached = h.reached; sums = h.sums; weight = h.weight };
-  row_sum = λ e i z h. record { own = h.own; reached = h.reached; sums = h.sums; weight = h.weight };
+  difference = λ e i z h. record { own = h.own; reached = h.reached; sums = h.sums; weight = h.weight; scale = h.scale };
+  entry = λ e j z h. record { own = h.own; reached = h.reached; sums = h.sums; weight = h.weight; scale = h.scale };
+  gradient = λ e i z h. record { own = h.own; reached = h.reached; sums = h.sums; weight = h.weight; scale = h.scale };
+  row_sum = λ e i z h. record { own = h.own; reached = h.reached; sums = h.sums; weight = h.weight; scale = h.scale };
 }
 
-begins : (c : Numbers) (state : List ℤ) (k : ℕ) (made : FastIterate) (e : Environment) → Means c state k made (length c.bounds) e → Plans c state (used_of c k made) (Beside c k made) 0 0 e
+begins : (c : Numbers) (state : List ℤ) (k : ℕ) (made : FastIterate) (e : Environment) → Means c state k made (Reciprocated c (mean_divisor k)) (length c.bounds) e → Plans c state (used_of c k made) (Beside c k made) 0 0 e
 begins c state k made e s = record {
   entry_bases = s.entry_bases;
   row_bases = s.row_bases;
   multipliers = s.means;
   differences = λ i l. absurd (omega (arith, l));
   entries = λ j l. absurd (omega (arith, l));
-  beside = record { own = s.own; reached = s.reached; sums = s.sums; weight = s.weight };
+  beside = record { own = s.own; reached = s.reached; sums = s.sums; weight = s.weight; scale = λ t. (s.scale t).0 };
 }
 
 -- ---- the sums
@@ -202,6 +94,7 @@ record FastAdds (c : Numbers) (state : List ℤ) (k : ℕ) (made : FastIterate) 
   own : (i : ℕ) → i < length c.bounds → e Own i ≡ at made.multipliers i
   reached : (i : ℕ) → i < length c.bounds → e Reached i ≡ at made.reached i
   weight : e Weight 0 ≡ pos (step_weight k)
+  scale : ScaledTo c (mean_divisor k) 4 e
   new_sums : (j : ℕ) → j < b → e Sum j ≡ at (fast_step c state k made).sums j
   old_sums : (j : ℕ) → b ≤ j → j < length c.offsets → e Sum j ≡ at made.sums j
 
@@ -213,6 +106,7 @@ adds_none c state k made e r s = record {
   own = s.beside.own;
   reached = s.beside.reached;
   weight = s.beside.weight;
+  scale = s.beside.scale;
   new_sums = λ j l. absurd (omega (arith, l));
   old_sums = λ j l m. s.beside.sums j m;
 }
@@ -248,6 +142,7 @@ sum_runs c state k made j e r l s =
       own = s.own;
       reached = s.reached;
       weight = s.weight;
+      scale = s.scale;
       new_sums = put (e Sum) (at (fast_step c state k made).sums) j _ same s.new_sums;
       old_sums = kept (e Sum) (at made.sums) j (length c.offsets) _ s.old_sums;
     })
@@ -257,6 +152,7 @@ sum_runs c state k made j e r l s =
 record FastMoves (c : Numbers) (state : List ℤ) (k : ℕ) (made : FastIterate) (d : ℕ) (e : Environment) : Type 0 where
   sums : (j : ℕ) → j < length c.offsets → e Sum j ≡ at (fast_step c state k made).sums j
   weight : e Weight 0 ≡ pos (step_weight k)
+  scale : ScaledTo c (mean_divisor k) 4 e
   new_own : (i : ℕ) → i < d → e Own i ≡ at (fast_step c state k made).multipliers i
   old_own : (i : ℕ) → d ≤ i → i < length c.bounds → e Own i ≡ at made.multipliers i
   new_reached : (i : ℕ) → i < d → e Reached i ≡ at (fast_step c state k made).reached i
@@ -264,10 +160,10 @@ record FastMoves (c : Numbers) (state : List ℤ) (k : ℕ) (made : FastIterate)
 
 moves_stay : (c : Numbers) (state : List ℤ) (k : ℕ) (made : FastIterate) (d : ℕ) → StaysBeside (FastMoves c state k made d)
 moves_stay c state k made d = record {
-  difference = λ e i z h. record { sums = h.sums; weight = h.weight; new_own = h.new_own; old_own = h.old_own; new_reached = h.new_reached; old_reached = h.old_reached };
-  entry = λ e j z h. record { sums = h.sums; weight = h.weight; new_own = h.new_own; old_own = h.old_own; new_reached = h.new_reached; old_reached = h.old_reached };
-  gradient = λ e i z h. record { sums = h.sums; weight = h.weight; new_own = h.new_own; old_own = h.old_own; new_reached = h.new_reached; old_reached = h.old_reached };
-  row_sum = λ e i z h. record { sums = h.sums; weight = h.weight; new_own = h.new_own; old_own = h.old_own; new_reached = h.new_reached; old_reached = h.old_reached };
+  difference = λ e i z h. record { sums = h.sums; weight = h.weight; scale = h.scale; new_own = h.new_own; old_own = h.old_own; new_reached = h.new_reached; old_reached = h.old_reached };
+  entry = λ e j z h. record { sums = h.sums; weight = h.weight; scale = h.scale; new_own = h.new_own; old_own = h.old_own; new_reached = h.new_reached; old_reached = h.old_reached };
+  gradient = λ e i z h. record { sums = h.sums; weight = h.weight; scale = h.scale; new_own = h.new_own; old_own = h.old_own; new_reached = h.new_reached; old_reached = h.old_reached };
+  row_sum = λ e i z h. record { sums = h.sums; weight = h.weight; scale = h.scale; new_own = h.new_own; old_own = h.old_own; new_reached = h.new_reached; old_reached = h.old_reached };
 }
 
 moves_none : (c : Numbers) (state : List ℤ) (k : ℕ) (made : FastIterate) (e : Environment) → FastAdds c state k made (length c.offsets) e →
@@ -279,6 +175,7 @@ moves_none c state k made e s = record {
   beside = record {
     sums = s.new_sums;
     weight = s.weight;
+    scale = s.scale;
     new_own = λ i l. absurd (omega (arith, l));
     old_own = λ i l m. s.own i m;
     new_reached = λ i l. absurd (omega (arith, l));
@@ -358,6 +255,7 @@ moves c state k made i e r l both =
       beside = record {
         sums = b.sums;
         weight = b.weight;
+        scale = b.scale;
         new_own = put (e Own) (at next) i y (is ∙ same) b.new_own;
         old_own = kept (e Own) (at made.multipliers) i (length c.bounds) y b.old_own;
         new_reached = put (e Reached) (at (fast_step c state k made).reached) i sum added b.new_reached;
@@ -376,7 +274,7 @@ next_runs c state k made e r s =
     let same : pos (step_weight k) +ℤ pos 1 ≡ pos (step_weight (suc k)) = omega (arith, ints) in
     runs_one (kinds c (fast_sizes c)) e next_weight (pos (step_weight (suc k))) (FastHolds c state (suc k) (fast_step c state k made)) m.defined (m.is ∙ same)
     (fits_width 32 (pos (step_weight (suc k))) (omega (arith, short)))
-    (record { entry_bases = s.entry_bases; row_bases = s.planned.bases; own = b.new_own; reached = b.new_reached; sums = b.sums; weight = refl })
+    (record { entry_bases = s.entry_bases; row_bases = s.planned.bases; own = b.new_own; reached = b.new_reached; sums = b.sums; weight = refl; scale = λ t. next_scale k (e Shift 0) (e Power 0) (b.scale t) })
 
 -- ---- the whole step
 pub fast_body_runs : (c : Numbers) (state : List ℤ) (k : ℕ) (made : FastIterate) (e : Environment) → FastStepReady c state k made → FastHolds c state k made e →
@@ -393,9 +291,12 @@ fast_body_runs c state k made e r h =
     let ready = plan_ready c state k made r in
     let stays = beside_stays c k made in
     let zero = divisor_runs c state k made e r h in
-    let one = runs_append kind e (divisor_statement ∷ []) (groups mean_statements m) (Means c state k made 0) (Means c state k made m) zero
-    (λ t s. runs_groups kind mean_statements (Means c state k made) m t s (λ i u l v. mean_runs c state k made i u r l v)) in
-    let two = runs_append kind e _ (groups (difference_statements c) m) (Means c state k made m) (Plans c state used F m 0) one
+    let S = ScaledTo c (mean_divisor k) 8 in
+    let R = Reciprocated c (mean_divisor k) in
+    let scaled = runs_append kind e (divisor_statement ∷ []) (scale_statements c) (Means c state k made S 0) (Means c state k made R 0) zero (λ t s. scale_runs c state k made t r s) in
+    let one = runs_append kind e _ (groups (mean_statements c) m) (Means c state k made R 0) (Means c state k made R m) scaled
+    (λ t s. runs_groups kind (mean_statements c) (Means c state k made R) m t s (λ i u l v. mean_runs c state k made i u r l v)) in
+    let two = runs_append kind e _ (groups (difference_statements c) m) (Means c state k made R m) (Plans c state used F m 0) one
     (λ t s. differences_run c sizes state used F ready stays t (begins c state k made t s)) in
     let three = runs_append kind e _ (groups (entry_statements c) p) (Plans c state used F m 0) (Plans c state used F m p) two (λ t s. entries_run c sizes state used F ready stays t s) in
     let four = runs_append kind e _ (groups weighted_sum_statements p) (Plans c state used F m p) (FastAdds c state k made p) three

@@ -7,17 +7,17 @@ use Rattle.c_program.specs.Syntax.{groups}
 use Rattle.c_program.specs.Meaning.{all_done, repeated, outcome_of, averages_of}
 use Rattle.c_program.specs.Meaning.Outcome.{Refused, Solved}
 use Rattle.c_program.specs.FastOf.{fast_program_of}
-use Rattle.c_program.specs.Of.{are_multiples, shared_bits, partner, is_first, is_second, any_below, is_row_needed, is_coordinate_needed}
+use Rattle.c_program.specs.Of.{are_multiples, shared_bits, partner, is_first, is_second, any_below, is_row_needed, is_coordinate_needed, is_any_quick}
 use Rattle.c_program.specs.FastWorked.{fast, FastWorkedLines}
 
 pub fast_worked_lines : FastWorkedLines
-unfolding groups are_multiples shared_bits partner is_first is_second any_below is_row_needed is_coordinate_needed digits count_trailing_zeros all_weights
+unfolding groups are_multiples shared_bits partner is_first is_second any_below is_row_needed is_coordinate_needed is_any_quick digits count_trailing_zeros all_weights
 fast_worked_lines = refl
 
 -- ---- what it does
 -- from the state 1, which is run as by hand; and 2 lies outside the box
 solved : outcome_of (fast_program_of fast) (pos 1 ∷ []) ≡ Solved (negsuc 2479 ∷ [])
-unfolding groups are_multiples shared_bits partner is_first is_second any_below is_row_needed is_coordinate_needed all_done repeated
+unfolding groups are_multiples shared_bits partner is_first is_second any_below is_row_needed is_coordinate_needed is_any_quick all_done repeated
 solved = refl
 
 refused : outcome_of (fast_program_of fast) (pos 2 ∷ []) ≡ Refused 1

@@ -1,13 +1,13 @@
 -- What is not needed can be left out: where the needed statements read only needed variables, the needed part is defined where the whole is, and its variables hold the same.
-use Rattle.std.proofs.Common.{◌≡◌, ℕ, zero, suc, ◌<◌, ◌≤◌, ◌^◌, ◌==◌, ◌&&◌, Bool, true, false, if◌then◌else◌, ℤ, pos, ◌+ℤ◌, ◌-ℤ◌, ◌*ℤ◌, ◌<ℤ◌, List, [], ◌∷◌, ◌++◌, map, refl, sym, ap, subst, ◌∙◌, arith, inl, inr}
+use Rattle.std.proofs.Common.{◌≡◌, ℕ, zero, suc, ◌<◌, ◌≤◌, ◌^◌, ◌==◌, ◌&&◌, Bool, true, false, if◌then◌else◌, ℤ, pos, ◌+ℤ◌, ◌-ℤ◌, ◌*ℤ◌, ◌≤ℤ◌, ◌<ℤ◌, List, [], ◌∷◌, ◌++◌, map, unsigned_abs, refl, sym, ap, subst, ◌∙◌, arith, inl, inr}
 use Rattle.std.specs.Int.{int_max, int_min}
 use Rattle.std.specs.Prelude.{int_div, int_rem}
 use Rattle.std.proofs.lemmas.Bool.{cases_Bool, and_parts, eqb-true, cond-true, cond-false, cond_both, both_ways}
 use Rattle.integer_algebra.specs.Division.{floor_of}
 use Rattle.qp_model.specs.machine.ValuesMet.{FitsWidth}
 use Rattle.c_program.specs.Syntax.{Family, Variable, letter_of, Kind, bits_of, Expression, Statement, groups, CProgram}
-use Rattle.c_program.specs.Syntax.Family.{State, Loaded, EntryBase, RowBase, Multiplier, Difference, Entry, Gradient, RowSum, Moved, Sum, Output, Own, Reached, Weight, Divisor}
-use Rattle.c_program.specs.Syntax.Expression.{Constant, Value, Plus, Minus, Times, Quotient, Remainder, Over, Shifted}
+use Rattle.c_program.specs.Syntax.Family.{State, Loaded, EntryBase, RowBase, Multiplier, Difference, Entry, Gradient, RowSum, Moved, Sum, Output, Own, Reached, Weight, Divisor, Shift, Power, Doubling, Reciprocal, Numerator, Head, Rest}
+use Rattle.c_program.specs.Syntax.Expression.{Constant, Value, Plus, Minus, Times, Quotient, Remainder, Over, Shifted, ShiftedBy}
 use Rattle.c_program.specs.Syntax.Statement.{Declare, Assign, AtLeastZero, AtMost}
 use Rattle.c_program.specs.Meaning.{Environment, held, with_value, value, IsDefined, new_value, variable_of, done, HasOperands, IsDone, all_done, AreDone, repeated, begun, after_rounds, IsDefinedRun}
 use Rattle.c_program.specs.Needed.{left_in, needed_part}
@@ -39,6 +39,13 @@ family_back Own = refl
 family_back Reached = refl
 family_back Weight = refl
 family_back Divisor = refl
+family_back Shift = refl
+family_back Power = refl
+family_back Doubling = refl
+family_back Reciprocal = refl
+family_back Numerator = refl
+family_back Head = refl
+family_back Rest = refl
 
 one_family : (f g : Family) → letter_of f ≡ letter_of g → f ≡ g
 one_family f g e = sym (family_back f) ∙ ap family_at e ∙ family_back g
@@ -70,6 +77,7 @@ ReadsNeeded needed (Quotient a k) = ReadsNeeded needed a
 ReadsNeeded needed (Remainder a k) = ReadsNeeded needed a
 ReadsNeeded needed (Over a v) = ReadsNeeded needed a × (needed v ≡ true)
 ReadsNeeded needed (Shifted a k) = ReadsNeeded needed a
+ReadsNeeded needed (ShiftedBy a v) = ReadsNeeded needed a × (needed v ≡ true)
 
 same_value : (needed : Variable → Bool) (e d : Environment) → Agree needed e d → (a : Expression) → ReadsNeeded needed a → value e a ≡ value d a
 same_value needed e d h (Constant z) n = refl
@@ -81,6 +89,7 @@ same_value needed e d h (Quotient a k) n = ap (λ (z : ℤ). int_div z (pos k)) 
 same_value needed e d h (Remainder a k) n = ap (λ (z : ℤ). int_rem z (pos k)) (same_value needed e d h a n)
 same_value needed e d h (Over a v) n = let f = same_value needed e d h a n.0 in let g = h v n.1 in (λ i. int_div (f i) (g i))
 same_value needed e d h (Shifted a k) n = ap (λ (z : ℤ). floor_of z (2 ^ k)) (same_value needed e d h a n)
+same_value needed e d h (ShiftedBy a v) n = let f = same_value needed e d h a n.0 in let g = h v n.1 in (λ i. floor_of (f i) (2 ^ unsigned_abs (g i)))
 
 same_defined : (needed : Variable → Bool) (e d : Environment) → Agree needed e d → (a : Expression) → ReadsNeeded needed a → IsDefined e a → IsDefined d a
 same_defined needed e d h (Constant z) n p = p
@@ -95,6 +104,8 @@ same_defined needed e d h (Quotient a k) n p = (same_defined needed e d h a n p.
 same_defined needed e d h (Remainder a k) n p = (same_defined needed e d h a n p.0, p.1, p.2)
 same_defined needed e d h (Over a v) n p = (same_defined needed e d h a n.0 p.0, subst (FitsWidth 64) (h v n.1) p.1, subst (λ (z : ℤ). pos 0 <ℤ z) (h v n.1) p.2)
 same_defined needed e d h (Shifted a k) n p = (same_defined needed e d h a n p.0, p.1)
+same_defined needed e d h (ShiftedBy a v) n p =
+    (same_defined needed e d h a n.0 p.0, subst (λ (z : ℤ). pos 0 ≤ℤ z) (h v n.1) p.1, subst (λ (z : ℤ). z <ℤ pos 64) (h v n.1) p.2)
 
 -- ---- statements
 abbrev pub OperandsNeeded : (Variable → Bool) → Statement → Type 0

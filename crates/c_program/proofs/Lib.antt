@@ -4,6 +4,7 @@
 pub mod Runs
 pub mod Terms
 pub mod Lowering
+pub mod Reciprocal
 -- ---- the numbers of a controller
 pub mod Amounts
 pub mod Pairs
@@ -12,6 +13,7 @@ pub mod Parts
 pub mod Before
 pub mod Planning
 pub mod Step
+pub mod FastMeans
 pub mod FastStep
 pub mod Box
 pub mod Rounding
@@ -29,6 +31,7 @@ pub mod Reading
 pub mod Statements
 pub mod ProgramTexts
 pub mod ShortTexts
+pub mod QuickTexts
 -- ---- a worked program
 pub mod Worked
 pub mod FastWorked

@@ -1,6 +1,6 @@
 -- The needed statements of a controller's program read only needed variables.
 use Rattle.std.proofs.Common.{◌≡◌, ℕ, zero, suc, ◌-◌, ◌*◌, ◌^◌, ◌<◌, ◌==◌, Bool, true, false, true≢false, ◌&&◌, ◌||◌, if◌then◌else◌, ltb, ℤ, pos, ◌*ℤ◌, neg_ℤ, List, [], ◌∷◌, ◌++◌, length, map, unsigned_abs, refl, sym, ap, subst, ◌∙◌, arith, mul-pos, inl, inr, append_assoc, append-nil}
-use Rattle.std.proofs.lemmas.Bool.{cond_both, cases_lt, ltb-true, lt-ltb}
+use Rattle.std.proofs.lemmas.Bool.{cond_both, and_parts, cases_lt, ltb-true, lt-ltb}
 use Rattle.integer_algebra.specs.Sums.{at}
 use Rattle.mat_int.specs.Matrix.{row_of}
 use Rattle.qp_model.specs.machine.Controller.{Numbers}
@@ -9,11 +9,11 @@ use Rattle.qp_model.proofs.AbsoluteLaws.{abs-neg, abs-shifted}
 use Rattle.c_program.specs.Syntax.{Variable, variable, Expression, Statement, groups}
 use Rattle.c_program.specs.Syntax.Family.{Loaded, EntryBase, RowBase, Multiplier, Difference, Entry, Gradient, RowSum, Sum, Own, Reached}
 use Rattle.c_program.specs.Syntax.Expression.{Constant, Value, Plus, Minus, Times, Shifted}
-use Rattle.c_program.specs.Syntax.Statement.{Declare}
+use Rattle.c_program.specs.Syntax.Statement.{Declare, Assign}
 use Rattle.c_program.specs.Meaning.{variable_of}
 use Rattle.c_program.specs.Needed.{left_in}
-use Rattle.c_program.specs.Of.{state_top, multiplier_top, entry_top, plus_products, partner, is_first, is_second, loaded_statements, entry_base_statements, row_base_statements, zero_statements, before_of, difference_statements, gain_of, gain_variable, entry_statements, sum_statements, row_bits, plan_factor, lowered_value, lowered_base, plus_plan, gradient_statements, row_expression, row_sum_statements, move_statements, row_statements, repetition_body, any_below, is_product, is_row_needed, is_coordinate_needed, is_needed, whole_program}
-use Rattle.c_program.specs.FastOf.{first_weight, fast_before_of, divisor_statement, mean_statements, weighted_sum_statements, fast_move_statements, fast_row_statements, next_weight, fast_body, whole_fast_program}
+use Rattle.c_program.specs.Of.{state_top, multiplier_top, entry_top, plus_products, partner, is_first, is_second, loaded_statements, entry_base_statements, row_base_statements, zero_statements, before_of, difference_statements, gain_of, gain_variable, entry_statements, sum_statements, row_bits, plan_factor, lowered_value, lowered_base, plus_plan, gradient_statements, row_expression, row_sum_statements, move_statements, row_statements, repetition_body, any_below, is_product, is_row_needed, is_coordinate_needed, has_short_divisor, is_quick, is_any_quick, is_needed, whole_program}
+use Rattle.c_program.specs.FastOf.{first_weight, first_scale_lines, first_scale, fast_before_of, divisor_statement, scale_lines, scale_statements, mean_expression, quick_mean_statements, mean_statements, weighted_sum_statements, fast_move_statements, fast_row_statements, next_weight, fast_body, whole_fast_program}
 use Rattle.overflow_check.specs.declared.machine.Machine.{Machine}
 use Rattle.overflow_check.specs.declared.machine.Machine.TheVariants.{Plain, Accelerated}
 use Rattle.c_program.specs.ByMachine.{sum_for, row_for, start_for, means_for, step_for, next_for, before_for, body_for}
@@ -41,6 +41,16 @@ any_there f (suc n) i l h = elim (cases_lt i n) [
   | inl less ↦ or_first (any_below f n) (f n) (any_there f n i less h)
   | inr more ↦ (let e : i ≡ n = omega (arith, l, more) in or_second (any_below f n) (f n) (subst (λ (k : ℕ). f k ≡ true) e h))
 ]
+
+-- one of both is one of the first
+any_first : (f g : ℕ → Bool) (n : ℕ) → any_below (λ i. f i && g i) n ≡ true → any_below f n ≡ true
+unfolding any_below
+any_first f g zero h = h
+any_first f g (suc n) h = either (any_below (λ i. f i && g i) n) (f n && g n) (any_below f n) (f n) (any_first f g n) (λ t. (and_parts (f n) (g n) t).0) h
+  where
+    either : (a b d e : Bool) → (a ≡ true → d ≡ true) → (b ≡ true → e ≡ true) → (a || b) ≡ true → (d || e) ≡ true
+    either true b d e h k t = or_first d e (h refl)
+    either false b d e h k t = or_second d e (k t)
 
 any_same : (f g : ℕ → Bool) (n : ℕ) → ((i : ℕ) → i < n → f i ≡ g i) → any_below f n ≡ any_below g n
 unfolding any_below
@@ -209,19 +219,41 @@ pub program_closed : (c : Numbers) → IsClosed (is_needed c) (whole_program c)
 program_closed c = record { before = before_needs c; body = body_needs c }
 
 -- ---- of the accelerated machine
+-- the scale, where the mean of a needed row is made by it
+scale_needed : (c : Numbers) (i : ℕ) → i < length c.bounds → is_quick c i ≡ true → is_row_needed c i ≡ true → is_any_quick c ≡ true
+unfolding is_any_quick
+scale_needed c i l q n = any_there (λ m. is_row_needed c m && is_quick c m) (length c.bounds) i l (and_both (is_row_needed c i) (is_quick c i) n q)
+
+scale_divisor : (c : Numbers) → is_any_quick c ≡ true → any_below (is_row_needed c) (length c.bounds) ≡ true
+unfolding is_any_quick
+scale_divisor c h = any_first (is_row_needed c) (is_quick c) (length c.bounds) h
+
+scale_needs : (c : Numbers) → AreClosed (is_needed c) (scale_statements c)
+scale_needs c =
+    cond_both (has_short_divisor c) scale_lines [] (AreClosed (is_needed c))
+    (λ t. ((λ n. (tt, ((scale_divisor c n, tt), n))), ((λ n. (n, n)), ((λ n. (n, (n, n))), ((λ n. ((n, tt), scale_divisor c n)), tt))))) (λ f. tt)
+
 fast_before_needs : (c : Numbers) → AreClosed (is_needed c) (fast_before_of c)
 fast_before_needs c =
     let b = is_needed c in
     let m = groups (zero_statements Own) (length c.bounds) in
     let v = groups (zero_statements Reached) (length c.bounds) in
-    closed_append b (before_of c ++ m ++ v) (first_weight ∷ [])
+    closed_append b (before_of c ++ m ++ v ++ (first_weight ∷ [])) (first_scale c)
+    (closed_append b (before_of c ++ m ++ v) (first_weight ∷ [])
     (closed_append b (before_of c ++ m) v
     (closed_append b (before_of c) m (before_needs c) (closed_groups b (zero_statements Own) (length c.bounds) (λ i l. ((λ t. tt), tt))))
     (closed_groups b (zero_statements Reached) (length c.bounds) (λ i l. ((λ t. tt), tt))))
-    ((λ t. tt), tt)
+    ((λ t. tt), tt))
+    (cond_both (has_short_divisor c) first_scale_lines [] (AreClosed b) (λ t. ((λ n. tt), ((λ n. tt), tt))) (λ f. tt))
 
-mean_needs : (c : Numbers) (i : ℕ) → i < length c.bounds → AreClosed (is_needed c) (mean_statements i)
-mean_needs c i l = ((λ n. ((n, (refl, n)), any_there (is_row_needed c) (length c.bounds) i l n)), tt)
+mean_needs : (c : Numbers) (i : ℕ) → i < length c.bounds → AreClosed (is_needed c) (mean_statements c i)
+mean_needs c i l =
+    let divisor : is_row_needed c i ≡ true → any_below (is_row_needed c) (length c.bounds) ≡ true = λ n. any_there (is_row_needed c) (length c.bounds) i l n in
+    cond_both (is_quick c i) (quick_mean_statements i) (Assign (variable Multiplier i) (mean_expression i) ∷ []) (AreClosed (is_needed c))
+    (λ q.
+    let scale : is_row_needed c i ≡ true → is_any_quick c ≡ true = λ n. scale_needed c i l q n in
+    ((λ n. (n, (refl, n))), ((λ n. (n, scale n)), ((λ n. (n, scale n)), ((λ n. ((n, (n, divisor n)), divisor n)), ((λ n. ((n, tt), n)), tt))))))
+    (λ f. ((λ n. ((n, (refl, n)), divisor n)), tt))
 
 fast_move_needs : (c : Numbers) (i : ℕ) → AreClosed (is_needed c) (fast_move_statements c i)
 fast_move_needs c i =
@@ -231,17 +263,20 @@ fast_body_needs : (c : Numbers) → AreClosed (is_needed c) (fast_body c)
 fast_body_needs c =
     let b = is_needed c in
     let e = divisor_statement ∷ [] in
-    let l = groups mean_statements (length c.bounds) in
+    let q = scale_statements c in
+    let l = groups (mean_statements c) (length c.bounds) in
     let d = groups (difference_statements c) (length c.bounds) in
     let u = groups (entry_statements c) (length c.offsets) in
     let s = groups weighted_sum_statements (length c.offsets) in
     let r = groups (fast_row_statements c) (length c.bounds) in
-    closed_append b (e ++ l ++ d ++ u ++ s ++ r) (next_weight ∷ [])
-    (closed_append b (e ++ l ++ d ++ u ++ s) r
-    (closed_append b (e ++ l ++ d ++ u) s
-    (closed_append b (e ++ l ++ d) u
-    (closed_append b (e ++ l) d
-    (closed_append b e l ((λ t. ((refl, tt), (refl, tt))), tt) (closed_groups b mean_statements (length c.bounds) (mean_needs c)))
+    closed_append b (e ++ q ++ l ++ d ++ u ++ s ++ r) (next_weight ∷ [])
+    (closed_append b (e ++ q ++ l ++ d ++ u ++ s) r
+    (closed_append b (e ++ q ++ l ++ d ++ u) s
+    (closed_append b (e ++ q ++ l ++ d) u
+    (closed_append b (e ++ q ++ l) d
+    (closed_append b (e ++ q) l
+    (closed_append b e q ((λ t. ((refl, tt), (refl, tt))), tt) (scale_needs c))
+    (closed_groups b (mean_statements c) (length c.bounds) (mean_needs c)))
     (differences_need c))
     (entries_need c))
     (closed_groups b weighted_sum_statements (length c.offsets) (λ j m. ((λ t. (refl, (refl, refl))), tt))))
@@ -333,7 +368,9 @@ before_is Plain c = sym (append-nil (before_of c))
 before_is Accelerated c =
     let m = groups (zero_statements Own) (length c.bounds) in
     let v = groups (zero_statements Reached) (length c.bounds) in
-    ap (λ (ss : List Statement). ss ++ first_weight ∷ []) (append_assoc (before_of c) m v) ∙ append_assoc (before_of c) (m ++ v) (first_weight ∷ [])
+    let w = first_weight ∷ [] in
+    ap (λ (ss : List Statement). ss ++ first_scale c)
+    (ap (λ (ss : List Statement). ss ++ w) (append_assoc (before_of c) m v) ∙ append_assoc (before_of c) (m ++ v) w) ∙ append_assoc (before_of c) (m ++ v ++ w) (first_scale c)
 
 pub body_is : (m : Machine) (c : Numbers) → body_for m c ≡ step_for m c ++ next_for m
 body_is Plain c = sym (append-nil (repetition_body c))

@@ -14,9 +14,9 @@ use Rattle.integer_algebra.specs.Sums.{at}
 use Rattle.number_text.specs.Lines.{text_of}
 use Rattle.number_text.proofs.Pieces.{IsPiece, ArePieces, split_text}
 use Rattle.c_program.specs.Syntax.{Family, Variable, variable, letter_of, Kind, Expression, Statement, CProgram}
-use Rattle.c_program.specs.Syntax.Family.{State, Loaded, EntryBase, RowBase, Multiplier, Difference, Entry, Gradient, RowSum, Moved, Sum, Output, Own, Reached, Weight, Divisor}
+use Rattle.c_program.specs.Syntax.Family.{State, Loaded, EntryBase, RowBase, Multiplier, Difference, Entry, Gradient, RowSum, Moved, Sum, Output, Own, Reached, Weight, Divisor, Shift, Power, Doubling, Reciprocal, Numerator, Head, Rest}
 use Rattle.c_program.specs.Syntax.Kind.{Narrow, Wide}
-use Rattle.c_program.specs.Syntax.Expression.{Constant, Value, Plus, Minus, Times, Quotient, Remainder, Over, Shifted}
+use Rattle.c_program.specs.Syntax.Expression.{Constant, Value, Plus, Minus, Times, Quotient, Remainder, Over, Shifted, ShiftedBy}
 use Rattle.c_program.specs.Syntax.Statement.{Declare, Assign, AtLeastZero, AtMost}
 use Rattle.c_program.specs.Text.{name_of, variable_text, kind_text, constant_text, enclosed, closed, expression_text, cast_text, statement_text, statement_lines, numbered_lines, comparison_text, above_text, refusal_text, refusal_line, output_line, head_text, average_line, average_head_text, shift_line, second_lines, program_lines, HasNoLineFeed}
 use Rattle.c_program.specs.Terms.{opening_lines, repetition_line}
@@ -101,6 +101,13 @@ name_plain Own k h = join (letter_of Own ∷ []) (decimal k) (word (letter_of Ow
 name_plain Reached k h = join (letter_of Reached ∷ []) (decimal k) (word (letter_of Reached ∷ []) refl) (decimal_plain k h)
 name_plain Weight k h = join (letter_of Weight ∷ []) (decimal k) (word (letter_of Weight ∷ []) refl) (decimal_plain k h)
 name_plain Divisor k h = join (letter_of Divisor ∷ []) (decimal k) (word (letter_of Divisor ∷ []) refl) (decimal_plain k h)
+name_plain Shift k h = join (letter_of Shift ∷ []) (decimal k) (word (letter_of Shift ∷ []) refl) (decimal_plain k h)
+name_plain Power k h = join (letter_of Power ∷ []) (decimal k) (word (letter_of Power ∷ []) refl) (decimal_plain k h)
+name_plain Doubling k h = join (letter_of Doubling ∷ []) (decimal k) (word (letter_of Doubling ∷ []) refl) (decimal_plain k h)
+name_plain Reciprocal k h = join (letter_of Reciprocal ∷ []) (decimal k) (word (letter_of Reciprocal ∷ []) refl) (decimal_plain k h)
+name_plain Numerator k h = join (letter_of Numerator ∷ []) (decimal k) (word (letter_of Numerator ∷ []) refl) (decimal_plain k h)
+name_plain Head k h = join (letter_of Head ∷ []) (decimal k) (word (letter_of Head ∷ []) refl) (decimal_plain k h)
+name_plain Rest k h = join (letter_of Rest ∷ []) (decimal k) (word (letter_of Rest ∷ []) refl) (decimal_plain k h)
 
 enclosed_plain : (xs : List ℕ) → Plain xs → Plain (enclosed xs)
 enclosed_plain xs h = glue (codes "(") (xs ∷ codes ")" ∷ []) (word _ refl) (h, (word _ refl, tt))
@@ -113,6 +120,7 @@ closed_plain (Quotient a k) xs h = h
 closed_plain (Remainder a k) xs h = h
 closed_plain (Over a v) xs h = h
 closed_plain (Shifted a k) xs h = h
+closed_plain (ShiftedBy a v) xs h = h
 closed_plain (Plus a b) xs h = enclosed_plain xs h
 closed_plain (Minus a b) xs h = enclosed_plain xs h
 
@@ -140,6 +148,8 @@ expression_plain (Over a v) h =
     (operated_plain (closed a (expression_text a)) (codes " / (int64_t)") (variable_text v) (operand_plain a (expression_plain a h.0)) (word _ refl) (name_plain v.family v.number h.1))
 expression_plain (Shifted a k) h =
     product_plain (enclosed (expression_text a)) (codes " >> ") (decimal k) (enclosed_plain (expression_text a) (expression_plain a h.0)) (word _ refl) (decimal_plain k h.1)
+expression_plain (ShiftedBy a v) h =
+    product_plain (enclosed (expression_text a)) (codes " >> (int64_t)") (variable_text v) (enclosed_plain (expression_text a) (expression_plain a h.0)) (word _ refl) (name_plain v.family v.number h.1)
 
 kind_plain : (q : Kind) → Plain (kind_text q)
 kind_plain Narrow = word (codes "int32_t") refl
@@ -441,6 +451,13 @@ name_no_loop Own k rest = refl
 name_no_loop Reached k rest = refl
 name_no_loop Weight k rest = refl
 name_no_loop Divisor k rest = refl
+name_no_loop Shift k rest = refl
+name_no_loop Power k rest = refl
+name_no_loop Doubling k rest = refl
+name_no_loop Reciprocal k rest = refl
+name_no_loop Numerator k rest = refl
+name_no_loop Head k rest = refl
+name_no_loop Rest k rest = refl
 
 kind_no_loop : (q : Kind) (rest : List ℕ) → is_fifth 102 (codes "    " ++ (kind_text q ++ rest)) ≡ false
 kind_no_loop Narrow rest = refl

@@ -6,8 +6,8 @@ use Rattle.std.specs.Str.Parse.{AllDigits, digits_value_after}
 use Rattle.std.proofs.lemmas.Fmt.{decimal_is_IsNumeral}
 use Rattle.std.proofs.lemmas.Bool.{lt-ltb}
 use Rattle.c_program.specs.Syntax.{Family, Variable, variable, letter_of, Expression}
-use Rattle.c_program.specs.Syntax.Family.{State, Loaded, EntryBase, RowBase, Multiplier, Difference, Entry, Gradient, RowSum, Moved, Sum, Output, Own, Reached, Weight, Divisor}
-use Rattle.c_program.specs.Syntax.Expression.{Constant, Value, Plus, Minus, Times, Quotient, Remainder, Over, Shifted}
+use Rattle.c_program.specs.Syntax.Family.{State, Loaded, EntryBase, RowBase, Multiplier, Difference, Entry, Gradient, RowSum, Moved, Sum, Output, Own, Reached, Weight, Divisor, Shift, Power, Doubling, Reciprocal, Numerator, Head, Rest}
+use Rattle.c_program.specs.Syntax.Expression.{Constant, Value, Plus, Minus, Times, Quotient, Remainder, Over, Shifted, ShiftedBy}
 use Rattle.c_program.specs.Text.{variable_text, name_of, constant_text, enclosed, closed, expression_text}
 use Rattle.c_program.specs.Laws.{HasShortNumbers, ExpressionTextLaw}
 
@@ -17,7 +17,8 @@ pub data Operator : Type 0 where
   Subtract : Operator
   Multiply : Operator
   Divide : Operator
-  Rest : Operator
+  Modulo : Operator
+  Lower : Operator
 
 -- what is still open: a parenthesis, or an operator behind its first operand
 pub data Frame : Type 0 where
@@ -25,7 +26,7 @@ pub data Frame : Type 0 where
   Left : Operator → Expression → Frame
 
 -- what comes next: an operand; so many bytes of a word, and one more, that say nothing; the digits of a literal; the letter of a variable; the digits of its number, in brackets or not;
--- a delimiter behind an operand; an operator; the space behind one; the digits of a shift
+-- a delimiter behind an operand; an operator; the space behind one; the digits of a shift, or the variable that it is by
 pub data Mode : Type 0 where
   Ready : Mode
   Skip : ℕ → Mode → Mode
@@ -36,7 +37,7 @@ pub data Mode : Type 0 where
   Done : Expression → Mode
   Space : Expression → Mode
   Gap : Mode
-  Shift : Expression → ℕ → Mode
+  Shifting : Expression → ℕ → Mode
 
 pub record Reader : Type 0 where
   pub stack : List Frame
@@ -57,21 +58,27 @@ abbrev pub divided : Expression → Expression → Expression
 divided a (Value v) = Over a v
 divided a other = Quotient a (size_of other)
 
+abbrev pub lowered : Expression → Expression → Expression
+lowered a (Value v) = ShiftedBy a v
+lowered a other = a
+
 abbrev pub made : Operator → Expression → Expression → Expression
 made Add a e = Plus a e
 made Subtract a e = Minus a e
 made Multiply a e = Times a e
 made Divide a e = divided a e
-made Rest a e = Remainder a (size_of e)
+made Modulo a e = Remainder a (size_of e)
+made Lower a e = lowered a e
 
 abbrev pub operator_of : ℕ → Operator
-operator_of c = if c == 43 then Add else (if c == 45 then Subtract else (if c == 42 then Multiply else (if c == 47 then Divide else Rest)))
+operator_of c = if c == 43 then Add else (if c == 45 then Subtract else (if c == 42 then Multiply else (if c == 47 then Divide else Modulo)))
 
 abbrev pub family_of : ℕ → Family
 family_of c =
     if c == 120 then Loaded else (if c == 97 then EntryBase else (if c == 114 then RowBase else (if c == 108 then Multiplier else (if c == 100 then Difference else
     (if c == 117 then Entry else (if c == 103 then Gradient else (if c == 121 then RowSum else (if c == 116 then Moved else (if c == 109 then Own else (if c == 118 then Reached else
-    (if c == 107 then Weight else (if c == 98 then Divisor else Sum))))))))))))
+    (if c == 107 then Weight else (if c == 98 then Divisor else (if c == 101 then Shift else (if c == 112 then Power else (if c == 99 then Doubling else
+    (if c == 113 then Reciprocal else (if c == 110 then Numerator else (if c == 104 then Head else (if c == 122 then Rest else Sum)))))))))))))))))))
 
 -- an operand with the operator before it
 abbrev pub below : List Frame → List Frame
@@ -108,9 +115,11 @@ next (Named f n) st c =
     (if c == 116 then at_mode st (Skip 3 (Indexed State 0)) else (if c == 117 then at_mode st (Skip 2 (Indexed Output 0)) else ended st (Value (variable f n)) c))
 next (Indexed f n) st c = if ltb (digit_value c) 10 then at_mode st (Indexed f (n * 10 + digit_value c)) else at_mode st (Done (Value (variable f n)))
 next (Done e) st c = ended st e c
-next (Space e) st c = if c == 62 then at_mode st (Skip 1 (Shift e 0)) else at_mode (Left (operator_of c) e ∷ st) Gap
+next (Space e) st c = if c == 62 then at_mode st (Skip 1 (Shifting e 0)) else at_mode (Left (operator_of c) e ∷ st) Gap
 next Gap st c = at_mode st Ready
-next (Shift e n) st c = if ltb (digit_value c) 10 then at_mode st (Shift e (n * 10 + digit_value c)) else at_mode (popped st) (Done (Shifted e n))
+next (Shifting e n) st c =
+    if ltb (digit_value c) 10 then at_mode st (Shifting e (n * 10 + digit_value c)) else
+    (if c == 40 then at_mode (Open ∷ Left Lower e ∷ st) Ready else at_mode (popped st) (Done (Shifted e n)))
 
 abbrev pub read : Reader → List ℕ → Reader
 read r [] = r
@@ -149,7 +158,7 @@ named_counts f st n c h = rw (lt-ltb (digit_value c) 10 h) refl
 pub indexed_counts : (f : Family) (st : List Frame) → Counts (Indexed f) st
 indexed_counts f st n c h = rw (lt-ltb (digit_value c) 10 h) refl
 
-shift_counts : (e : Expression) (st : List Frame) → Counts (Shift e) st
+shift_counts : (e : Expression) (st : List Frame) → Counts (Shifting e) st
 shift_counts e st n c h = rw (lt-ltb (digit_value c) 10 h) refl
 
 -- ---- operands
@@ -247,6 +256,13 @@ variable_read Own k st h = named_read Own k st refl refl h
 variable_read Reached k st h = named_read Reached k st refl refl h
 variable_read Weight k st h = named_read Weight k st refl refl h
 variable_read Divisor k st h = named_read Divisor k st refl refl h
+variable_read Shift k st h = named_read Shift k st refl refl h
+variable_read Power k st h = named_read Power k st refl refl h
+variable_read Doubling k st h = named_read Doubling k st refl refl h
+variable_read Reciprocal k st h = named_read Reciprocal k st refl refl h
+variable_read Numerator k st h = named_read Numerator k st refl refl h
+variable_read Head k st h = named_read Head k st refl refl h
+variable_read Rest k st h = named_read Rest k st refl refl h
 
 -- ---- expressions
 -- as a sum, and as an operand
@@ -273,16 +289,34 @@ product_read : (o : Operator) (c : ℕ) (st : List Frame) (a b : Expression) (xs
 product_read o c st a b xs ys h r s =
     reads_done st _ _ (closed_sum st (xs ++ (32 ∷ c ∷ 32 ∷ []) ++ ys) (made o a b) (operated o c (Open ∷ st) xs ys a b (h (Open ∷ st)) (sum_of (Open ∷ st) xs a (base_open st) r) s))
 
+-- a sum in parentheses, and the shift behind it
+lowered_read : (st : List Frame) (a : Expression) → Sums (Open ∷ Open ∷ st) (expression_text a) a →
+    read (at_mode (Open ∷ st) Ready) (enclosed (expression_text a) ++ (32 ∷ 62 ∷ 62 ∷ 32 ∷ [])) ≡ at_mode (Open ∷ st) (Shifting a 0)
+lowered_read st a s =
+    read_append (at_mode (Open ∷ st) Ready) (enclosed (expression_text a)) (32 ∷ 62 ∷ 62 ∷ 32 ∷ []) ∙
+    ap (λ (r : Reader). read r (32 ∷ 62 ∷ 62 ∷ 32 ∷ [])) (closed_sum (Open ∷ st) (expression_text a) a s)
+
 shifted_read : (st : List Frame) (a : Expression) (k : ℕ) → Sums (Open ∷ Open ∷ st) (expression_text a) a → k < 2 ^ 64 → Reads st (expression_text (Shifted a k)) st (Shifted a k)
 shifted_read st a k s h =
-    let text = enclosed (expression_text a) in
-    let first = closed_sum (Open ∷ st) (expression_text a) a s in
-    let second : read (at_mode (Open ∷ st) Ready) (text ++ (32 ∷ 62 ∷ 62 ∷ 32 ∷ [])) ≡ at_mode (Open ∷ st) (Shift a 0) =
-    read_append (at_mode (Open ∷ st) Ready) text (32 ∷ 62 ∷ 62 ∷ 32 ∷ []) ∙ ap (λ (r : Reader). read r (32 ∷ 62 ∷ 62 ∷ 32 ∷ [])) first in
-    let third : read (at_mode (Open ∷ st) Ready) ((text ++ (32 ∷ 62 ∷ 62 ∷ 32 ∷ [])) ++ decimal k) ≡ at_mode (Open ∷ st) (Shift a k) =
-    read_append (at_mode (Open ∷ st) Ready) (text ++ (32 ∷ 62 ∷ 62 ∷ 32 ∷ [])) (decimal k) ∙ ap (λ (r : Reader). read r (decimal k)) second ∙
-    number_read (Shift a) (Open ∷ st) (shift_counts a (Open ∷ st)) k h in
-    reads_done st _ _ (read_append (at_mode (Open ∷ st) Ready) ((text ++ (32 ∷ 62 ∷ 62 ∷ 32 ∷ [])) ++ decimal k) (41 ∷ []) ∙ ap (λ (r : Reader). read r (41 ∷ [])) third)
+    let text = enclosed (expression_text a) ++ (32 ∷ 62 ∷ 62 ∷ 32 ∷ []) in
+    let number : read (at_mode (Open ∷ st) Ready) (text ++ decimal k) ≡ at_mode (Open ∷ st) (Shifting a k) =
+    read_append (at_mode (Open ∷ st) Ready) text (decimal k) ∙ ap (λ (r : Reader). read r (decimal k)) (lowered_read st a s) ∙
+    number_read (Shifting a) (Open ∷ st) (shift_counts a (Open ∷ st)) k h in
+    reads_done st _ _ (read_append (at_mode (Open ∷ st) Ready) (text ++ decimal k) (41 ∷ []) ∙ ap (λ (r : Reader). read r (41 ∷ [])) number)
+
+variable_shift_text : (xs vs : List ℕ) → xs ++ codes " >> (int64_t)" ++ vs ≡ xs ++ codes " >> " ++ (codes "(int64_t)" ++ vs)
+variable_shift_text xs vs = append_assoc xs (codes " >> (int64_t)") vs ∙ sym (append_assoc xs (codes " >> ") (codes "(int64_t)" ++ vs))
+
+shifted_by_read : (st : List Frame) (a : Expression) (v : Variable) → Sums (Open ∷ Open ∷ st) (expression_text a) a → v.number < 2 ^ 64 →
+    Reads st (expression_text (ShiftedBy a v)) st (ShiftedBy a v)
+shifted_by_read st a v s h =
+    let text = enclosed (expression_text a) ++ codes " >> " in
+    let by = codes "(int64_t)" ++ variable_text v in
+    let r = variable_read v.family v.number (Left Lower a ∷ Open ∷ st) h in
+    let shift : read (at_mode (Open ∷ st) Ready) (text ++ by) ≡ at_mode (Left Lower a ∷ Open ∷ st) r.mode =
+    read_append (at_mode (Open ∷ st) Ready) text by ∙ ap (λ (q : Reader). read q by) (lowered_read st a s) ∙ r.is in
+    reads_done st _ _ (ap (λ (t : List ℕ). read (at_mode st Ready) (enclosed t)) (variable_shift_text (enclosed (expression_text a)) (variable_text v)) ∙
+    read_append (at_mode (Open ∷ st) Ready) (text ++ by) (41 ∷ []) ∙ ap (λ (q : Reader). read q (41 ∷ [])) shift ∙ r.close)
 
 over_text : (xs vs : List ℕ) → xs ++ codes " / (int64_t)" ++ vs ≡ xs ++ codes " / " ++ (codes "(int64_t)" ++ vs)
 over_text xs vs = append_assoc xs (codes " / (int64_t)") vs ∙ sym (append_assoc xs (codes " / ") (codes "(int64_t)" ++ vs))
@@ -318,13 +352,16 @@ reads (Quotient a k) h =
     read_one (Quotient a k) (λ xs. refl) (λ st. product_read Divide 47 st a (Constant (pos k)) _ _ (λ to x. refl) (f.apart (Open ∷ st)) (constant_read (pos k) (Left Divide a ∷ Open ∷ st) h.1))
 reads (Remainder a k) h =
     let f = reads a h.0 in
-    read_one (Remainder a k) (λ xs. refl) (λ st. product_read Rest 37 st a (Constant (pos k)) _ _ (λ to x. refl) (f.apart (Open ∷ st)) (constant_read (pos k) (Left Rest a ∷ Open ∷ st) h.1))
+    read_one (Remainder a k) (λ xs. refl) (λ st. product_read Modulo 37 st a (Constant (pos k)) _ _ (λ to x. refl) (f.apart (Open ∷ st)) (constant_read (pos k) (Left Modulo a ∷ Open ∷ st) h.1))
 reads (Over a v) h =
     let f = reads a h.0 in
     read_one (Over a v) (λ xs. refl) (λ st. over_read st a v (f.apart (Open ∷ st)) h.1)
 reads (Shifted a k) h =
     let f = reads a h.0 in
     read_one (Shifted a k) (λ xs. refl) (λ st. shifted_read st a k (f.plain (Open ∷ Open ∷ st) (base_open (Open ∷ st))) h.1)
+reads (ShiftedBy a v) h =
+    let f = reads a h.0 in
+    read_one (ShiftedBy a v) (λ xs. refl) (λ st. shifted_by_read st a v (f.plain (Open ∷ Open ∷ st) (base_open (Open ∷ st))) h.1)
 
 -- ---- the law
 read_back : (e : Expression) → HasShortNumbers e → finished (read (at_mode [] Ready) (expression_text e)) ≡ e

@@ -12,7 +12,7 @@ use Rattle.c_program.specs.Syntax.{Expression}
 use Rattle.c_program.specs.Syntax.Expression.{Constant, Times, Quotient, Remainder}
 use Rattle.c_program.specs.Meaning.{Environment, value}
 use Rattle.c_program.specs.Of.{shifted_average, divided_average}
-use Rattle.c_program.proofs.Terms.{Makes, fits64, makes_same, makes_constant, makes_plus, makes_minus, makes_shifted, abs-sub_le, small_quotient}
+use Rattle.c_program.proofs.Terms.{Makes, fits64, makes_same, makes_constant, makes_plus, makes_minus, makes_shifted, abs-sub_le, sign_up, sign_down}
 
 -- ---- rounding to the nearest
 -- a number between the two bounds is the quotient rounded to the nearest
@@ -43,15 +43,6 @@ half_rounds z d p =
         ((pos 2 *ℤ x) ≤ℤ (pos 2 *ℤ z +ℤ pos d)) × ((pos 2 *ℤ z +ℤ pos d) <ℤ (pos 2 *ℤ x +ℤ pos 2 *ℤ pos d))
     doubled z x h d k l m n = (omega (arith, ints, k, l, m, n), omega (arith, ints, k, l, m, n))
 
--- a number of 64 bits, shifted by 63, is 0, or -1 where it is negative
-sign_up : (x : ℤ) → pos 0 ≤ℤ x → unsigned_abs x < 2 ^ 63 → floor_of x (2 ^ 63) ≡ pos 0
-sign_up (pos a) h l = ap pos (small_quotient a (2 ^ 63) l)
-sign_up (negsuc a) h l = absurd (omega (arith, ints, h))
-
-sign_down : (x : ℤ) → x <ℤ pos 0 → unsigned_abs x < 2 ^ 63 → floor_of x (2 ^ 63) ≡ negsuc 0
-sign_down (pos a) h l = absurd (omega (arith, ints, h))
-sign_down (negsuc a) h l = ap negsuc (small_quotient a (2 ^ 63) (omega (arith, l)))
-
 -- the quotient rounded toward 0, moved by t
 moved_round : (z : ℤ) (d : ℕ) (q r t : ℤ) → 0 < d → q *ℤ pos d +ℤ r ≡ z → (pos 2 *ℤ (t *ℤ pos d)) ≤ℤ (pos 2 *ℤ r +ℤ pos d) →
     (pos 2 *ℤ r +ℤ pos d) <ℤ (pos 2 *ℤ (t *ℤ pos d) +ℤ pos 2 *ℤ pos d) → q +ℤ t ≡ round_of z d
@@ -71,12 +62,12 @@ sums q x y a b t h k e = omega (arith, ints, h, k, e)
 rest_rounds : (z : ℤ) (d : ℕ) (q r : ℤ) → 0 < d → d < 2 ^ 32 → q *ℤ pos d +ℤ r ≡ z → unsigned_abs r < d → (q +ℤ low_sign r d) -ℤ high_sign r d ≡ round_of z d
 rest_rounds z d q r p s e l =
     by_lt_z (pos 2 *ℤ r +ℤ pos d) (pos 0)
-    (λ h. moved (negsuc 0) (sign_down _ h (omega (arith, ints, h, s, l))) (sign_up (pos (d - 1) -ℤ pos 2 *ℤ r) (omega (arith, ints, h, p)) (omega (arith, ints, h, s, l)))
+    (λ h. moved (negsuc 0) (sign_down _ (2 ^ 63) h (omega (arith, ints, h, s, l))) (sign_up (pos (d - 1) -ℤ pos 2 *ℤ r) (2 ^ 63) (omega (arith, ints, h, p)) (omega (arith, ints, h, s, l)))
     (omega (arith, ints)) (omega (arith, ints, h, l)) (omega (arith, ints, h, l)))
     (λ h. by_lt_z (pos (d - 1) -ℤ pos 2 *ℤ r) (pos 0)
-    (λ k. moved (pos 1) (sign_up _ h (omega (arith, ints, s, l))) (sign_down (pos (d - 1) -ℤ pos 2 *ℤ r) k (omega (arith, ints, s, l)))
+    (λ k. moved (pos 1) (sign_up _ (2 ^ 63) h (omega (arith, ints, s, l))) (sign_down (pos (d - 1) -ℤ pos 2 *ℤ r) (2 ^ 63) k (omega (arith, ints, s, l)))
     (omega (arith, ints)) (omega (arith, ints, k, l, p)) (omega (arith, ints, k, l)))
-    (λ k. moved (pos 0) (sign_up _ h (omega (arith, ints, s, l))) (sign_up (pos (d - 1) -ℤ pos 2 *ℤ r) k (omega (arith, ints, s, l)))
+    (λ k. moved (pos 0) (sign_up _ (2 ^ 63) h (omega (arith, ints, s, l))) (sign_up (pos (d - 1) -ℤ pos 2 *ℤ r) (2 ^ 63) k (omega (arith, ints, s, l)))
     (omega (arith, ints)) (omega (arith, ints, h)) (omega (arith, ints, k, p))))
   where
     moved : {a b : ℤ} (t : ℤ) → low_sign r d ≡ a → high_sign r d ≡ b → a -ℤ b ≡ t → (pos 2 *ℤ (t *ℤ pos d)) ≤ℤ (pos 2 *ℤ r +ℤ pos d) →

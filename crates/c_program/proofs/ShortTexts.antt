@@ -19,12 +19,12 @@ use Rattle.overflow_check.specs.declared.machine.Machine.TheVariants.{Plain}
 use Rattle.overflow_check.proofs.Machines.{shared}
 use Rattle.c_program.specs.Syntax.{Family, Variable, variable, Kind, Expression, Statement, groups, CProgram}
 use Rattle.c_program.specs.Syntax.Family.{Loaded, RowBase, Multiplier, Entry, RowSum, Moved, Sum, Output, Own, Reached}
-use Rattle.c_program.specs.Syntax.Expression.{Constant, Value, Plus, Minus, Times, Quotient, Remainder, Over, Shifted}
+use Rattle.c_program.specs.Syntax.Expression.{Constant, Value, Plus, Minus, Times, Quotient, Remainder, Over, Shifted, ShiftedBy}
 use Rattle.c_program.specs.Syntax.Statement.{Declare, Assign, AtLeastZero, AtMost}
 use Rattle.c_program.specs.Meaning.{Environment, IsDefined, variable_of, done, IsDone, AreDone, handed}
 use Rattle.c_program.specs.Needed.{left_in, needed_part}
-use Rattle.c_program.specs.Of.{state_top, multiplier_top, entry_top, row_bits, plan_factor, lowered_base, plus_plan, partner, is_first, is_second, loaded_statements, entry_base_statements, row_base_statements, zero_statements, before_of, difference_statements, gain_of, gain_variable, entry_statements, sum_statements, gradient_statements, row_expression, row_sum_statements, moved_expression, move_statements, row_statements, repetition_body, average_of, shifted_average, divided_average, is_needed}
-use Rattle.c_program.specs.FastOf.{first_weight, fast_before_of, divisor_statement, mean_statements, weighted_sum_statements, fast_moved_expression, reached_expression, fast_move_statements, fast_row_statements, next_weight, fast_body}
+use Rattle.c_program.specs.Of.{state_top, multiplier_top, entry_top, row_bits, plan_factor, lowered_base, plus_plan, partner, is_first, is_second, loaded_statements, entry_base_statements, row_base_statements, zero_statements, before_of, difference_statements, gain_of, gain_variable, entry_statements, sum_statements, gradient_statements, row_expression, row_sum_statements, moved_expression, move_statements, row_statements, repetition_body, average_of, shifted_average, divided_average, has_short_divisor, is_quick, is_needed}
+use Rattle.c_program.specs.FastOf.{first_weight, first_scale_lines, first_scale, fast_before_of, divisor_statement, scale_lines, scale_statements, mean_expression, quick_mean_statements, mean_statements, weighted_sum_statements, fast_moved_expression, reached_expression, fast_move_statements, fast_row_statements, next_weight, fast_body}
 use Rattle.c_program.specs.Laws.{HasShortNumbers, HasShortOperands, HasShortText, SolvesTo, ShortTextLaw, FastShortTextLaw, ProgramLaw, FastProgramLaw}
 use Rattle.c_program.proofs.Runs.{groups_none, groups_more}
 use Rattle.c_program.proofs.Pairs.{pair_there, later_there}
@@ -48,6 +48,7 @@ defined_short e (Quotient a k) d r = (defined_short e a d.0 r, omega (arith, d.2
 defined_short e (Remainder a k) d r = (defined_short e a d.0 r, omega (arith, d.2))
 defined_short e (Over a v) d r = (defined_short e a d.0 r.0, ltb-true v.number (2 ^ 64) r.1)
 defined_short e (Shifted a k) d r = (defined_short e a d.0 r, omega (arith, d.1))
+defined_short e (ShiftedBy a v) d r = (defined_short e a d.0 r.0, ltb-true v.number (2 ^ 64) r.1)
 
 abbrev IsSmall : Statement → Type 0
 IsSmall (Declare v a) = (v.number < 2 ^ 64) × ReadsNeeded small a
@@ -181,6 +182,17 @@ body_small c w =
     (in_groups (row_statements c) (length c.bounds) (λ i l. row_small c i w l))
 
 -- ---- those of the accelerated machine
+abbrev AreSmall : List Statement → Type 0
+AreSmall [] = Unit {0}
+AreSmall (s ∷ ss) = IsSmall s × AreSmall ss
+
+listed : (ss : List Statement) → AreSmall ss → All IsSmall ss
+listed [] h = All-nil IsSmall
+listed (s ∷ ss) h = All-cons IsSmall s ss h.0 (listed ss h.1)
+
+where_short : (c : Numbers) (ss : List Statement) → AreSmall ss → All IsSmall (if has_short_divisor c then ss else [])
+where_short c ss h = cond_both (has_short_divisor c) ss [] (All IsSmall) (λ t. listed ss h) (λ f. All-nil IsSmall)
+
 zeros_small : (c : Numbers) (f : Family) → AreFew c → All IsSmall (groups (zero_statements f) (length c.bounds))
 zeros_small c f w = in_groups (zero_statements f) (length c.bounds) (λ i m. one _ (omega (arith, m, w.rows), tt))
 
@@ -188,12 +200,25 @@ fast_before_small : (c : Numbers) → AreFew c → All IsSmall (fast_before_of c
 fast_before_small c w =
     let m = groups (zero_statements Own) (length c.bounds) in
     let v = groups (zero_statements Reached) (length c.bounds) in
-    All-append IsSmall (before_of c ++ m ++ v) (first_weight ∷ [])
+    All-append IsSmall (before_of c ++ m ++ v ++ (first_weight ∷ [])) (first_scale c)
+    (All-append IsSmall (before_of c ++ m ++ v) (first_weight ∷ [])
     (All-append IsSmall (before_of c ++ m) v (All-append IsSmall (before_of c) m (before_small c w) (zeros_small c Own w)) (zeros_small c Reached w))
-    (one first_weight (omega arith, tt))
+    (one first_weight (omega arith, tt)))
+    (where_short c first_scale_lines ((omega arith, tt), ((omega arith, tt), tt)))
 
-mean_small : (c : Numbers) (i : ℕ) → AreFew c → i < length c.bounds → All IsSmall (mean_statements i)
-mean_small c i w l = let own = small_at (length c.bounds) i l w.rows in one _ (omega (arith, l, w.rows), ((own, (refl, own)), refl))
+scale_small : (c : Numbers) → All IsSmall (scale_statements c)
+scale_small c =
+    where_short c scale_lines
+    ((omega arith, (tt, ((refl, tt), refl))), ((omega arith, (refl, refl)), ((omega arith, (refl, (refl, refl))), ((omega arith, ((refl, tt), refl)), tt))))
+
+mean_small : (c : Numbers) (i : ℕ) → AreFew c → i < length c.bounds → All IsSmall (mean_statements c i)
+mean_small c i w l =
+    let own = small_at (length c.bounds) i l w.rows in
+    let number : i < 2 ^ 64 = omega (arith, l, w.rows) in
+    cond_both (is_quick c i) (quick_mean_statements i) (Assign (variable Multiplier i) (mean_expression i) ∷ []) (All IsSmall)
+    (λ t. listed (quick_mean_statements i)
+    ((number, (own, (refl, own))), ((number, (own, refl)), ((number, (own, refl)), ((number, ((own, (own, refl)), refl)), ((number, ((own, tt), own)), tt))))))
+    (λ f. one _ (number, ((own, (refl, own)), refl)))
 
 fast_row_small : (c : Numbers) (i : ℕ) → AreFew c → i < length c.bounds → All IsSmall (fast_row_statements c i)
 fast_row_small c i w l =
@@ -206,17 +231,20 @@ fast_row_small c i w l =
 fast_body_small : (c : Numbers) → AreFew c → All IsSmall (fast_body c)
 fast_body_small c w =
     let e = divisor_statement ∷ [] in
-    let l = groups mean_statements (length c.bounds) in
+    let q = scale_statements c in
+    let l = groups (mean_statements c) (length c.bounds) in
     let d = groups (difference_statements c) (length c.bounds) in
     let u = groups (entry_statements c) (length c.offsets) in
     let s = groups weighted_sum_statements (length c.offsets) in
     let r = groups (fast_row_statements c) (length c.bounds) in
-    All-append IsSmall (e ++ l ++ d ++ u ++ s ++ r) (next_weight ∷ [])
-    (All-append IsSmall (e ++ l ++ d ++ u ++ s) r
-    (All-append IsSmall (e ++ l ++ d ++ u) s
-    (All-append IsSmall (e ++ l ++ d) u
-    (All-append IsSmall (e ++ l) d
-    (All-append IsSmall e l (one divisor_statement (omega arith, ((refl, tt), (refl, tt)))) (in_groups mean_statements (length c.bounds) (λ i h. mean_small c i w h)))
+    All-append IsSmall (e ++ q ++ l ++ d ++ u ++ s ++ r) (next_weight ∷ [])
+    (All-append IsSmall (e ++ q ++ l ++ d ++ u ++ s) r
+    (All-append IsSmall (e ++ q ++ l ++ d ++ u) s
+    (All-append IsSmall (e ++ q ++ l ++ d) u
+    (All-append IsSmall (e ++ q ++ l) d
+    (All-append IsSmall (e ++ q) l
+    (All-append IsSmall e q (one divisor_statement (omega arith, ((refl, tt), (refl, tt)))) (scale_small c))
+    (in_groups (mean_statements c) (length c.bounds) (λ i h. mean_small c i w h)))
     (differences_small c w))
     (entries_small c w))
     (in_groups weighted_sum_statements (length c.offsets) (λ j h. let own = small_at (length c.offsets) j h w.entries in one _ (omega (arith, h, w.entries), (own, (refl, own))))))

@@ -6,7 +6,7 @@ use Rattle.std.specs.Str.Parse.{AllDigits, digits_value_after}
 use Rattle.std.proofs.lemmas.Fmt.{decimal_is_IsNumeral}
 use Rattle.std.proofs.lemmas.Bool.{ne_eqb}
 use Rattle.c_program.specs.Syntax.{Family, Variable, variable, letter_of, Kind, Expression, Statement}
-use Rattle.c_program.specs.Syntax.Family.{State, Loaded, EntryBase, RowBase, Multiplier, Difference, Entry, Gradient, RowSum, Moved, Sum, Output, Own, Reached, Weight, Divisor}
+use Rattle.c_program.specs.Syntax.Family.{State, Loaded, EntryBase, RowBase, Multiplier, Difference, Entry, Gradient, RowSum, Moved, Sum, Output, Own, Reached, Weight, Divisor, Shift, Power, Doubling, Reciprocal, Numerator, Head, Rest}
 use Rattle.c_program.specs.Syntax.Kind.{Narrow, Wide}
 use Rattle.c_program.specs.Syntax.Expression.{Constant, Value}
 use Rattle.c_program.specs.Syntax.Statement.{Declare, Assign, AtLeastZero, AtMost}
@@ -169,6 +169,13 @@ name_scan p form b Own k h = letter_scan p form Own k b refl refl refl h
 name_scan p form b Reached k h = letter_scan p form Reached k b refl refl refl h
 name_scan p form b Weight k h = letter_scan p form Weight k b refl refl refl h
 name_scan p form b Divisor k h = letter_scan p form Divisor k b refl refl refl h
+name_scan p form b Shift k h = letter_scan p form Shift k b refl refl refl h
+name_scan p form b Power k h = letter_scan p form Power k b refl refl refl h
+name_scan p form b Doubling k h = letter_scan p form Doubling k b refl refl refl h
+name_scan p form b Reciprocal k h = letter_scan p form Reciprocal k b refl refl refl h
+name_scan p form b Numerator k h = letter_scan p form Numerator k b refl refl refl h
+name_scan p form b Head k h = letter_scan p form Head k b refl refl refl h
+name_scan p form b Rest k h = letter_scan p form Rest k b refl refl refl h
 
 -- a name, and what is behind it
 behind_name : (p : Phase) (form : Form) (xs rest : List ℕ) (v : Variable) → Names p form xs v → scan (scan p xs) (32 ∷ rest) ≡ scan (named form v) rest

@@ -12,7 +12,7 @@ use Rattle.qp_model.proofs.AbsoluteLaws.{abs-floor_le}
 use Rattle.overflow_check.proofs.ValuesMet.{fits_width}
 use Rattle.c_program.specs.Syntax.{Variable, bits_of, Expression}
 use Rattle.c_program.specs.Syntax.Kind.{Narrow, Wide}
-use Rattle.c_program.specs.Syntax.Expression.{Constant, Value, Plus, Minus, Times, Over, Shifted}
+use Rattle.c_program.specs.Syntax.Expression.{Constant, Value, Plus, Minus, Times, Over, Shifted, ShiftedBy}
 use Rattle.c_program.specs.Meaning.{Environment, held, value, IsDefined}
 use Rattle.c_program.specs.Of.{kind_for, plus_product, plus_products}
 
@@ -63,6 +63,14 @@ pub makes_shifted : (e : Environment) (a : Expression) (z : ℤ) (most k : ℕ) 
 makes_shifted e a z most k h l = record {
   defined = (h.defined, l);
   is = ap (λ (x : ℤ). floor_of x (2 ^ k)) h.is;
+  within = omega (arith, abs-floor_le z (2 ^ k), h.within);
+}
+
+-- by as many bits as a variable holds
+pub makes_shifted_by : (e : Environment) (a : Expression) (v : Variable) (z : ℤ) (most k : ℕ) → Makes e a z most → held e v ≡ pos k → k < 64 → Makes e (ShiftedBy a v) (floor_of z (2 ^ k)) most
+makes_shifted_by e a v z most k h is l = record {
+  defined = (h.defined, subst (λ (y : ℤ). pos 0 ≤ℤ y) (sym is) (omega (arith, ints)), subst (λ (y : ℤ). y <ℤ pos 64) (sym is) (omega (arith, ints, l)));
+  is = (λ i. floor_of (h.is i) (2 ^ unsigned_abs (is i)));
   within = omega (arith, abs-floor_le z (2 ^ k), h.within);
 }
 
@@ -132,13 +140,22 @@ makes_products e a c top v (suc n) z most m h room =
     (makes_product e (plus_products a c top v n) (c n) (top n) (v n) (z +ℤ sum) (most + many) rest (h n (omega arith)) (omega (arith, room)))
     (omega (arith, ints)) (omega arith)
 
--- ---- a shift by more than 63 bits
+-- ---- a shift by 63 bits or more
 pub small_quotient : (a d : ℕ) → a < d → a / d ≡ 0
 small_quotient a d l = omega (arith, div_below a d 1 (omega (arith, l)) (omega (arith, l)))
 
 same_sign : (z : ℤ) (d b : ℕ) → unsigned_abs z < d → unsigned_abs z < b → floor_of z d ≡ floor_of z b
 same_sign (pos a) d b h k = ap pos (small_quotient a d h ∙ sym (small_quotient a b k))
 same_sign (negsuc a) d b h k = ap negsuc (small_quotient a d (omega (arith, h)) ∙ sym (small_quotient a b (omega (arith, k))))
+
+-- shifted by all its bits, a number is 0, or -1 where it is negative
+pub sign_up : (x : ℤ) (d : ℕ) → pos 0 ≤ℤ x → unsigned_abs x < d → floor_of x d ≡ pos 0
+sign_up (pos a) d h l = ap pos (small_quotient a d l)
+sign_up (negsuc a) d h l = absurd (omega (arith, ints, h))
+
+pub sign_down : (x : ℤ) (d : ℕ) → x <ℤ pos 0 → unsigned_abs x ≤ d → floor_of x d ≡ negsuc 0
+sign_down (pos a) d h l = absurd (omega (arith, ints, h))
+sign_down (negsuc a) d h l = ap negsuc (small_quotient a d (omega (arith, l)))
 
 pub short_shift : (z : ℤ) (k : ℕ) → unsigned_abs z < 2 ^ 63 → floor_of z (2 ^ min k 63) ≡ floor_of z (2 ^ k)
 short_shift z k h = elim (cases_lt 63 k) [

@@ -18,7 +18,7 @@ use Rattle.c_program.specs.Syntax.Expression.{Constant, Value, Plus, Times, Shif
 use Rattle.c_program.specs.Of.{plus_products, partner, is_first, is_second, entry_top, row_bits, plan_factor, lowered_value, lowered_base, row_expression}
 use Rattle.overflow_check.specs.declared.machine.Machine.{Machine}
 use Rattle.overflow_check.specs.declared.machine.Machine.TheVariants.{Plain, Accelerated}
-use Rattle.c_program.specs.FastOf.{first_weight, divisor_statement, mean_statements, reached_expression, next_weight}
+use Rattle.c_program.specs.FastOf.{first_weight, divisor_statement, mean_expression, reached_expression, next_weight}
 use Rattle.c_program.specs.ByMachine.{moved_family, weighted_for, moved_for}
 use Rattle.c_program.specs.Text.{variable_text, kind_text, constant_text, enclosed, closed, expression_text, statement_text, numbered_lines}
 use Rattle.c_program.specs.Needed.{left_in}
@@ -317,14 +317,14 @@ written_mean n k =
     (codes "(int64_t)k0") (codes "m") (codes " * ") (codes " / (int64_t)") (codes "b0") (codes ";") (10 ∷ [])
 
 read_mean : (types : Variable → Kind) (i : ℕ) →
-    mean_line (decimal i) (kind_text (types (variable Multiplier i))) (expression_text (Value (variable Weight 0))) (variable_text (variable Divisor 0)) ≡ block_text types (codes "        ") (mean_statements i)
+    mean_line (decimal i) (kind_text (types (variable Multiplier i))) (expression_text (Value (variable Weight 0))) (variable_text (variable Divisor 0)) ≡ block_text types (codes "        ") (Assign (variable Multiplier i) (mean_expression i) ∷ [])
 unfolding mean_line
 read_mean types i = refl
 
 pub mean_text : (types : Variable → Kind) (i : ℕ) →
     codes "        " ++ (codes "l" ++ (decimal i ++ (codes " = (" ++ (kind_text (types (variable Multiplier i)) ++ (codes ")" ++ (codes "(" ++ (codes "(" ++ (codes "(" ++ (codes "(int64_t)" ++ (codes "v" ++ (decimal i ++ (codes " + "
     ++ (codes "((int64_t)k0 * " ++ (codes "(int64_t)" ++ (codes "m" ++ (decimal i ++ (codes ")" ++ (codes ")" ++ (codes " / (int64_t)b0" ++ (codes ")" ++ (codes ")" ++ (codes ";" ++ (10 ∷ [] ++ [])))))))))))))))))))))))
-    ≡ block_text types (codes "        ") (mean_statements i)
+    ≡ block_text types (codes "        ") (Assign (variable Multiplier i) (mean_expression i) ∷ [])
 mean_text types i =
     let k = kind_text (types (variable Multiplier i)) in
     written_mean (decimal i) k ∙ ap (λ (w : List ℕ). mean_line (decimal i) k w (codes "b0")) weight_text ∙

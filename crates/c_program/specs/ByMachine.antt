@@ -12,7 +12,7 @@ use Rattle.c_program.specs.Syntax.Expression.{Value, Plus}
 use Rattle.c_program.specs.Syntax.Statement.{Declare, Assign, AtLeastZero, AtMost}
 use Rattle.c_program.specs.Needed.{left_in}
 use Rattle.c_program.specs.Of.{Sizes, plain_sizes, kind_by, row_bits, lowered_value, zero_statements, before_of, difference_statements, entry_statements, gradient_statements, row_sum_statements, repetition_body, average_of, is_needed}
-use Rattle.c_program.specs.FastOf.{fast_sizes, first_weight, fast_before_of, weighted, divisor_statement, mean_statements, reached_expression, next_weight, fast_body}
+use Rattle.c_program.specs.FastOf.{fast_sizes, first_weight, first_scale, fast_before_of, weighted, divisor_statement, scale_statements, mean_statements, reached_expression, next_weight, fast_body}
 
 -- ---- sizes and types
 abbrev pub sizes_for : Machine → Numbers → Sizes
@@ -64,12 +64,12 @@ row_for m c i = gradient_statements c i ++ row_sum_statements c i ++ move_for m 
 -- what stands behind the plain machine's statements before the loop
 abbrev pub start_for : Machine → Numbers → List Statement
 start_for Plain c = []
-start_for Accelerated c = groups (zero_statements Own) (length c.bounds) ++ groups (zero_statements Reached) (length c.bounds) ++ first_weight ∷ []
+start_for Accelerated c = groups (zero_statements Own) (length c.bounds) ++ groups (zero_statements Reached) (length c.bounds) ++ (first_weight ∷ []) ++ first_scale c
 
 -- a step's means, its plan and its rows, and then the next weight
 abbrev pub means_for : Machine → Numbers → List Statement
 means_for Plain c = []
-means_for Accelerated c = (divisor_statement ∷ []) ++ groups mean_statements (length c.bounds)
+means_for Accelerated c = (divisor_statement ∷ []) ++ scale_statements c ++ groups (mean_statements c) (length c.bounds)
 
 abbrev pub step_for : Machine → Numbers → List Statement
 step_for m c =

@@ -10,7 +10,7 @@ use Rattle.qp_model.specs.machine.ValuesMet.{FitsWidth}
 use Rattle.c_program.specs.Syntax.{Variable, Kind, Expression, Statement, CProgram}
 use Rattle.c_program.specs.Syntax.Kind.{Wide}
 use Rattle.c_program.specs.Syntax.Statement.{Declare, Assign, AtLeastZero, AtMost}
-use Rattle.c_program.specs.Syntax.Expression.{Constant, Value, Plus, Minus, Times, Quotient, Remainder, Over, Shifted}
+use Rattle.c_program.specs.Syntax.Expression.{Constant, Value, Plus, Minus, Times, Quotient, Remainder, Over, Shifted, ShiftedBy}
 use Rattle.c_program.specs.Text.{expression_text, statement_text, program_text, HasNoLineFeed}
 use Rattle.c_program.specs.Meaning.{first_outside, outcome_of, IsDefinedRun, averages_of, AreAveraged}
 use Rattle.c_program.specs.Meaning.Outcome.{Refused, Solved}
@@ -67,6 +67,7 @@ HasShortNumbers (Quotient a k) = HasShortNumbers a × (k < 2 ^ 64)
 HasShortNumbers (Remainder a k) = HasShortNumbers a × (k < 2 ^ 64)
 HasShortNumbers (Over a v) = HasShortNumbers a × (v.number < 2 ^ 64)
 HasShortNumbers (Shifted a k) = HasShortNumbers a × (k < 2 ^ 64)
+HasShortNumbers (ShiftedBy a v) = HasShortNumbers a × (v.number < 2 ^ 64)
 
 -- two expressions never have one text
 abbrev pub ExpressionTextLaw : Type 0

@@ -1,12 +1,12 @@
 -- What a program means: the values of its expressions as exact whole numbers, and that C defines each of them.
-use Rattle.std.specs.Prelude.{ℕ, zero, suc, ◌<◌, ◌^◌, Bool, ◌&&◌, ◌==◌, if◌then◌else◌, ℤ, pos, ◌+ℤ◌, ◌-ℤ◌, ◌*ℤ◌, ◌<ℤ◌, List, [], ◌∷◌, length, map, unsigned_abs, int_lt, int_div, int_rem, ◌||◌, All}
+use Rattle.std.specs.Prelude.{ℕ, zero, suc, ◌<◌, ◌^◌, Bool, ◌&&◌, ◌==◌, if◌then◌else◌, ℤ, pos, ◌+ℤ◌, ◌-ℤ◌, ◌*ℤ◌, ◌≤ℤ◌, ◌<ℤ◌, List, [], ◌∷◌, length, map, unsigned_abs, int_lt, int_div, int_rem, ◌||◌, All}
 use Rattle.std.specs.Int.{int_max, int_min}
 use Rattle.integer_algebra.specs.Division.{floor_of}
 use Rattle.integer_algebra.specs.Sums.{at}
 use Rattle.qp_model.specs.machine.ValuesMet.{FitsWidth}
 use Rattle.c_program.specs.Syntax.{Family, Variable, letter_of, Kind, bits_of, Expression, Statement, CProgram}
 use Rattle.c_program.specs.Syntax.Family.{State, Output}
-use Rattle.c_program.specs.Syntax.Expression.{Constant, Value, Plus, Minus, Times, Quotient, Remainder, Over, Shifted}
+use Rattle.c_program.specs.Syntax.Expression.{Constant, Value, Plus, Minus, Times, Quotient, Remainder, Over, Shifted, ShiftedBy}
 use Rattle.c_program.specs.Syntax.Statement.{Declare, Assign, AtLeastZero, AtMost}
 
 -- ---- what the variables hold
@@ -30,8 +30,9 @@ value e (Quotient a k) = int_div (value e a) (pos k)
 value e (Remainder a k) = int_rem (value e a) (pos k)
 value e (Over a v) = int_div (value e a) (held e v)
 value e (Shifted a k) = floor_of (value e a) (2 ^ k)
+value e (ShiftedBy a v) = floor_of (value e a) (2 ^ unsigned_abs (held e v))
 
--- C defines the expression: a literal has a positive number of its type before its sign, each result lies in int64_t, no divisor is 0, and no shift is by 64 bits or more;
+-- C defines the expression: a literal has a positive number of its type before its sign, each result lies in int64_t, no divisor is 0, and no shift is by less than 0 bits, or by 64 or more;
 -- a quotient is rounded toward 0, and lies in int64_t where it is by a number above 0
 abbrev pub IsDefined : Environment → Expression → Type 0
 IsDefined e (Constant z) = unsigned_abs z < 2 ^ 63
@@ -43,6 +44,7 @@ IsDefined e (Quotient a k) = IsDefined e a × (0 < k) × (k < 2 ^ 63)
 IsDefined e (Remainder a k) = IsDefined e a × (0 < k) × (k < 2 ^ 63)
 IsDefined e (Over a v) = IsDefined e a × FitsWidth 64 (held e v) × (pos 0 <ℤ held e v)
 IsDefined e (Shifted a k) = IsDefined e a × (k < 64)
+IsDefined e (ShiftedBy a v) = IsDefined e a × (pos 0 ≤ℤ held e v) × (held e v <ℤ pos 64)
 
 -- ---- statements
 -- what the variable of a statement holds after it

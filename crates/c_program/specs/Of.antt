@@ -8,9 +8,10 @@ use Rattle.mat_int.specs.Matrix.{row_of}
 use Rattle.qp_model.specs.machine.Controller.{Numbers}
 use Rattle.qp_model.specs.machine.Machine.{exponent_of, lowering_of, top_of}
 use Rattle.qp_model.specs.machine.AbsoluteSums.{state_magnitudes, plan_magnitudes, next_magnitude, sum_magnitude}
+use Rattle.overflow_check.specs.FastMachine.{mean_divisor, fast_top}
 use Rattle.c_program.specs.Syntax.{Family, Variable, variable, Kind, Expression, Statement, groups, CProgram}
 use Rattle.c_program.specs.Needed.{needed_part}
-use Rattle.c_program.specs.Syntax.Family.{State, Loaded, EntryBase, RowBase, Multiplier, Difference, Entry, Gradient, RowSum, Moved, Sum, Output, Own, Reached, Weight, Divisor}
+use Rattle.c_program.specs.Syntax.Family.{State, Loaded, EntryBase, RowBase, Multiplier, Difference, Entry, Gradient, RowSum, Moved, Sum, Output, Own, Reached, Weight, Divisor, Shift, Power, Doubling, Reciprocal, Numerator, Head, Rest}
 use Rattle.c_program.specs.Syntax.Kind.{Narrow, Wide}
 use Rattle.c_program.specs.Syntax.Expression.{Constant, Value, Plus, Minus, Times, Quotient, Remainder, Shifted}
 use Rattle.c_program.specs.Syntax.Statement.{Declare, Assign, AtLeastZero, AtMost}
@@ -81,6 +82,13 @@ kind_by c z Own i = kind_for (z.own i)
 kind_by c z Reached i = kind_for z.reached
 kind_by c z Weight k = Narrow
 kind_by c z Divisor k = kind_for z.divisor
+kind_by c z Shift k = Narrow
+kind_by c z Power k = Wide
+kind_by c z Doubling k = Narrow
+kind_by c z Reciprocal k = Narrow
+kind_by c z Numerator i = Wide
+kind_by c z Head i = Narrow
+kind_by c z Rest i = Narrow
 
 abbrev pub kind_of : Numbers → Family → ℕ → Kind
 kind_of c = kind_by c (plain_sizes c)
@@ -258,6 +266,16 @@ is_coordinate_needed c k =
     any_below (λ j. is_product (at (row_of c.state_gains j) k) (state_top c k)) (length c.offsets)
     || any_below (λ i. is_row_needed c i && is_product (at (row_of c.state_rows i) k) (state_top c k)) (length c.bounds)
 
+-- what a mean of the accelerated machine is divided by fits 31 bits, as twice what is reached of row i over as much does: so its mean is made without a division
+abbrev pub has_short_divisor : Numbers → Bool
+has_short_divisor c = nat_lt (mean_divisor c.steps) (2 ^ 31)
+
+abbrev pub is_quick : Numbers → ℕ → Bool
+is_quick c i = has_short_divisor c && nat_lt (unsigned_abs (fast_top c i)) (2 ^ 30)
+
+unfoldable pub is_any_quick : Numbers → Bool
+is_any_quick c = any_below (λ i. is_row_needed c i && is_quick c i) (length c.bounds)
+
 abbrev pub needed_of : Numbers → Family → ℕ → Bool
 needed_of c State k = true
 needed_of c Loaded k = is_coordinate_needed c k
@@ -275,6 +293,13 @@ needed_of c Own i = is_row_needed c i
 needed_of c Reached i = is_row_needed c i
 needed_of c Weight k = true
 needed_of c Divisor k = any_below (is_row_needed c) (length c.bounds)
+needed_of c Shift k = is_any_quick c
+needed_of c Power k = is_any_quick c
+needed_of c Doubling k = is_any_quick c
+needed_of c Reciprocal k = is_any_quick c
+needed_of c Numerator i = is_row_needed c i
+needed_of c Head i = is_row_needed c i
+needed_of c Rest i = is_row_needed c i
 
 abbrev pub is_needed : Numbers → Variable → Bool
 is_needed c v = needed_of c v.family v.number

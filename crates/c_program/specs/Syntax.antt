@@ -20,6 +20,13 @@ pub data Family : Type 0 where
   Reached : Family  -- v0 ..
   Weight : Family  -- k0
   Divisor : Family  -- b0
+  Shift : Family  -- e0
+  Power : Family  -- p0
+  Doubling : Family  -- c0
+  Reciprocal : Family  -- q0
+  Numerator : Family  -- n0 ..
+  Head : Family  -- h0 ..
+  Rest : Family  -- z0 ..
 
 abbrev pub letter_of : Family → ℕ
 letter_of State = 0
@@ -38,6 +45,13 @@ letter_of Own = 109
 letter_of Reached = 118
 letter_of Weight = 107
 letter_of Divisor = 98
+letter_of Shift = 101
+letter_of Power = 112
+letter_of Doubling = 99
+letter_of Reciprocal = 113
+letter_of Numerator = 110
+letter_of Head = 104
+letter_of Rest = 122
 
 pub record Variable : Type 0 where
   pub family : Family
@@ -66,6 +80,7 @@ pub data Expression : Type 0 where
   Remainder : Expression → ℕ → Expression  -- (A % INT64_C(5))
   Over : Expression → Variable → Expression  -- (A / (int64_t)b0)
   Shifted : Expression → ℕ → Expression  -- ((A) >> 5)
+  ShiftedBy : Expression → Variable → Expression  -- ((A) >> (int64_t)e0)
 
 -- ---- statements
 pub data Statement : Type 0 where

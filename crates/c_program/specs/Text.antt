@@ -7,7 +7,7 @@ use Rattle.qp_model.specs.machine.Controller.{Numbers}
 use Rattle.c_program.specs.Syntax.{Family, Variable, letter_of, Kind, Expression, Statement, CProgram}
 use Rattle.c_program.specs.Syntax.Family.{State, Output}
 use Rattle.c_program.specs.Syntax.Kind.{Narrow, Wide}
-use Rattle.c_program.specs.Syntax.Expression.{Constant, Value, Plus, Minus, Times, Quotient, Remainder, Over, Shifted}
+use Rattle.c_program.specs.Syntax.Expression.{Constant, Value, Plus, Minus, Times, Quotient, Remainder, Over, Shifted, ShiftedBy}
 use Rattle.c_program.specs.Syntax.Statement.{Declare, Assign, AtLeastZero, AtMost}
 
 -- ---- words
@@ -47,6 +47,7 @@ expression_text (Quotient a k) = enclosed (closed a (expression_text a) ++ codes
 expression_text (Remainder a k) = enclosed (closed a (expression_text a) ++ codes " % " ++ constant_text (pos k))
 expression_text (Over a v) = enclosed (closed a (expression_text a) ++ codes " / (int64_t)" ++ variable_text v)
 expression_text (Shifted a k) = enclosed (enclosed (expression_text a) ++ codes " >> " ++ decimal k)
+expression_text (ShiftedBy a v) = enclosed (enclosed (expression_text a) ++ codes " >> (int64_t)" ++ variable_text v)
 
 -- ---- statements
 -- a value in the type of its variable

@@ -11,6 +11,7 @@ mod measured;
 mod needed;
 mod opposite;
 mod plan;
+mod quick;
 mod rows;
 mod shared;
 mod start;

@@ -1,14 +1,17 @@
 // What only the accelerated machine has: the weight of a step, and the means that its plan is made at.
 ghost use Rattle.std.specs.Prelude.{◌≡◌, ◌<◌, ◌++◌, [], ◌∷◌, OnOk, string_bytes};
 ghost use Rattle.overflow_check.specs.declared.machine.Machine.TheVariants.{Accelerated};
-ghost use Rattle.c_program.specs.Syntax.{groups};
+ghost use Rattle.c_program.specs.Syntax.{variable, groups};
+ghost use Rattle.c_program.specs.Syntax.Family.{Multiplier};
+ghost use Rattle.c_program.specs.Syntax.Statement.{Assign};
 ghost use Rattle.c_program.specs.Of.{any_below, is_row_needed};
-ghost use Rattle.c_program.specs.FastOf.{first_weight, divisor_statement, mean_statements, next_weight};
+ghost use Rattle.c_program.specs.FastOf.{first_weight, divisor_statement, mean_expression, mean_statements, next_weight};
 ghost use Rattle.c_program.specs.ByMachine.{start_for, means_for, next_for};
 ghost use Rattle.c_program.specs.Measured.{controller_in, row_count, start_text, loop_text, needed_start_text, needed_loop_text, row_text};
 
 use crate::measured::{Held, Measured};
 use crate::needed::{is_any_row_needed, is_row_needed_at};
+use crate::quick::{is_quick_at, push_first_scale, push_quick_mean, push_scale};
 use crate::start::push_zeros;
 use crate::tops::{divisor_top, held_kind};
 use crate::words::{kind_word, push_pieces};
@@ -60,10 +63,11 @@ fn push_divisor_where(from: &Measured, text: &mut String) -> Result<(), AllocErr
     }
 }
 
-// The line of the mean of row `i`.
-fn push_mean(from: &Measured, text: &mut String, i: usize) -> Result<(), AllocError>
+// The line of the mean of row `i`, by a division.
+fn push_divided_mean(from: &Measured, text: &mut String, i: usize) -> Result<(), AllocError>
     requires in_range { i < row_count from.now }
-    ensures { OnOk result (string_bytes text.new ≡ string_bytes text.old ++ loop_text from.now (mean_statements i)) }
+    ensures { OnOk result (string_bytes text.new ≡ string_bytes text.old ++
+        loop_text from.now (Assign (variable Multiplier i) (mean_expression i) ∷ [])) }
 {
     let number = i.to_string(from.alloc)?;
     let kind = held_kind(from, Held::Planned, i);
@@ -99,10 +103,25 @@ fn push_mean(from: &Measured, text: &mut String, i: usize) -> Result<(), AllocEr
     Ok(())
 }
 
+// The lines of that mean.
+fn push_mean(from: &Measured, text: &mut String, i: usize) -> Result<(), AllocError>
+    requires machine { from.now.machine ≡ Accelerated }
+    requires in_range { i < row_count from.now }
+    ensures { OnOk result (string_bytes text.new ≡ string_bytes text.old ++ loop_text from.now (mean_statements (controller_in from.now) i)) }
+{
+    if is_quick_at(from, i) {
+        push_quick_mean(from, text, i)
+    } else {
+        push_divided_mean(from, text, i)
+    }
+}
+
 // The same where the row is needed.
 fn push_needed_mean(from: &Measured, text: &mut String, i: usize) -> Result<(), AllocError>
+    requires machine { from.now.machine ≡ Accelerated }
     requires in_range { i < row_count from.now }
-    ensures { OnOk result (string_bytes text.new ≡ string_bytes text.old ++ row_text from.now i (loop_text from.now (mean_statements i))) }
+    ensures { OnOk result (string_bytes text.new ≡ string_bytes text.old ++
+        row_text from.now i (loop_text from.now (mean_statements (controller_in from.now) i))) }
 {
     if is_row_needed_at(from.c, i) {
         push_mean(from, text, i)
@@ -113,8 +132,9 @@ fn push_needed_mean(from: &Measured, text: &mut String, i: usize) -> Result<(), 
 
 // The lines of the means.
 fn push_means(from: &Measured, text: &mut String) -> Result<(), AllocError>
+    requires { from.now.machine ≡ Accelerated }
     ensures { OnOk result (string_bytes text.new ≡ string_bytes text.old ++
-        needed_loop_text from.now (groups mean_statements (row_count from.now))) }
+        needed_loop_text from.now (groups (mean_statements (controller_in from.now)) (row_count from.now))) }
 {
     for i in 0..from.c.bound.len() {
         push_needed_mean(from, text, i)?;
@@ -122,7 +142,7 @@ fn push_means(from: &Measured, text: &mut String) -> Result<(), AllocError>
     Ok(())
 }
 
-// What is held of rows, and the first weight.
+// What is held of rows, the first weight and the first scale.
 fn push_held(from: &Measured, text: &mut String) -> Result<(), AllocError>
     requires { from.now.machine ≡ Accelerated }
     ensures { OnOk result (string_bytes text.new ≡ string_bytes text.old ++
@@ -131,6 +151,7 @@ fn push_held(from: &Measured, text: &mut String) -> Result<(), AllocError>
     push_zeros(from, text, Held::Kept)?;
     push_zeros(from, text, Held::Added)?;
     push_first_weight(from, text)?;
+    push_first_scale(from, text)?;
     Ok(())
 }
 
@@ -152,6 +173,7 @@ fn push_step_means(from: &Measured, text: &mut String) -> Result<(), AllocError>
         needed_loop_text from.now (means_for from.now.machine (controller_in from.now))) }
 {
     push_divisor_where(from, text)?;
+    push_scale(from, text)?;
     push_means(from, text)?;
     Ok(())
 }

@@ -23,7 +23,7 @@ fn is_product(c: i128, top: u128) -> bool
 }
 
 // Whether one of both is so.
-fn either(a: bool, b: bool) -> bool
+pub fn either(a: bool, b: bool) -> bool
     ensures { result ≡ (a || b) }
 {
     a || b

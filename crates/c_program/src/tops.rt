@@ -109,7 +109,7 @@ pub fn moved_top(from: &Measured, i: usize) -> u128
 }
 
 // The greatest multiplier of row `i` of the accelerated machine.
-fn fast_top_at(from: &Measured, i: usize) -> i128
+pub fn fast_top_at(from: &Measured, i: usize) -> i128
     requires machine { from.now.machine ≡ Accelerated }
     requires in_range { i < row_count from.now }
     ensures value { result ≡ fast_top (controller_in from.now) i }

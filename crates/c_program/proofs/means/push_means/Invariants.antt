@@ -10,4 +10,4 @@ use Rattle.c_program.proofs.means.push_means.Given as goal
 
 abbrev pub invariant-loop-i : goal.invariant-loop-i
 invariant-loop-i l =
-    string_bytes l.text ≡ string_bytes l.fn.text ++ block_text (kinds_in l.from) (codes "        ") (left_in (is_needed (numbers l.from.c.now)) (groups mean_statements l.i))
+    string_bytes l.text ≡ string_bytes l.fn.text ++ block_text (kinds_in l.from) (codes "        ") (left_in (is_needed (numbers l.from.c.now)) (groups (mean_statements (numbers l.from.c.now)) l.i))

@@ -1,7 +1,7 @@
 use Rattle.std.proofs.Common.{◌≡◌, ◌++◌, ◌∙◌, ℕ, List, ap, string_bytes, decimal, rules}
 use Rattle.c_program.specs.Measured.{kinds_in}
 use Rattle.c_program.proofs.Texts.{mean_text}
-use Rattle.c_program.proofs.means.push_mean.Goals as goal
+use Rattle.c_program.proofs.means.push_divided_mean.Goals as goal
 
 pub returns : goal.returns
 returns c =
