@@ -30,7 +30,7 @@ from . import faces
 from .common import files
 from .common.arguments import Parser, positive, several
 from .common.budget import Budget
-from .common.c_costs import ACCELERATED_ROW, ACCELERATED_STEP, about_step
+from .common.c_costs import about_means, about_step
 from .common.design_text import Design, plain
 from .common.kept_boxes import Plant, covered, largest, short_of
 from .common.lean_plans import LeanPlans
@@ -189,7 +189,7 @@ def steps_of(design: Design, generate: bool) -> float:
 def share_of(design: Design, steps: float, period: float, clock: float) -> float:
     """About which part of a stage a run of so many steps takes on a Cortex-M4 of so many MHz."""
     rows = Programs(design).rows
-    more = ACCELERATED_ROW * len(rows) + ACCELERATED_STEP if is_accelerated(design.version) else 0
+    more = about_means(len(rows)) if is_accelerated(design.version) else 0
     return steps * (about_step(rows.round(12).tolist(), design.entries) + more) / (period * clock * 1e6)
 
 

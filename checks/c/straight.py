@@ -55,9 +55,9 @@ def at_end(c, r):
     elif what == "twice the clamp":
         c.clamp = end + r.randrange(2) >> 1 << c.step - c.exps[i]
     elif what == "quick":
-        # the greatest multiplier whose mean is made by a reciprocal
+        # the greatest multiplier whose mean is made by a reciprocal, in one round or in two
         lowered = c.step - c.exps[i]
-        c.clamp = ((2**30 - r.randrange(3)) << lowered) + r.randrange(1 << lowered) >> 1
+        c.clamp = ((2 ** r.choice([30, 30, 56]) - r.randrange(3)) << lowered) + r.randrange(1 << lowered) >> 1
     elif what == "divisor":
         # the most steps of which means are, and one step more
         c.steps = 46338 + r.randrange(2)

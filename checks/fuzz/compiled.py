@@ -195,8 +195,8 @@ class AcceleratedProgram(Program):
         self.own_tops = [2 * c.clamp >> k for k in self.lowering]
         self.reached = self.kind(2 * c.clamp * c.total)
         self.divisor = Accelerated.mean_divisor(c.steps)
-        # the rows whose means are made by a reciprocal
-        self.quick = [i for i in self.rows if self.divisor < 2**31 and self.own_tops[i] < 2**30]
+        # the rows whose means are made by a reciprocal, and of these the ones that take one round
+        self.twice_quick, self.quick = ([i for i in self.rows if self.divisor < 2**31 and self.own_tops[i] < 2**most] for most in (56, 30))
 
     def before(self):
         yield from super().before()
@@ -205,7 +205,7 @@ class AcceleratedProgram(Program):
         for i in self.rows:
             yield self.declared(self.reached, f"v{i}", constant(0))
         yield self.declared("int32_t", "k0", constant(2))
-        if self.quick:
+        if self.twice_quick:
             yield self.declared("int32_t", "e0", constant(1))
             yield self.declared("int64_t", "p0", constant(2**33))
 
@@ -220,21 +220,35 @@ class AcceleratedProgram(Program):
         yield self.assigned("int64_t", "p0", plus(power, times(doubling, power)))
         yield self.declared("int32_t", "q0", over(minus(power, constant(1)), "b0"))
 
+    def quotient(self, i, name, kind):
+        """What is left of a numerator over the divisor, of less than 31 bits, into a variable: by the reciprocal that or one less, and what is left over then tells which."""
+        left, divisor = value(f"n{i}"), value("b0")
+        yield self.assigned(kind, name, shifted(times(value(f"h{i}"), value("q0")), 32))
+        yield self.declared("int32_t", f"z{i}", minus(minus(left, times(value(name), divisor)), divisor))
+        yield self.assigned(kind, name, plus(plus(value(name), constant(1)), shifted(value(f"z{i}"), 31)))
+
     def mean(self, i, numerator):
-        if i not in self.quick:
-            yield self.assigned(self.kind(self.tops[i]), f"l{i}", over(numerator, "b0"))
+        kind, head, left = self.kind(self.tops[i]), f"h{i}", value(f"n{i}")
+        if i not in self.twice_quick:
+            yield self.assigned(kind, f"l{i}", over(numerator, "b0"))
             return
         yield self.declared("int64_t", f"n{i}", numerator)
-        yield self.declared("int32_t", f"h{i}", shifted_by(value(f"n{i}"), "e0"))
-        yield self.assigned("int32_t", f"l{i}", shifted(times(value(f"h{i}"), value("q0")), 32))
-        yield self.declared("int32_t", f"z{i}", minus(minus(value(f"n{i}"), times(value(f"l{i}"), value("b0"))), value("b0")))
-        yield self.assigned("int32_t", f"l{i}", plus(plus(value(f"l{i}"), constant(1)), shifted(value(f"z{i}"), 31)))
+        if i in self.quick:
+            yield self.declared("int32_t", head, shifted_by(left, "e0"))
+            yield from self.quotient(i, f"l{i}", kind)
+            return
+        yield self.declared("int32_t", head, shifted_by(shifted(left, 26), "e0"))
+        yield self.assigned(kind, f"l{i}", times(shifted(times(value(head), value("q0")), 32), constant(2**26)))
+        yield self.assigned("int64_t", f"n{i}", minus(left, times(value(f"l{i}"), value("b0"))))
+        yield self.assigned("int32_t", head, shifted_by(left, "e0"))
+        yield from self.quotient(i, head, "int32_t")
+        yield self.assigned(kind, f"l{i}", plus(value(f"l{i}"), value(head)))
 
     def body(self):
         reached = lambda i: plus(value(f"v{i}"), self.weighted(value(f"m{i}")))
         if self.rows:
             yield self.declared(self.kind(self.divisor), "b0", times(minus(value("k0"), constant(1)), plus(value("k0"), constant(2))))
-        if self.quick:
+        if self.twice_quick:
             yield from self.scale()
         for i in self.rows:
             yield from self.mean(i, reached(i))

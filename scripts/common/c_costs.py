@@ -90,6 +90,12 @@ def about_step(rows, entries):
     return entries * (len(apart) * cycles("entry's product") + cycles("entry")) + of_rows + (len(counted) - len(apart)) * cycles("pair") + beyond
 
 
+def about_means(rows):
+    """And how many more one of the accelerated machine takes with so many rows."""
+    cycles = lambda what: STEP["accelerated " + what][0]
+    return cycles("reciprocal") + rows * (cycles("mean by a reciprocal") + cycles("reach of 64 bits"))
+
+
 def rounded(value):
     """A number of two digits, with commas."""
     unit = 10 ** max(0, len(str(int(value))) - 2)

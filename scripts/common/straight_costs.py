@@ -7,11 +7,14 @@ from __future__ import annotations
 
 from collections import Counter
 
+from .machines import Accelerated
 from .strict_texts import absolute_sums, ceil_div
 from .texts import Controller
 
 # the widest that `c` writes
 MOST_WIDTH = 64
+# multipliers below these have their means by a reciprocal, in one round and in two
+ONCE, TWICE = 2**30, 2**56
 # numbers that one instruction has, numbers of the loop that the registers hold, and the most digits of a factor that are shifted
 SHORT, HELD, SHIFTED = range(-256, 65536), 10, 5
 # cycles, bytes of code and bytes of stack of each
@@ -24,10 +27,11 @@ START = {
     "row's coefficient": (5.2, 15.8, 1.9),
 }
 STEP = {
-    "accelerated product": (2.9, 5.0, 0.6),
-    "accelerated row": (113.4, 66.3, 5.8),
-    "accelerated row of 64 bits": (9.4, 3.7, 0.0),
-    "accelerated step": (42.2, 89.6, 25.0),
+    "accelerated mean by a division": (119.0, 55.5, 4.3),
+    "accelerated mean by a reciprocal": (30.0, 79.3, 6.6),
+    "accelerated mean by a reciprocal, in two rounds": (61.5, 158.4, 6.8),
+    "accelerated reach of 64 bits": (20.3, 45.8, 5.9),
+    "accelerated reciprocal": (122.8, 18.0, 26.7),
     "entry": (0.7, 5.1, 12.6),
     "entry's digit of 64 bits": (6.5, 17.4, 0.6),
     "entry's product": (4.9, 13.7, 0.1),
@@ -181,7 +185,7 @@ class StraightCosts:
 
 
 class AcceleratedCosts(StraightCosts):
-    """The same of a controller of version 3: gcc leaves out no row, since it doesn't follow a division."""
+    """The same of a controller of version 3: gcc leaves out no row, since it doesn't follow a mean."""
 
     def __init__(self, c: Controller):
         self.c, self.rows = c, Rows(c)
@@ -190,8 +194,16 @@ class AcceleratedCosts(StraightCosts):
         self.reach, _, self.plan, _, self.moved, self.sums = absolute_sums(c)
         self.start, self.step = self.counted_start(), self.counted_step()
 
+    def mean(self, i: int) -> str:
+        """How the mean of row i is made."""
+        own = 2 * self.c.clamp >> self.rows.lowered[i]
+        if is_long(2 * Accelerated.total(self.c.steps + 1)) or own >= TWICE:
+            return "mean by a division"
+        return "mean by a reciprocal" + ", in two rounds" * (own >= ONCE)
+
     def counted_step(self) -> Counter[str]:
-        count = super().counted_step()
-        products = sum(n for what, n in count.items() if "product" in what)
-        long = sum(is_long(2 * self.c.clamp >> self.rows.lowered[i]) for i in self.rows.left)
-        return count + Counter({"accelerated step": 1, "accelerated row": len(self.rows.left), "accelerated row of 64 bits": long, "accelerated product": products})
+        c, left, count = self.c, self.rows.left, super().counted_step()
+        means = Counter(map(self.mean, left))
+        means["reach of 64 bits"] = len(left) * is_long(2 * c.clamp * Accelerated.total(c.steps))
+        means["reciprocal"] = int(any("reciprocal" in what for what in means))
+        return count + Counter({f"accelerated {what}": n for what, n in means.items()})

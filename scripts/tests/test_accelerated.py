@@ -176,7 +176,7 @@ class Explained(unittest.TestCase):
         self.assertIn("multipliers 14, their sums by weights 17, means 13, plan", next(line for line in told if line.startswith("signed words")))
         found = controller_of(controller)
         costs = AcceleratedCosts(found)
-        self.assertEqual((costs.step["accelerated row"], costs.step["accelerated product"]), (3, 2))
+        self.assertEqual((costs.step["accelerated mean by a reciprocal"], costs.step["accelerated reciprocal"]), (3, 1))
         self.assertEqual(c_costs.accelerated_cycles(found, 3), costs.cycles)
         self.assertRegex("\n".join(told), rf"as C \(./mpc c\): no tables; .*\n.*on a Cortex-M4 about {c_costs.rounded(costs.cycles)} cycles a run, .*; about [0-9,]+ bytes of flash, {costs.ram} of RAM")
         # a gain of 1 is a sum
@@ -266,7 +266,7 @@ class Made(unittest.TestCase):
         self.assertEqual(fast, Accelerated.steps(Fraction(plain)))
         share = lambda version: staying.share_of(replace(example("motor"), version=version), 10, 0.005, 100)
         # eight rows
-        self.assertAlmostEqual(share(3) - share(2), 10 * (8 * c_costs.ACCELERATED_ROW + c_costs.ACCELERATED_STEP) / (0.005 * 100e6))
+        self.assertAlmostEqual(share(3) - share(2), 10 * c_costs.about_means(8) / (0.005 * 100e6))
 
     def test_judged(self):
         """By the denominators of `solve`'s lines: 4608 is 9 times 2^9."""

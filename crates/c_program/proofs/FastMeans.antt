@@ -1,5 +1,5 @@
 -- The means of a step of the accelerated machine, by the reciprocal of their divisor where both are short.
-use Rattle.std.proofs.Common.{◌≡◌, ℕ, zero, suc, ◌+◌, ◌-◌, ◌*◌, ◌/◌, ◌^◌, ◌<◌, ◌≤◌, true, ltb, ℤ, pos, ◌+ℤ◌, ◌-ℤ◌, ◌*ℤ◌, ◌≤ℤ◌, List, [], ◌∷◌, length, map, unsigned_abs, refl, sym, ap, subst, ◌∙◌, arith, le_refl, mul-pos, inl, inr}
+use Rattle.std.proofs.Common.{◌≡◌, ℕ, zero, suc, ◌+◌, ◌-◌, ◌*◌, ◌/◌, ◌^◌, ◌<◌, ◌≤◌, if◌then◌else◌, true, ltb, ℤ, pos, ◌+ℤ◌, ◌-ℤ◌, ◌*ℤ◌, ◌≤ℤ◌, List, [], ◌∷◌, length, map, unsigned_abs, refl, sym, ap, subst, ◌∙◌, arith, le_refl, mul-pos, inl, inr}
 use Rattle.std.specs.List.{range_with_len}
 use Rattle.std.proofs.Math.Nat.{pow-succ'}
 use Rattle.std.proofs.Math.Pow.{pow_mono}
@@ -18,16 +18,16 @@ use Rattle.fast_machine.specs.FastReady.{IsFastReady}
 use Rattle.fast_machine.proofs.WeightSums.{more_weights, weight_sum_law}
 use Rattle.fast_machine.proofs.FastRuns.{top_le, mean_up, mean_le}
 use Rattle.fast_machine.proofs.FastSums.{FastSumsFit, weights_with, tops_within}
-use Rattle.c_program.specs.Syntax.{variable, bits_of, Expression}
+use Rattle.c_program.specs.Syntax.{Family, variable, bits_of, Expression, Statement}
 use Rattle.c_program.specs.Syntax.Family.{EntryBase, RowBase, Multiplier, Sum, Own, Reached, Weight, Divisor, Shift, Power, Doubling, Reciprocal, Numerator, Head, Rest}
-use Rattle.c_program.specs.Syntax.Expression.{Constant, Value, Plus, Minus, Times}
+use Rattle.c_program.specs.Syntax.Expression.{Constant, Value, Plus, Minus, Times, Shifted}
 use Rattle.c_program.specs.Syntax.Statement.{Assign}
 use Rattle.c_program.specs.Meaning.{Environment, with_value}
-use Rattle.c_program.specs.Of.{multiplier_top, kind_for, has_short_divisor, is_quick}
-use Rattle.c_program.specs.FastOf.{fast_sizes, weight_value, weighted, divisor_statement, doubling_expression, scale_lines, scale_statements, numerator_expression, mean_expression, quick_mean_statements, mean_statements}
+use Rattle.c_program.specs.Of.{multiplier_top, kind_for, has_short_divisor, is_quick, is_twice_quick}
+use Rattle.c_program.specs.FastOf.{fast_sizes, weight_value, weighted, divisor_statement, doubling_expression, scale_lines, scale_statements, numerator_expression, mean_expression, near_expression, rest_expression, quick_mean_statements, twice_mean_statements, mean_statements}
 use Rattle.c_program.proofs.Runs.{Runs, runs_none, held_new}
 use Rattle.c_program.proofs.Terms.{Makes, fits64, kind_fits, makes_same, makes_constant, makes_value, makes_plus, makes_minus, makes_multiplied, makes_over, makes_shifted, makes_shifted_by, sign_up, sign_down}
-use Rattle.c_program.proofs.Reciprocal.{quotient_is, at_most_quotient, short_reciprocal, near_is, left_over, little_left, nearest}
+use Rattle.c_program.proofs.Reciprocal.{quotient_is, at_most_quotient, short_reciprocal, IsNear, near_is, left_over, little_left, nearest, first_round, with_rest, rest_small}
 use Rattle.c_program.proofs.Parts.{Ready, entry_base, row_base}
 use Rattle.c_program.proofs.Before.{kinds, runs_next, runs_one, put, before_kept}
 use Rattle.c_program.proofs.Planning.{made_at}
@@ -295,68 +295,123 @@ divided_runs c state k made i e r l s =
       means = put (e Multiplier) (at (used_of c k made)) i _ (used_at c k made i l) s.means;
     })
 
--- at most the half of so many times the divisor
-twice_le : (n a t b : ℕ) → b ≡ 2 * a → n ≤ a * t → 2 * n ≤ t * b
-twice_le n a t b e h = rw e (omega (arith, h))
+-- a numerator is less than so many halves of the divisor
+below : (n a t b w : ℕ) → b ≡ 2 * a → 0 < b → n ≤ a * t → t < 2 * w → n < w * b
+below n a t b w e some h few = rw e (omega (arith, rw e at some, h, mul-le a (t + 1) a (2 * w) (le_refl a) (omega (arith, few))))
 
 nonneg_is : (z : ℤ) → pos 0 ≤ℤ z → z ≡ pos (unsigned_abs z)
 nonneg_is z h = omega (arith, ints, h)
 
-quick_runs : (c : Numbers) (state : List ℤ) (k : ℕ) (made : FastIterate) (i : ℕ) (e : Environment) → FastStepReady c state k made → i < length c.bounds → has_short_divisor c ≡ true →
-    unsigned_abs (fast_top c i) < 2 ^ 30 → Means c state k made (Reciprocated c (mean_divisor k)) i e →
-    Runs (kinds c (fast_sizes c)) e (quick_mean_statements i) (Means c state k made (Reciprocated c (mean_divisor k)) (suc i))
-quick_runs c state k made i e r l short few s =
-    let kind = kinds c (fast_sizes c) in
+-- its head by the reciprocal
+near_made : (e : Environment) (i n b h q : ℕ) → IsNear n b h q (h * q / 2 ^ 32) → e Head i ≡ pos h → e Reciprocal 0 ≡ pos q → Makes e (near_expression i) (pos (h * q / 2 ^ 32)) (2 ^ 30)
+near_made e i n b h q near head reciprocal =
+    let product : h * q ≤ 2 ^ 62 = omega (arith, mul-le h q (2 ^ 31) (2 ^ 31) (omega (arith, near.head)) (omega (arith, near.reciprocal))) in
+    let m = makes_shifted e _ (pos h *ℤ pos q) (2 ^ 62) 32
+    (makes_multiplied e (Value (variable Head i)) (Value (variable Reciprocal 0)) (pos h) (pos q) h q (2 ^ 62) (makes_value e (variable Head i) (pos h) h head (le_refl h) (omega (arith, near.head)))
+    (makes_value e (variable Reciprocal 0) (pos q) q reciprocal (le_refl q) (omega (arith, near.reciprocal))) product (omega arith)) (omega arith) in
+    record { defined = m.defined; is = m.is; within = near.small }
+
+-- what is left of it, and the mean, or what is added to it
+rest_made : (e : Environment) (f : Family) (i n b h q w : ℕ) → IsNear n b h q w → n < 2 ^ 63 → b < 2 ^ 31 → e Numerator i ≡ pos n → e f i ≡ pos w → e Divisor 0 ≡ pos b → Makes e (rest_expression f i) (left_over n b w) b
+rest_made e f i n b h q w near large short numerator held divisor =
+    let over = makes_value e (variable Divisor 0) (pos b) b divisor (le_refl b) (omega (arith, short)) in
+    makes_minus e _ _ (pos n -ℤ pos w *ℤ pos b) (pos b) n b b
+    (makes_minus e (Value (variable Numerator i)) _ (pos n) (pos w *ℤ pos b) n n n (makes_value e (variable Numerator i) (pos n) n numerator (le_refl n) large)
+    (makes_multiplied e (Value (variable f i)) (Value (variable Divisor 0)) (pos w) (pos b) w b n (makes_value e (variable f i) (pos w) w held (le_refl w) (omega (arith, near.small))) over near.low large)
+    (omega (arith, ints, near.low)) large) over (little_left n b w near.low near.high) (omega (arith, short))
+
+exact_made : (e : Environment) (f : Family) (i n b h q w : ℕ) → IsNear n b h q w → 0 < b → b < 2 ^ 31 → e f i ≡ pos w → e Rest i ≡ left_over n b w →
+    Makes e (Plus (Plus (Value (variable f i)) (Constant (pos 1))) (Shifted (Value (variable Rest i)) 31)) (floor_of (pos n) b) (w + 1 + b)
+exact_made e f i n b h q w near some short held left =
+    let m = makes_plus e _ _ (pos w +ℤ pos 1) (floor_of (left_over n b w) (2 ^ 31)) (w + 1) b
+    (makes_plus e (Value (variable f i)) (Constant (pos 1)) (pos w) (pos 1) w 1 (makes_value e (variable f i) (pos w) w held (le_refl w) (omega (arith, near.small)))
+    (makes_constant e (pos 1) 1 (omega arith) (omega arith)) (omega (arith, near.small)))
+    (makes_shifted e (Value (variable Rest i)) (left_over n b w) b 31 (makes_value e (variable Rest i) (left_over n b w) b left (little_left n b w near.low near.high) (omega (arith, short))) (omega arith))
+    (omega (arith, near.small, short)) in
+    makes_same e _ _ (floor_of (pos n) b) (w + 1 + b) (w + 1 + b) m (nearest n b w some (omega (arith, short)) near.low near.high) (le_refl (w + 1 + b))
+
+-- the numbers of a row that is quick within so many bits
+record QuickRow (c : Numbers) (k : ℕ) (made : FastIterate) (i most : ℕ) (e : Environment) : Type 0 where
+  n : ℕ
+  q : ℕ
+  scale : IsScale (mean_divisor k) 4 (e Shift 0) (e Power 0)
+  short : mean_divisor k < 2 ^ 31
+  bits : scale.bits < 64
+  reciprocal : e Reciprocal 0 ≡ pos q
+  is_reciprocal : q ≡ (2 ^ 32 * 2 ^ scale.bits - 1) / mean_divisor k
+  numerator : mean_sum k made i ≡ pos n
+  below : n < most * mean_divisor k
+  large : n < 2 ^ 63
+  mean : floor_of (pos n) (mean_divisor k) ≡ mean_at k made.multipliers made.reached i
+  top : unsigned_abs (mean_at k made.multipliers made.reached i) ≤ multiplier_top c i
+
+quick_row : (c : Numbers) (state : List ℤ) (k : ℕ) (made : FastIterate) (i most : ℕ) (e : Environment) → FastStepReady c state k made → i < length c.bounds → has_short_divisor c ≡ true →
+    unsigned_abs (fast_top c i) < 2 * most → Means c state k made (Reciprocated c (mean_divisor k)) i e → QuickRow c k made i most e
+quick_row c state k made i most e r l short few s =
     let t = unsigned_abs (fast_top c i) in
+    let b = mean_divisor k in
+    let rows = r.before.rows in
+    let up = mean_up c k made.multipliers made.reached i rows l in
+    let both = s.scale short in
+    let g = both.0 in
+    let n = unsigned_abs (mean_sum k made i) in
+    let is : mean_sum k made i ≡ pos n = nonneg_is (mean_sum k made i) up.low in
+    let bound : b < 2 ^ 31 = omega (arith, divisor_le k c.steps (omega (arith, r.inside)), ltb-true (mean_divisor c.steps) (2 ^ 31) short) in
+    record {
+      n = n;
+      q = (2 ^ 32 * 2 ^ g.bits - 1) / b;
+      scale = g;
+      short = bound;
+      bits = omega (arith, few_bits g.bits (omega (arith, g.low, bound)));
+      reciprocal = both.1 ∙ ap (λ (y : ℤ). floor_of (y -ℤ pos 1) b) g.powers ∙ reciprocal_is b (2 ^ g.bits) (pow_pos g.bits);
+      is_reciprocal = refl;
+      numerator = is;
+      below = below n (all_weights (suc k)) t b most (weight_sum_law.divisor k) (some_divisor k) up.high few;
+      large = omega (arith, (more_means c state k made i e r l s).within, reached_le c k i r.inside, r.fit.reached);
+      mean = ap (λ (y : ℤ). floor_of y b) (sym is);
+      top = mean_le c k made.multipliers made.reached i r.ready.nonneg rows l;
+    }
+
+near_row : (c : Numbers) (k : ℕ) (made : FastIterate) (i most : ℕ) (e : Environment) (g : QuickRow c k made i most e) (m : ℕ) → m < 2 ^ 29 * mean_divisor k →
+    IsNear m (mean_divisor k) (m / 2 ^ g.scale.bits) g.q ((m / 2 ^ g.scale.bits) * g.q / 2 ^ 32)
+near_row c k made i most e g m h =
+    subst (λ (q : ℕ). IsNear m (mean_divisor k) (m / 2 ^ g.scale.bits) q ((m / 2 ^ g.scale.bits) * q / 2 ^ 32)) (sym g.is_reciprocal)
+    (near_is m (mean_divisor k) (2 ^ g.scale.bits) (pow_pos g.scale.bits) g.scale.low g.scale.high h)
+
+-- no more than the mean
+below_mean : (c : Numbers) (k : ℕ) (made : FastIterate) (i most : ℕ) (e : Environment) (g : QuickRow c k made i most e) (w : ℕ) → w * mean_divisor k ≤ g.n → w ≤ multiplier_top c i
+below_mean c k made i most e g w h =
+    omega (arith, g.top, subst (λ (y : ℤ). w ≤ unsigned_abs y) g.mean (at_most_quotient g.n (mean_divisor k) w (some_divisor k) h))
+
+quick_runs : (c : Numbers) (state : List ℤ) (k : ℕ) (made : FastIterate) (i : ℕ) (e : Environment) → FastStepReady c state k made → i < length c.bounds →
+    Means c state k made (Reciprocated c (mean_divisor k)) i e → QuickRow c k made i (2 ^ 29) e →
+    Runs (kinds c (fast_sizes c)) e (quick_mean_statements i) (Means c state k made (Reciprocated c (mean_divisor k)) (suc i))
+quick_runs c state k made i e r l s g =
+    let kind = kinds c (fast_sizes c) in
     let b = mean_divisor k in
     let z = mean_at k made.multipliers made.reached i in
     let P = Means c state k made (Reciprocated c b) (suc i) in
-    let rows = r.before.rows in
-    let up = mean_up c k made.multipliers made.reached i rows l in
-    let scale = s.scale short in
-    let g = scale.0 in
-    let x = 2 ^ g.bits in
-    let some : 0 < x = pow_pos g.bits in
-    let n = unsigned_abs (mean_sum k made i) in
-    let h = n / x in
-    let q = (2 ^ 32 * x - 1) / b in
-    let w = h * q / 2 ^ 32 in
-    let near = near_is n b x t some g.low g.high (twice_le n (all_weights (suc k)) t b (weight_sum_law.divisor k) up.high) few in
-    let bound : b < 2 ^ 31 = omega (arith, divisor_le k c.steps (omega (arith, r.inside)), ltb-true (mean_divisor c.steps) (2 ^ 31) short) in
+    let n = g.n in
+    let h = n / 2 ^ g.scale.bits in
+    let w = h * g.q / 2 ^ 32 in
+    let near = near_row c k made i (2 ^ 29) e g n g.below in
     let sum = more_means c state k made i e r l s in
-    let is : mean_sum k made i ≡ pos n = nonneg_is (mean_sum k made i) up.low in
-    let large : n < 2 ^ 63 = omega (arith, sum.within, reached_le c k i r.inside, r.fit.reached) in
-    let mean : floor_of (pos n) b ≡ z = ap (λ (y : ℤ). floor_of y b) (sym is) in
-    let most : unsigned_abs z ≤ multiplier_top c i = mean_le c k made.multipliers made.reached i r.ready.nonneg rows l in
-    let less : w ≤ unsigned_abs z = subst (λ (y : ℤ). w ≤ unsigned_abs y) mean (at_most_quotient n b w (some_divisor k) near.low) in
+    let numerator = held_new e (variable Numerator i) (pos n) in
     let e1 = with_value e (variable Numerator i) (pos n) in
-    let m2 = makes_shifted_by e1 _ (variable Shift 0) (pos n) n g.bits (makes_value e1 (variable Numerator i) (pos n) n (held_new e (variable Numerator i) (pos n)) (le_refl n) large) g.shifts
-    (omega (arith, few_bits g.bits (omega (arith, g.low, bound)))) in
+    let m2 = makes_shifted_by e1 _ (variable Shift 0) (pos n) n g.scale.bits (makes_value e1 (variable Numerator i) (pos n) n numerator (le_refl n) g.large) g.scale.shifts g.bits in
     let e2 = with_value e1 (variable Head i) (pos h) in
-    let product : h * q ≤ 2 ^ 62 = omega (arith, mul-le h q (2 ^ 31) (2 ^ 31) (omega (arith, near.head)) (omega (arith, near.reciprocal))) in
-    let reciprocal : e Reciprocal 0 ≡ pos q = scale.1 ∙ ap (λ (y : ℤ). floor_of (y -ℤ pos 1) b) g.powers ∙ reciprocal_is b x some in
-    let m3 = makes_shifted e2 _ (pos h *ℤ pos q) (2 ^ 62) 32
-    (makes_multiplied e2 (Value (variable Head i)) (Value (variable Reciprocal 0)) (pos h) (pos q) h q (2 ^ 62) (makes_value e2 (variable Head i) (pos h) h (held_new e1 (variable Head i) (pos h)) (le_refl h) (omega (arith, near.head)))
-    (makes_value e2 (variable Reciprocal 0) (pos q) q reciprocal (le_refl q) (omega (arith, near.reciprocal))) product (omega arith)) (omega arith) in
+    let m3 = near_made e2 i n b h g.q near (held_new e1 (variable Head i) (pos h)) g.reciprocal in
     let e3 = with_value e2 (variable Multiplier i) (pos w) in
-    let kept_mean : w < 2 ^ 63 = omega (arith, near.small) in
-    let divisor = makes_value e3 (variable Divisor 0) (pos b) b s.divisor (le_refl b) (omega (arith, bound)) in
-    let m4 = makes_minus e3 _ _ (pos n -ℤ pos w *ℤ pos b) (pos b) n b b
-    (makes_minus e3 (Value (variable Numerator i)) _ (pos n) (pos w *ℤ pos b) n n n (makes_value e3 (variable Numerator i) (pos n) n (held_new e (variable Numerator i) (pos n)) (le_refl n) large)
-    (makes_multiplied e3 (Value (variable Multiplier i)) (Value (variable Divisor 0)) (pos w) (pos b) w b n (makes_value e3 (variable Multiplier i) (pos w) w (held_new e2 (variable Multiplier i) (pos w)) (le_refl w) kept_mean) divisor near.low large)
-    (omega (arith, ints, near.low)) large) divisor (little_left n b w near.low near.high) (omega (arith, bound)) in
+    let mean = held_new e2 (variable Multiplier i) (pos w) in
     let left = left_over n b w in
+    let m4 = rest_made e3 Multiplier i n b h g.q w near g.large g.short numerator mean s.divisor in
     let e4 = with_value e3 (variable Rest i) left in
-    let m5 = makes_plus e4 _ _ (pos w +ℤ pos 1) (floor_of left (2 ^ 31)) (w + 1) b
-    (makes_plus e4 (Value (variable Multiplier i)) (Constant (pos 1)) (pos w) (pos 1) w 1 (makes_value e4 (variable Multiplier i) (pos w) w (held_new e2 (variable Multiplier i) (pos w)) (le_refl w) kept_mean)
-    (makes_constant e4 (pos 1) 1 (omega arith) (omega arith)) (omega (arith, near.small)))
-    (makes_shifted e4 (Value (variable Rest i)) left b 31 (makes_value e4 (variable Rest i) left b (held_new e3 (variable Rest i) left) (little_left n b w near.low near.high) (omega (arith, bound))) (omega arith))
-    (omega (arith, near.small, bound)) in
-    runs_next kind e _ _ (pos n) P sum.defined (sum.is ∙ is) (fits64 (pos n) large)
+    let m5 = exact_made e4 Multiplier i n b h g.q w near (some_divisor k) g.short mean (held_new e3 (variable Rest i) left) in
+    runs_next kind e _ _ (pos n) P sum.defined (sum.is ∙ g.numerator) (fits64 (pos n) g.large)
     (runs_next kind e1 _ _ (pos h) P m2.defined m2.is (fits_width 32 (pos h) (omega (arith, near.head)))
-    (runs_next kind e2 _ _ (pos w) P m3.defined m3.is (mean_fits c state k made i r l (pos w) (omega (arith, less, most)))
-    (runs_next kind e3 _ _ left P m4.defined m4.is (fits_width 32 left (omega (arith, little_left n b w near.low near.high, bound)))
-    (runs_one kind e4 _ z P m5.defined (m5.is ∙ nearest n b w (some_divisor k) (omega (arith, bound)) near.low near.high ∙ mean) (mean_fits c state k made i r l z most)
+    (runs_next kind e2 _ _ (pos w) P m3.defined m3.is (mean_fits c state k made i r l (pos w) (below_mean c k made i (2 ^ 29) e g w near.low))
+    (runs_next kind e3 _ _ left P m4.defined m4.is (fits_width 32 left (omega (arith, m4.within, g.short)))
+    (runs_one kind e4 _ z P m5.defined (m5.is ∙ g.mean) (mean_fits c state k made i r l z g.top)
     (record {
       entry_bases = s.entry_bases;
       row_bases = s.row_bases;
@@ -369,10 +424,89 @@ quick_runs c state k made i e r l short few s =
       means = put (e4 Multiplier) (at (used_of c k made)) i z (used_at c k made i l) (λ j m. before_kept (e Multiplier) (at (used_of c k made)) i (pos w) s.means j m);
     })))))
 
+twice_runs : (c : Numbers) (state : List ℤ) (k : ℕ) (made : FastIterate) (i : ℕ) (e : Environment) → FastStepReady c state k made → i < length c.bounds →
+    Means c state k made (Reciprocated c (mean_divisor k)) i e → QuickRow c k made i (2 ^ 55) e →
+    Runs (kinds c (fast_sizes c)) e (twice_mean_statements i) (Means c state k made (Reciprocated c (mean_divisor k)) (suc i))
+twice_runs c state k made i e r l s g =
+    let kind = kinds c (fast_sizes c) in
+    let b = mean_divisor k in
+    let z = mean_at k made.multipliers made.reached i in
+    let P = Means c state k made (Reciprocated c b) (suc i) in
+    let x = 2 ^ g.scale.bits in
+    let n = g.n in
+    let high = n / 2 ^ 26 in
+    let h = high / x in
+    let w = h * g.q / 2 ^ 32 in
+    let cut = quotient_is n (2 ^ 26) (omega arith) in
+    let near = near_row c k made i (2 ^ 55) e g high (omega (arith, cut.low, g.below)) in
+    let first = first_round n high b h g.q w cut.low cut.high near in
+    let u = w * 2 ^ 26 in
+    let m = n - u * b in
+    let h2 = m / x in
+    let w2 = h2 * g.q / 2 ^ 32 in
+    let near2 = near_row c k made i (2 ^ 55) e g m (omega (arith, first.high, some_divisor k)) in
+    let large : m < 2 ^ 63 = omega (arith, g.large) in
+    let f = m / b in
+    let small : f < 2 ^ 27 = rest_small m b (some_divisor k) first.high in
+    let sum = more_means c state k made i e r l s in
+    let e1 = with_value e (variable Numerator i) (pos n) in
+    let whole = held_new e (variable Numerator i) (pos n) in
+    let m2 = makes_shifted_by e1 _ (variable Shift 0) (pos high) n g.scale.bits
+    (makes_shifted e1 (Value (variable Numerator i)) (pos n) n 26 (makes_value e1 (variable Numerator i) (pos n) n whole (le_refl n) g.large) (omega arith)) g.scale.shifts g.bits in
+    let e2 = with_value e1 (variable Head i) (pos h) in
+    let m3 = makes_multiplied e2 (near_expression i) (Constant (pos (2 ^ 26))) (pos w) (pos (2 ^ 26)) (2 ^ 30) (2 ^ 26) (2 ^ 56) (near_made e2 i high b h g.q near (held_new e1 (variable Head i) (pos h)) g.reciprocal)
+    (makes_constant e2 (pos (2 ^ 26)) (2 ^ 26) (le_refl (2 ^ 26)) (omega arith)) (omega (arith, near.small)) (omega arith) in
+    let e3 = with_value e2 (variable Multiplier i) (pos u) in
+    let mean = held_new e2 (variable Multiplier i) (pos u) in
+    let m4 = makes_minus e3 (Value (variable Numerator i)) _ (pos n) (pos u *ℤ pos b) n n n (makes_value e3 (variable Numerator i) (pos n) n whole (le_refl n) g.large)
+    (makes_multiplied e3 (Value (variable Multiplier i)) (Value (variable Divisor 0)) (pos u) (pos b) u b n (makes_value e3 (variable Multiplier i) (pos u) u mean (le_refl u) (omega (arith, near.small)))
+    (makes_value e3 (variable Divisor 0) (pos b) b s.divisor (le_refl b) (omega (arith, g.short))) first.low g.large) (omega (arith, ints, first.low)) g.large in
+    let left_is : pos n -ℤ pos u *ℤ pos b ≡ pos m = omega (arith, ints, first.low) in
+    let e4 = with_value e3 (variable Numerator i) (pos m) in
+    let part = held_new e3 (variable Numerator i) (pos m) in
+    let m5 = makes_shifted_by e4 _ (variable Shift 0) (pos m) m g.scale.bits (makes_value e4 (variable Numerator i) (pos m) m part (le_refl m) large) g.scale.shifts g.bits in
+    let e5 = with_value e4 (variable Head i) (pos h2) in
+    let m6 = near_made e5 i m b h2 g.q near2 (held_new e4 (variable Head i) (pos h2)) g.reciprocal in
+    let e6 = with_value e5 (variable Head i) (pos w2) in
+    let head = held_new e5 (variable Head i) (pos w2) in
+    let left = left_over m b w2 in
+    let m7 = rest_made e6 Head i m b h2 g.q w2 near2 large g.short part head s.divisor in
+    let e7 = with_value e6 (variable Rest i) left in
+    let m8 = exact_made e7 Head i m b h2 g.q w2 near2 (some_divisor k) g.short head (held_new e6 (variable Rest i) left) in
+    let e8 = with_value e7 (variable Head i) (pos f) in
+    let m9 = makes_plus e8 (Value (variable Multiplier i)) (Value (variable Head i)) (pos u) (pos f) u f (makes_value e8 (variable Multiplier i) (pos u) u mean (le_refl u) (omega (arith, near.small)))
+    (makes_value e8 (variable Head i) (pos f) f (held_new e7 (variable Head i) (pos f)) (le_refl f) (omega (arith, small))) (omega (arith, near.small, small)) in
+    runs_next kind e _ _ (pos n) P sum.defined (sum.is ∙ g.numerator) (fits64 (pos n) g.large)
+    (runs_next kind e1 _ _ (pos h) P m2.defined m2.is (fits_width 32 (pos h) (omega (arith, near.head)))
+    (runs_next kind e2 _ _ (pos u) P m3.defined m3.is (mean_fits c state k made i r l (pos u) (below_mean c k made i (2 ^ 55) e g u first.low))
+    (runs_next kind e3 _ _ (pos m) P m4.defined (m4.is ∙ left_is) (fits64 (pos m) large)
+    (runs_next kind e4 _ _ (pos h2) P m5.defined m5.is (fits_width 32 (pos h2) (omega (arith, near2.head)))
+    (runs_next kind e5 _ _ (pos w2) P m6.defined m6.is (fits_width 32 (pos w2) (omega (arith, near2.small)))
+    (runs_next kind e6 _ _ left P m7.defined m7.is (fits_width 32 left (omega (arith, m7.within, g.short)))
+    (runs_next kind e7 _ _ (pos f) P m8.defined m8.is (fits_width 32 (pos f) (omega (arith, small)))
+    (runs_one kind e8 _ z P m9.defined (m9.is ∙ with_rest n b u (some_divisor k) first.low ∙ g.mean) (mean_fits c state k made i r l z g.top)
+    (record {
+      entry_bases = s.entry_bases;
+      row_bases = s.row_bases;
+      own = s.own;
+      reached = s.reached;
+      sums = s.sums;
+      weight = s.weight;
+      divisor = s.divisor;
+      scale = s.scale;
+      means = put (e8 Multiplier) (at (used_of c k made)) i z (used_at c k made i l) (λ j m. before_kept (e Multiplier) (at (used_of c k made)) i (pos u) s.means j m);
+    })))))))))
+
 pub mean_runs : (c : Numbers) (state : List ℤ) (k : ℕ) (made : FastIterate) (i : ℕ) (e : Environment) → FastStepReady c state k made → i < length c.bounds →
     Means c state k made (Reciprocated c (mean_divisor k)) i e → Runs (kinds c (fast_sizes c)) e (mean_statements c i) (Means c state k made (Reciprocated c (mean_divisor k)) (suc i))
 mean_runs c state k made i e r l s =
-    cond_both (is_quick c i) (quick_mean_statements i) (Assign (variable Multiplier i) (mean_expression i) ∷ []) (λ ss. Runs (kinds c (fast_sizes c)) e ss (Means c state k made (Reciprocated c (mean_divisor k)) (suc i)))
-    (λ t. let parts = and_parts (has_short_divisor c) (ltb (unsigned_abs (fast_top c i)) (2 ^ 30)) t in
-    quick_runs c state k made i e r l parts.0 (ltb-true (unsigned_abs (fast_top c i)) (2 ^ 30) parts.1) s)
-    (λ f. divided_runs c state k made i e r l s)
+    let R = λ (ss : List Statement). Runs (kinds c (fast_sizes c)) e ss (Means c state k made (Reciprocated c (mean_divisor k)) (suc i)) in
+    let size = unsigned_abs (fast_top c i) in
+    let divided = Assign (variable Multiplier i) (mean_expression i) ∷ [] in
+    cond_both (is_quick c i) (quick_mean_statements i) (if is_twice_quick c i then twice_mean_statements i else divided) R
+    (λ t. let parts = and_parts (has_short_divisor c) (ltb size (2 ^ 30)) t in
+    quick_runs c state k made i e r l s (quick_row c state k made i (2 ^ 29) e r l parts.0 (omega (arith, ltb-true size (2 ^ 30) parts.1)) s))
+    (λ f. cond_both (is_twice_quick c i) (twice_mean_statements i) divided R
+    (λ t. let parts = and_parts (has_short_divisor c) (ltb size (2 ^ 56)) t in
+    twice_runs c state k made i e r l s (quick_row c state k made i (2 ^ 55) e r l parts.0 (omega (arith, ltb-true size (2 ^ 56) parts.1)) s))
+    (λ g. divided_runs c state k made i e r l s))

@@ -14,7 +14,7 @@ use Rattle.c_program.specs.Of.{zero_statements, is_row_needed, is_needed}
 use Rattle.c_program.specs.ByMachine.{sizes_for, plans_for}
 use Rattle.c_program.specs.Measured.{held_family}
 use Rattle.c_program.specs.declared.measured.Held.{Held}
-use Rattle.c_program.specs.declared.measured.Held.TheVariants.{Planned, Kept, Added}
+use Rattle.c_program.specs.declared.measured.Held.TheVariants.{Planned, Kept, Added, Near}
 use Rattle.c_program.proofs.Rooms.{fit_of}
 
 -- it is needed where the row is
@@ -22,6 +22,7 @@ pub held_part : (h : Held) (c : Numbers) (i : ℕ) → left_in (is_needed c) (ze
 held_part Planned c i = refl
 held_part Kept c i = refl
 held_part Added c i = refl
+held_part Near c i = refl
 
 -- ---- of an accelerated controller
 pub fast_moved_room : (c : Numbers) (i : ℕ) → IsFastController c → i < length c.bounds → moved_magnitude c i ≤ 2 ^ 126

@@ -12,8 +12,9 @@ use Rattle.c_program.specs.Syntax.Expression.{Constant, Value, Plus, Minus, Time
 use Rattle.c_program.specs.Syntax.Statement.{Declare, Assign}
 use Rattle.c_program.specs.Meaning.{variable_of}
 use Rattle.c_program.specs.Needed.{left_in}
-use Rattle.c_program.specs.Of.{state_top, multiplier_top, entry_top, plus_products, partner, is_first, is_second, loaded_statements, entry_base_statements, row_base_statements, zero_statements, before_of, difference_statements, gain_of, gain_variable, entry_statements, sum_statements, row_bits, plan_factor, lowered_value, lowered_base, plus_plan, gradient_statements, row_expression, row_sum_statements, move_statements, row_statements, repetition_body, any_below, is_product, is_row_needed, is_coordinate_needed, has_short_divisor, is_quick, is_any_quick, is_needed, whole_program}
-use Rattle.c_program.specs.FastOf.{first_weight, first_scale_lines, first_scale, fast_before_of, divisor_statement, scale_lines, scale_statements, mean_expression, quick_mean_statements, mean_statements, weighted_sum_statements, fast_move_statements, fast_row_statements, next_weight, fast_body, whole_fast_program}
+use Rattle.c_program.specs.Of.{state_top, multiplier_top, entry_top, plus_products, partner, is_first, is_second, loaded_statements, entry_base_statements, row_base_statements, zero_statements, before_of, difference_statements, gain_of, gain_variable, entry_statements, sum_statements, row_bits, plan_factor, lowered_value, lowered_base, plus_plan, gradient_statements, row_expression, row_sum_statements, move_statements, row_statements, repetition_body, any_below, is_product, is_row_needed, is_coordinate_needed, has_short_divisor, is_quick, is_twice_quick, is_any_quick, is_needed, whole_program}
+use Rattle.c_program.specs.FastOf.{first_weight, first_scale_lines, first_scale, fast_before_of, divisor_statement, scale_lines, scale_statements, mean_expression, quick_mean_statements, twice_mean_statements, mean_statements, weighted_sum_statements, fast_move_statements, fast_row_statements, next_weight, fast_body, whole_fast_program}
+use Rattle.overflow_check.specs.FastMachine.{fast_top}
 use Rattle.overflow_check.specs.declared.machine.Machine.{Machine}
 use Rattle.overflow_check.specs.declared.machine.Machine.TheVariants.{Plain, Accelerated}
 use Rattle.c_program.specs.ByMachine.{sum_for, row_for, start_for, means_for, step_for, next_for, before_for, body_for}
@@ -220,13 +221,20 @@ program_closed c = record { before = before_needs c; body = body_needs c }
 
 -- ---- of the accelerated machine
 -- the scale, where the mean of a needed row is made by it
-scale_needed : (c : Numbers) (i : ℕ) → i < length c.bounds → is_quick c i ≡ true → is_row_needed c i ≡ true → is_any_quick c ≡ true
+scale_needed : (c : Numbers) (i : ℕ) → i < length c.bounds → is_twice_quick c i ≡ true → is_row_needed c i ≡ true → is_any_quick c ≡ true
 unfolding is_any_quick
-scale_needed c i l q n = any_there (λ m. is_row_needed c m && is_quick c m) (length c.bounds) i l (and_both (is_row_needed c i) (is_quick c i) n q)
+scale_needed c i l q n = any_there (λ m. is_row_needed c m && is_twice_quick c m) (length c.bounds) i l (and_both (is_row_needed c i) (is_twice_quick c i) n q)
+
+-- a row of one round could take two
+quick_twice : (c : Numbers) (i : ℕ) → is_quick c i ≡ true → is_twice_quick c i ≡ true
+quick_twice c i q =
+    let t = unsigned_abs (fast_top c i) in
+    let parts = and_parts (has_short_divisor c) (ltb t (2 ^ 30)) q in
+    and_both (has_short_divisor c) (ltb t (2 ^ 56)) parts.0 (lt-ltb t (2 ^ 56) (omega (arith, ltb-true t (2 ^ 30) parts.1)))
 
 scale_divisor : (c : Numbers) → is_any_quick c ≡ true → any_below (is_row_needed c) (length c.bounds) ≡ true
 unfolding is_any_quick
-scale_divisor c h = any_first (is_row_needed c) (is_quick c) (length c.bounds) h
+scale_divisor c h = any_first (is_row_needed c) (is_twice_quick c) (length c.bounds) h
 
 scale_needs : (c : Numbers) → AreClosed (is_needed c) (scale_statements c)
 scale_needs c =
@@ -249,11 +257,28 @@ fast_before_needs c =
 mean_needs : (c : Numbers) (i : ℕ) → i < length c.bounds → AreClosed (is_needed c) (mean_statements c i)
 mean_needs c i l =
     let divisor : is_row_needed c i ≡ true → any_below (is_row_needed c) (length c.bounds) ≡ true = λ n. any_there (is_row_needed c) (length c.bounds) i l n in
-    cond_both (is_quick c i) (quick_mean_statements i) (Assign (variable Multiplier i) (mean_expression i) ∷ []) (AreClosed (is_needed c))
+    let divided = Assign (variable Multiplier i) (mean_expression i) ∷ [] in
+    let scale : is_twice_quick c i ≡ true → is_row_needed c i ≡ true → is_any_quick c ≡ true = λ q n. scale_needed c i l q n in
+    cond_both (is_quick c i) (quick_mean_statements i) (if is_twice_quick c i then twice_mean_statements i else divided) (AreClosed (is_needed c))
     (λ q.
-    let scale : is_row_needed c i ≡ true → is_any_quick c ≡ true = λ n. scale_needed c i l q n in
-    ((λ n. (n, (refl, n))), ((λ n. (n, scale n)), ((λ n. (n, scale n)), ((λ n. ((n, (n, divisor n)), divisor n)), ((λ n. ((n, tt), n)), tt))))))
-    (λ f. ((λ n. ((n, (refl, n)), divisor n)), tt))
+    let by : is_row_needed c i ≡ true → is_any_quick c ≡ true = scale (quick_twice c i q) in
+    ((λ n. (n, (refl, n))), ((λ n. (n, by n)), ((λ n. (n, by n)), ((λ n. ((n, (n, divisor n)), divisor n)), ((λ n. ((n, tt), n)), tt))))))
+    (λ f. cond_both (is_twice_quick c i) (twice_mean_statements i) divided (AreClosed (is_needed c))
+    (λ q.
+    let by = scale q in (
+      (λ n. (n, (refl, n))),
+      (
+        (λ n. (n, by n)),
+        (
+          (λ n. ((n, by n), tt)),
+          (
+            (λ n. (n, (n, divisor n))),
+            ((λ n. (n, by n)), ((λ n. (n, by n)), ((λ n. ((n, (n, divisor n)), divisor n)), ((λ n. ((n, tt), n)), ((λ n. (n, n)), tt))))),
+          ),
+        ),
+      ),
+    ))
+    (λ g. ((λ n. ((n, (refl, n)), divisor n)), tt)))
 
 fast_move_needs : (c : Numbers) (i : ℕ) → AreClosed (is_needed c) (fast_move_statements c i)
 fast_move_needs c i =

@@ -29,11 +29,10 @@ short_reciprocal b x q low h = elim (cases_lt q (2 ^ 31)) [
   | inr more ↦ absurd (omega (arith, low, h, mul-le (2 ^ 31) b q b more (le_refl b)))
 ]
 
--- a dividend of at most t halves of the divisor
-pub short_head : (n b x t h : ℕ) → 2 * n ≤ t * b → b < 4 * x → h * x ≤ n → h ≤ 2 * t
-short_head n b x t h most high low = elim (cases_lt (2 * t) h) [
-  | inl less ↦ absurd (omega (arith, most, high, low, mul-le t b t (4 * x) (le_refl t) (omega (arith, high)), mul-le (2 * t + 1) x h x (omega (arith, less)) (le_refl x)))
-  | inr more ↦ more
+short_head : (n b x h : ℕ) → n < 2 ^ 29 * b → b < 4 * x → h * x ≤ n → h < 2 ^ 31
+short_head n b x h most high low = elim (cases_lt h (2 ^ 31)) [
+  | inl less ↦ less
+  | inr more ↦ absurd (omega (arith, most, high, low, mul-le (2 ^ 31) x h x more (le_refl x)))
 ]
 
 -- the quotient or one less
@@ -57,15 +56,15 @@ near_high n b x h q l head reciprocal near room = omega (
   mul-le (h + q) b (2 ^ 32) b room (le_refl b),
 )
 
-pub near_is : (n b x t : ℕ) → 0 < x → 2 * x ≤ b → b < 4 * x → 2 * n ≤ t * b → t < 2 ^ 30 → IsNear n b (n / x) ((2 ^ 32 * x - 1) / b) (((n / x) * ((2 ^ 32 * x - 1) / b)) / 2 ^ 32)
-near_is n b x t some low high most few =
+pub near_is : (n b x : ℕ) → 0 < x → 2 * x ≤ b → b < 4 * x → n < 2 ^ 29 * b → IsNear n b (n / x) ((2 ^ 32 * x - 1) / b) (((n / x) * ((2 ^ 32 * x - 1) / b)) / 2 ^ 32)
+near_is n b x some low high most =
     let h = n / x in
     let q = (2 ^ 32 * x - 1) / b in
     let head = quotient_is n x some in
     let reciprocal = quotient_is (2 ^ 32 * x - 1) b (omega (arith, some, low)) in
     let near = quotient_is (h * q) (2 ^ 32) (omega arith) in
     let least : q * b + 1 ≤ 2 ^ 32 * x = omega (arith, reciprocal.low, some) in
-    let short : h < 2 ^ 31 = omega (arith, short_head n b x t h most high head.low, few) in
+    let short : h < 2 ^ 31 = short_head n b x h most high head.low in
     let little = short_reciprocal b x q low least in
     record {
       head = short;
@@ -76,7 +75,7 @@ near_is n b x t some low high most few =
     }
 
 -- ---- which of the two
-quotient_floor : (n b l : ℕ) → 0 < b → l * b ≤ n → n < l * b + b → pos l ≡ floor_of (pos n) b
+pub quotient_floor : (n b l : ℕ) → 0 < b → l * b ≤ n → n < l * b + b → pos l ≡ floor_of (pos n) b
 quotient_floor n b l p h k = floor_unique (pos n) b (pos l) p (record { least = omega (arith, ints, h); greatest = omega (arith, ints, k) })
 
 -- what is left over, less the divisor
@@ -93,3 +92,24 @@ nearest n b l p short h k =
     (let e : (pos l +ℤ pos 1) +ℤ negsuc 0 ≡ pos l = omega (arith, ints) in e) ∙ quotient_floor n b l p h (omega (arith, ints, s)))
     (λ s. ap (λ (y : ℤ). (pos l +ℤ pos 1) +ℤ y) (sign_up (left_over n b l) (2 ^ 31) s (omega (arith, ints, k, short))) ∙
     (let e : (pos l +ℤ pos 1) +ℤ pos 0 ≡ pos (l + 1) = omega (arith, ints) in e) ∙ quotient_floor n b (l + 1) p (omega (arith, ints, s)) (omega (arith, k)))
+
+-- ---- in two rounds, the first without the last 26 bits
+pub record IsFirstRound (n b g : ℕ) : Type 0 where
+  pub low : g * 2 ^ 26 * b ≤ n
+  pub high : n - g * 2 ^ 26 * b < 2 ^ 27 * b
+
+pub first_round : (n m b h q g : ℕ) → m * 2 ^ 26 ≤ n → n < m * 2 ^ 26 + 2 ^ 26 → IsNear m b h q g → IsFirstRound n b g
+first_round n m b h q g low high near = record { low = omega (arith, low, near.low); high = omega (arith, high, near.high, near.low, low) }
+
+-- what one round leaves, divided
+pub with_rest : (n b l : ℕ) → 0 < b → l * b ≤ n → pos l +ℤ floor_of (pos (n - l * b)) b ≡ floor_of (pos n) b
+with_rest n b l p h =
+    let f = (n - l * b) / b in
+    let is = quotient_is (n - l * b) b p in
+    quotient_floor n b (l + f) p (omega (arith, h, is.low)) (omega (arith, h, is.high))
+
+pub rest_small : (m b : ℕ) → 0 < b → m < 2 ^ 27 * b → m / b < 2 ^ 27
+rest_small m b p h = elim (cases_lt (m / b) (2 ^ 27)) [
+  | inl less ↦ less
+  | inr more ↦ absurd (omega (arith, h, (quotient_is m b p).low, mul-le (2 ^ 27) b (m / b) b more (le_refl b)))
+]

@@ -23,8 +23,8 @@ use Rattle.c_program.specs.Syntax.Expression.{Constant, Value, Plus, Minus, Time
 use Rattle.c_program.specs.Syntax.Statement.{Declare, Assign, AtLeastZero, AtMost}
 use Rattle.c_program.specs.Meaning.{Environment, IsDefined, variable_of, done, IsDone, AreDone, handed}
 use Rattle.c_program.specs.Needed.{left_in, needed_part}
-use Rattle.c_program.specs.Of.{state_top, multiplier_top, entry_top, row_bits, plan_factor, lowered_base, plus_plan, partner, is_first, is_second, loaded_statements, entry_base_statements, row_base_statements, zero_statements, before_of, difference_statements, gain_of, gain_variable, entry_statements, sum_statements, gradient_statements, row_expression, row_sum_statements, moved_expression, move_statements, row_statements, repetition_body, average_of, shifted_average, divided_average, has_short_divisor, is_quick, is_needed}
-use Rattle.c_program.specs.FastOf.{first_weight, first_scale_lines, first_scale, fast_before_of, divisor_statement, scale_lines, scale_statements, mean_expression, quick_mean_statements, mean_statements, weighted_sum_statements, fast_moved_expression, reached_expression, fast_move_statements, fast_row_statements, next_weight, fast_body}
+use Rattle.c_program.specs.Of.{state_top, multiplier_top, entry_top, row_bits, plan_factor, lowered_base, plus_plan, partner, is_first, is_second, loaded_statements, entry_base_statements, row_base_statements, zero_statements, before_of, difference_statements, gain_of, gain_variable, entry_statements, sum_statements, gradient_statements, row_expression, row_sum_statements, moved_expression, move_statements, row_statements, repetition_body, average_of, shifted_average, divided_average, has_short_divisor, is_quick, is_twice_quick, is_needed}
+use Rattle.c_program.specs.FastOf.{first_weight, first_scale_lines, first_scale, fast_before_of, divisor_statement, scale_lines, scale_statements, mean_expression, quick_mean_statements, twice_mean_statements, mean_statements, weighted_sum_statements, fast_moved_expression, reached_expression, fast_move_statements, fast_row_statements, next_weight, fast_body}
 use Rattle.c_program.specs.Laws.{HasShortNumbers, HasShortOperands, HasShortText, SolvesTo, ShortTextLaw, FastShortTextLaw, ProgramLaw, FastProgramLaw}
 use Rattle.c_program.proofs.Runs.{groups_none, groups_more}
 use Rattle.c_program.proofs.Pairs.{pair_there, later_there}
@@ -215,10 +215,25 @@ mean_small : (c : Numbers) (i : ℕ) → AreFew c → i < length c.bounds → Al
 mean_small c i w l =
     let own = small_at (length c.bounds) i l w.rows in
     let number : i < 2 ^ 64 = omega (arith, l, w.rows) in
-    cond_both (is_quick c i) (quick_mean_statements i) (Assign (variable Multiplier i) (mean_expression i) ∷ []) (All IsSmall)
+    let divided = Assign (variable Multiplier i) (mean_expression i) ∷ [] in
+    cond_both (is_quick c i) (quick_mean_statements i) (if is_twice_quick c i then twice_mean_statements i else divided) (All IsSmall)
     (λ t. listed (quick_mean_statements i)
     ((number, (own, (refl, own))), ((number, (own, refl)), ((number, (own, refl)), ((number, ((own, (own, refl)), refl)), ((number, ((own, tt), own)), tt))))))
-    (λ f. one _ (number, ((own, (refl, own)), refl)))
+    (λ f. cond_both (is_twice_quick c i) (twice_mean_statements i) divided (All IsSmall)
+    (λ t. listed (twice_mean_statements i) (
+      (number, (own, (refl, own))),
+      (
+        (number, (own, refl)),
+        (
+          (number, ((own, refl), tt)),
+          (
+            (number, (own, (own, refl))),
+            ((number, (own, refl)), ((number, (own, refl)), ((number, ((own, (own, refl)), refl)), ((number, ((own, tt), own)), ((number, (own, own)), tt))))),
+          ),
+        ),
+      ),
+    ))
+    (λ g. listed divided ((number, ((own, (refl, own)), refl)), tt)))
 
 fast_row_small : (c : Numbers) (i : ℕ) → AreFew c → i < length c.bounds → All IsSmall (fast_row_statements c i)
 fast_row_small c i w l =

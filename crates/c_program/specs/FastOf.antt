@@ -4,12 +4,12 @@ use Rattle.std.specs.List.{range_with_len}
 use Rattle.qp_model.specs.machine.Controller.{Numbers}
 use Rattle.overflow_check.specs.FastMachine.{all_weights, mean_divisor, fast_top}
 use Rattle.overflow_check.specs.FastController.{moved_magnitude, reached_magnitude, fast_sum_magnitude}
-use Rattle.c_program.specs.Syntax.{variable, Expression, Statement, groups, CProgram}
+use Rattle.c_program.specs.Syntax.{Family, variable, Expression, Statement, groups, CProgram}
 use Rattle.c_program.specs.Needed.{needed_part}
 use Rattle.c_program.specs.Syntax.Family.{Multiplier, Entry, RowSum, Moved, Sum, Own, Reached, Weight, Divisor, Shift, Power, Doubling, Reciprocal, Numerator, Head, Rest}
 use Rattle.c_program.specs.Syntax.Expression.{Constant, Value, Plus, Minus, Times, Over, Shifted, ShiftedBy}
 use Rattle.c_program.specs.Syntax.Statement.{Declare, Assign, AtLeastZero, AtMost}
-use Rattle.c_program.specs.Of.{Sizes, kind_by, lowered_value, row_bits, zero_statements, before_of, difference_statements, entry_statements, gradient_statements, row_sum_statements, average_of, has_short_divisor, is_quick, is_needed}
+use Rattle.c_program.specs.Of.{Sizes, kind_by, lowered_value, row_bits, zero_statements, before_of, difference_statements, entry_statements, gradient_statements, row_sum_statements, average_of, has_short_divisor, is_quick, is_twice_quick, is_needed}
 
 -- ---- what the variables are at most in absolute value
 abbrev pub fast_sizes : Numbers → Sizes
@@ -76,25 +76,45 @@ mean_expression i = Over (numerator_expression i) (variable Divisor 0)
 abbrev pub near_expression : ℕ → Expression
 near_expression i = Shifted (Times (Value (variable Head i)) (Value (variable Reciprocal 0))) 32
 
-abbrev pub rest_expression : ℕ → Expression
-rest_expression i =
-    Minus (Minus (Value (variable Numerator i)) (Times (Value (variable Multiplier i)) (Value (variable Divisor 0)))) (Value (variable Divisor 0))
+abbrev pub rest_expression : Family → ℕ → Expression
+rest_expression f i =
+    Minus (Minus (Value (variable Numerator i)) (Times (Value (variable f i)) (Value (variable Divisor 0)))) (Value (variable Divisor 0))
 
 abbrev pub near_statements : ℕ → List Statement
 near_statements i =
     Declare (variable Numerator i) (numerator_expression i)
     ∷ Declare (variable Head i) (ShiftedBy (Value (variable Numerator i)) (variable Shift 0)) ∷ Assign (variable Multiplier i) (near_expression i) ∷ []
 
-abbrev pub exact_statements : ℕ → List Statement
-exact_statements i =
-    Declare (variable Rest i) (rest_expression i)
-    ∷ Assign (variable Multiplier i) (Plus (Plus (Value (variable Multiplier i)) (Constant (pos 1))) (Shifted (Value (variable Rest i)) 31)) ∷ []
+-- from the quotient of what is left of row i's numerator, or one less, that quotient
+abbrev pub exact_statements : Family → ℕ → List Statement
+exact_statements f i =
+    Declare (variable Rest i) (rest_expression f i)
+    ∷ Assign (variable f i) (Plus (Plus (Value (variable f i)) (Constant (pos 1))) (Shifted (Value (variable Rest i)) 31)) ∷ []
 
 abbrev pub quick_mean_statements : ℕ → List Statement
-quick_mean_statements i = near_statements i ++ exact_statements i
+quick_mean_statements i = near_statements i ++ exact_statements Multiplier i
+
+-- a greater numerator is divided without its last 26 bits first, and then what that leaves of it
+abbrev pub first_round_statements : ℕ → List Statement
+first_round_statements i =
+    Declare (variable Numerator i) (numerator_expression i)
+    ∷ Declare (variable Head i) (ShiftedBy (Shifted (Value (variable Numerator i)) 26) (variable Shift 0))
+    ∷ Assign (variable Multiplier i) (Times (near_expression i) (Constant (pos (2 ^ 26))))
+    ∷ Assign (variable Numerator i) (Minus (Value (variable Numerator i)) (Times (Value (variable Multiplier i)) (Value (variable Divisor 0)))) ∷ []
+
+abbrev pub second_round_statements : ℕ → List Statement
+second_round_statements i =
+    Assign (variable Head i) (ShiftedBy (Value (variable Numerator i)) (variable Shift 0)) ∷ Assign (variable Head i) (near_expression i) ∷ []
+
+abbrev pub rounds_statements : ℕ → List Statement
+rounds_statements i = Assign (variable Multiplier i) (Plus (Value (variable Multiplier i)) (Value (variable Head i))) ∷ []
+
+abbrev pub twice_mean_statements : ℕ → List Statement
+twice_mean_statements i = first_round_statements i ++ second_round_statements i ++ exact_statements Head i ++ rounds_statements i
 
 abbrev pub mean_statements : Numbers → ℕ → List Statement
-mean_statements c i = if is_quick c i then quick_mean_statements i else Assign (variable Multiplier i) (mean_expression i) ∷ []
+mean_statements c i =
+    if is_quick c i then quick_mean_statements i else (if is_twice_quick c i then twice_mean_statements i else Assign (variable Multiplier i) (mean_expression i) ∷ [])
 
 abbrev pub weighted_sum_statements : ℕ → List Statement
 weighted_sum_statements j = Assign (variable Sum j) (Plus (Value (variable Sum j)) (weighted (Value (variable Entry j)))) ∷ []

@@ -1,15 +1,15 @@
 -- The controller that a text is written from, and the lines of its statements.
-use Rattle.std.specs.Prelude.{ℕ, if◌then◌else◌, List, [], length, codes}
+use Rattle.std.specs.Prelude.{ℕ, ◌-◌, ◌^◌, if◌then◌else◌, List, [], length, codes}
 use Rattle.qp_model.specs.machine.Controller.{Numbers, numbers}
 use Rattle.c_program.specs.Syntax.{Family, Variable, Kind, Statement, CProgram}
-use Rattle.c_program.specs.Syntax.Family.{Multiplier, Own, Reached}
+use Rattle.c_program.specs.Syntax.Family.{Multiplier, Own, Reached, Head}
 use Rattle.c_program.specs.Needed.{left_in}
 use Rattle.c_program.specs.Of.{Sizes, multiplier_top, is_needed, is_row_needed, is_coordinate_needed}
 use Rattle.c_program.specs.ByMachine.{sizes_for, kinds_for, program_for}
 use Rattle.c_program.specs.Terms.{block_text}
 use Rattle.c_program.specs.declared.measured.Measured.{Measured}
 use Rattle.c_program.specs.declared.measured.Held.{Held}
-use Rattle.c_program.specs.declared.measured.Held.TheVariants.{Planned, Kept, Added}
+use Rattle.c_program.specs.declared.measured.Held.TheVariants.{Planned, Kept, Added, Near}
 
 abbrev pub controller_in : Measured → Numbers
 controller_in m = numbers m.c.now
@@ -35,11 +35,13 @@ abbrev pub held_family : Held → Family
 held_family Planned = Multiplier
 held_family Kept = Own
 held_family Added = Reached
+held_family Near = Head
 
 abbrev pub held_size : Measured → Held → ℕ → ℕ
 held_size m Planned i = multiplier_top (controller_in m) i
 held_size m Kept i = (sizes_in m).own i
 held_size m Added i = (sizes_in m).reached
+held_size m Near i = 2 ^ 31 - 1
 
 -- statements before the loop, and those of its body
 abbrev pub start_text : Measured → List Statement → List ℕ

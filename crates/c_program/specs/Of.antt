@@ -270,11 +270,18 @@ is_coordinate_needed c k =
 abbrev pub has_short_divisor : Numbers → Bool
 has_short_divisor c = nat_lt (mean_divisor c.steps) (2 ^ 31)
 
+abbrev pub is_quick_within : (bits : ℕ) → Numbers → ℕ → Bool
+is_quick_within bits c i = has_short_divisor c && nat_lt (unsigned_abs (fast_top c i)) (2 ^ bits)
+
 abbrev pub is_quick : Numbers → ℕ → Bool
-is_quick c i = has_short_divisor c && nat_lt (unsigned_abs (fast_top c i)) (2 ^ 30)
+is_quick = is_quick_within 30
+
+-- and with greater multipliers in two rounds
+abbrev pub is_twice_quick : Numbers → ℕ → Bool
+is_twice_quick = is_quick_within 56
 
 unfoldable pub is_any_quick : Numbers → Bool
-is_any_quick c = any_below (λ i. is_row_needed c i && is_quick c i) (length c.bounds)
+is_any_quick c = any_below (λ i. is_row_needed c i && is_twice_quick c i) (length c.bounds)
 
 abbrev pub needed_of : Numbers → Family → ℕ → Bool
 needed_of c State k = true

@@ -11,7 +11,9 @@ ghost use Rattle.c_program.specs.Measured.{controller_in, row_count, start_text,
 
 use crate::measured::{Held, Measured};
 use crate::needed::{is_any_row_needed, is_row_needed_at};
-use crate::quick::{is_quick_at, push_first_scale, push_quick_mean, push_scale};
+use crate::quick::{
+    is_quick_at, is_twice_quick_at, push_first_scale, push_quick_mean, push_scale, push_twice_mean,
+};
 use crate::start::push_zeros;
 use crate::tops::{divisor_top, held_kind};
 use crate::words::{kind_word, push_pieces};
@@ -111,6 +113,8 @@ fn push_mean(from: &Measured, text: &mut String, i: usize) -> Result<(), AllocEr
 {
     if is_quick_at(from, i) {
         push_quick_mean(from, text, i)
+    } else if is_twice_quick_at(from, i) {
+        push_twice_mean(from, text, i)
     } else {
         push_divided_mean(from, text, i)
     }

@@ -10,7 +10,7 @@ use overflow_check::Machine;
 use qp_model::ControllerParts;
 use std::alloc::Global;
 
-/// What stays of a row from one step to the next.
+/// What is held of a row.
 #[derive(Clone, Copy)]
 pub enum Held {
     /// The multiplier that the plan is made at; of the accelerated machine, the mean.
@@ -19,6 +19,8 @@ pub enum Held {
     Kept,
     /// The sum of these by their weights.
     Added,
+    /// What is divided for the mean without its last bits, and then its quotient.
+    Near,
 }
 
 /// A controller and its machine, the greatest absolute values of the coordinates of its states and of the entries of its plans, and the partner of each row.

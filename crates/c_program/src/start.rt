@@ -147,6 +147,7 @@ pub fn held_letter(held: Held) -> &'static str
         Held::Planned => "l",
         Held::Kept => "m",
         Held::Added => "v",
+        Held::Near => "h",
     }
 }
 

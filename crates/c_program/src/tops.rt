@@ -171,6 +171,7 @@ fn held_top(from: &Measured, held: Held, i: usize) -> u128
         Held::Planned => multiplier_top(from.c, i),
         Held::Kept => own_top(from, i),
         Held::Added => reached_top(from),
+        Held::Near => (1 << 31) - 1,
     }
 }
 
