@@ -316,7 +316,7 @@ outputs_needed c [] = tt
 outputs_needed c (j ∷ js) = (refl, outputs_needed c js)
 
 -- ---- what is left in
-constant_part : (b : Bool) (ss : List Statement) → left_in (λ v. b) ss ≡ (if b then ss else [])
+pub constant_part : (b : Bool) (ss : List Statement) → left_in (λ v. b) ss ≡ (if b then ss else [])
 constant_part true [] = refl
 constant_part true (s ∷ ss) = ap (λ (ts : List Statement). s ∷ ts) (constant_part true ss)
 constant_part false [] = refl

@@ -15,6 +15,7 @@ use Rattle.c_program.specs.ByMachine.{kinds_for}
 use Rattle.c_program.specs.Text.{variable_text, kind_text}
 use Rattle.c_program.specs.Needed.{left_in}
 use Rattle.c_program.specs.Terms.{block_text}
+use Rattle.c_program.proofs.ProgramNeeds.{constant_part}
 
 -- ---- the scale
 pub first_scale_text : (m : Machine) (c : Numbers) →
@@ -151,17 +152,10 @@ pub quick_is_short : (c : Numbers) → is_any_quick c ≡ true → has_short_div
 unfolding is_any_quick
 quick_is_short c h = any_short (is_row_needed c) (λ i. ltb (unsigned_abs (fast_top c i)) (2 ^ 56)) (has_short_divisor c) (length c.bounds) h
 
--- statements that all are needed or not
-all_left : (b : Bool) (ss : List Statement) → left_in (λ v. b) ss ≡ (if b then ss else [])
-all_left true [] = refl
-all_left true (s ∷ ss) = ap (λ (ts : List Statement). s ∷ ts) (all_left true ss)
-all_left false [] = refl
-all_left false (s ∷ ss) = all_left false ss
-
 pub mean_part : (c : Numbers) (i : ℕ) → left_in (is_needed c) (mean_statements c i) ≡ (if is_row_needed c i then mean_statements c i else [])
 mean_part c i =
     let P = λ (ss : List Statement). left_in (is_needed c) ss ≡ (if is_row_needed c i then ss else []) in
-    let all = all_left (is_row_needed c i) in
+    let all = constant_part (is_row_needed c i) in
     cond_both (is_quick c i) (quick_mean_statements i) _ P (λ t. all (quick_mean_statements i))
     (λ f. cond_both (is_twice_quick c i) (twice_mean_statements i) (Assign (variable Multiplier i) (mean_expression i) ∷ []) P (λ t. all (twice_mean_statements i)) (λ g. refl))
 
@@ -173,7 +167,7 @@ left_where false false needed ss e h = refl
 
 pub first_scale_part : (c : Numbers) → left_in (is_needed c) (first_scale c) ≡ (if is_any_quick c then first_scale_lines else [])
 first_scale_part c =
-    left_where (has_short_divisor c) (is_any_quick c) (is_needed c) first_scale_lines (all_left (is_any_quick c) first_scale_lines) (quick_is_short c)
+    left_where (has_short_divisor c) (is_any_quick c) (is_needed c) first_scale_lines (constant_part (is_any_quick c) first_scale_lines) (quick_is_short c)
 
 pub scale_part : (c : Numbers) → left_in (is_needed c) (scale_statements c) ≡ (if is_any_quick c then scale_lines else [])
-scale_part c = left_where (has_short_divisor c) (is_any_quick c) (is_needed c) scale_lines (all_left (is_any_quick c) scale_lines) (quick_is_short c)
+scale_part c = left_where (has_short_divisor c) (is_any_quick c) (is_needed c) scale_lines (constant_part (is_any_quick c) scale_lines) (quick_is_short c)
