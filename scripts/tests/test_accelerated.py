@@ -179,6 +179,12 @@ class Explained(unittest.TestCase):
         self.assertEqual((costs.step["accelerated mean by a reciprocal"], costs.step["accelerated reciprocal"]), (3, 1))
         self.assertEqual(c_costs.accelerated_cycles(found, 3), costs.cycles)
         self.assertRegex("\n".join(told), rf"as C \(./mpc c\): no tables; .*\n.*on a Cortex-M4 about {c_costs.rounded(costs.cycles)} cycles a run, .*; about [0-9,]+ bytes of flash, {costs.ram} of RAM")
+        # how means are made rests on how great multipliers can be, and on K
+        kinds = lambda **changed: [AcceleratedCosts(replace(found, **changed)).mean(i) for i in range(3)]
+        once, twice, divided = "mean by a reciprocal", "mean by a reciprocal, in two rounds", "mean by a division"
+        self.assertEqual(kinds(clamp=2**29), [once, twice, twice])
+        self.assertEqual(kinds(clamp=2**55), [twice, divided, divided])
+        self.assertEqual(kinds(steps=46338) + kinds(steps=46339), 3 * [once] + 3 * [divided])
         # a gain of 1 is a sum
         one = AcceleratedCosts(controller_of(controller.replace("W 128 -128 128", "W 1 -128 128").replace("exps 0 1 1", "exps 1 1 1")))
         self.assertEqual((one.step["entry's sum"], one.cycles > 0, one.flash > 0, one.ram > 0), (1, True, True, True))

@@ -154,6 +154,13 @@ class Programs(unittest.TestCase):
         c = control.read_controller(FAST, (3,))
         self.assertEqual(control.run(c, [1]), [-2480])
         self.runs_as_the_machine(c, random.Random(1), 0)
+        # means by a reciprocal in one round and in two, and by a division
+        for clamp, steps, *counts in ((2**29 - 1, 40, 3, 3), (2**29, 40, 1, 3), (2**55, 6, 0, 1), (2**56, 6, 0, 0)):
+            c.w_mat, c.clamp, c.steps = [[1, -1, 1]], clamp, steps
+            c.w = control.least_width(c)
+            made = compiled.program_of(c)
+            self.assertEqual(([len(made.quick), len(made.twice_quick)], c.w <= compiled.MOST_WIDTH), (counts, True))
+            self.runs_as_the_machine(c, random.Random(2), 0, ["-fsanitize=undefined", "-fno-sanitize-recover"])
         pick, tried = random.Random(5), 0
         while tried < 12:
             _, c = cases.random_controller(pick, versions=(3,))
