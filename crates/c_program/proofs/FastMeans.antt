@@ -256,17 +256,14 @@ next_scale k shift power g = record {
 abbrev mean_sum : ℕ → FastIterate → ℕ → ℤ
 mean_sum k made i = at made.reached i +ℤ pos (step_weight k) *ℤ at made.multipliers i
 
-mean_room : (c : Numbers) (state : List ℤ) (k : ℕ) (made : FastIterate) (i : ℕ) → FastStepReady c state k made → i < length c.bounds → multiplier_top c i < 2 ^ 63
-mean_room c state k made i r l = omega (arith, top_le_clamp c i, r.ready.fit.next i l)
-
 mean_fits : (c : Numbers) (state : List ℤ) (k : ℕ) (made : FastIterate) (i : ℕ) → FastStepReady c state k made → i < length c.bounds → (z : ℤ) → unsigned_abs z ≤ multiplier_top c i →
     FitsWidth (bits_of (kind_for (multiplier_top c i))) z
-mean_fits c state k made i r l z h = kind_fits (multiplier_top c i) z h (mean_room c state k made i r l)
+mean_fits c state k made i r l z h = kind_fits (multiplier_top c i) z h (omega (arith, top_le_clamp c i, r.ready.fit.next i l))
 
--- of which there is one more
-more_means : (c : Numbers) (state : List ℤ) (k : ℕ) (made : FastIterate) (i : ℕ) (e : Environment) → FastStepReady c state k made → i < length c.bounds →
+-- what is divided for it
+numerator_made : (c : Numbers) (state : List ℤ) (k : ℕ) (made : FastIterate) (i : ℕ) (e : Environment) → FastStepReady c state k made → i < length c.bounds →
     Means c state k made (Reciprocated c (mean_divisor k)) i e → Makes e (numerator_expression i) (mean_sum k made i) (all_weights k * unsigned_abs (fast_top c i) + step_weight k * unsigned_abs (fast_top c i))
-more_means c state k made i e r l s =
+numerator_made c state k made i e r l s =
     let t = unsigned_abs (fast_top c i) in
     let rows = r.before.rows in
     let room : all_weights k * t + step_weight k * t < 2 ^ 63 = omega (arith, reached_le c k i r.inside, r.fit.reached) in
@@ -279,7 +276,7 @@ divided_runs : (c : Numbers) (state : List ℤ) (k : ℕ) (made : FastIterate) (
     Means c state k made (Reciprocated c (mean_divisor k)) i e → Runs (kinds c (fast_sizes c)) e (Assign (variable Multiplier i) (mean_expression i) ∷ []) (Means c state k made (Reciprocated c (mean_divisor k)) (suc i))
 divided_runs c state k made i e r l s =
     let rows = r.before.rows in
-    let m = makes_over e _ (variable Divisor 0) _ _ (mean_divisor k) (more_means c state k made i e r l s) s.divisor (some_divisor k) (divisor_small k (omega (arith, r.inside, r.few)))
+    let m = makes_over e _ (variable Divisor 0) _ _ (mean_divisor k) (numerator_made c state k made i e r l s) s.divisor (some_divisor k) (divisor_small k (omega (arith, r.inside, r.few)))
     (mean_up c k made.multipliers made.reached i rows l).low in
     runs_one (kinds c (fast_sizes c)) e _ (mean_at k made.multipliers made.reached i) (Means c state k made (Reciprocated c (mean_divisor k)) (suc i)) m.defined m.is
     (mean_fits c state k made i r l (mean_at k made.multipliers made.reached i) (mean_le c k made.multipliers made.reached i r.ready.nonneg rows l))
@@ -295,14 +292,14 @@ divided_runs c state k made i e r l s =
       means = put (e Multiplier) (at (used_of c k made)) i _ (used_at c k made i l) s.means;
     })
 
--- a numerator is less than so many halves of the divisor
+-- less than so many times the divisor, where each multiplier is less than twice as many
 below : (n a t b w : ℕ) → b ≡ 2 * a → 0 < b → n ≤ a * t → t < 2 * w → n < w * b
 below n a t b w e some h few = rw e (omega (arith, rw e at some, h, mul-le a (t + 1) a (2 * w) (le_refl a) (omega (arith, few))))
 
 nonneg_is : (z : ℤ) → pos 0 ≤ℤ z → z ≡ pos (unsigned_abs z)
 nonneg_is z h = omega (arith, ints, h)
 
--- its head by the reciprocal
+-- by the reciprocal it is the quotient or one less
 near_made : (e : Environment) (i n b h q : ℕ) → IsNear n b h q (h * q / 2 ^ 32) → e Head i ≡ pos h → e Reciprocal 0 ≡ pos q → Makes e (near_expression i) (pos (h * q / 2 ^ 32)) (2 ^ 30)
 near_made e i n b h q near head reciprocal =
     let product : h * q ≤ 2 ^ 62 = omega (arith, mul-le h q (2 ^ 31) (2 ^ 31) (omega (arith, near.head)) (omega (arith, near.reciprocal))) in
@@ -311,7 +308,7 @@ near_made e i n b h q near head reciprocal =
     (makes_value e (variable Reciprocal 0) (pos q) q reciprocal (le_refl q) (omega (arith, near.reciprocal))) product (omega arith)) (omega arith) in
     record { defined = m.defined; is = m.is; within = near.small }
 
--- what is left of it, and the mean, or what is added to it
+-- which of the two, what is left over tells
 rest_made : (e : Environment) (f : Family) (i n b h q w : ℕ) → IsNear n b h q w → n < 2 ^ 63 → b < 2 ^ 31 → e Numerator i ≡ pos n → e f i ≡ pos w → e Divisor 0 ≡ pos b → Makes e (rest_expression f i) (left_over n b w) b
 rest_made e f i n b h q w near large short numerator held divisor =
     let over = makes_value e (variable Divisor 0) (pos b) b divisor (le_refl b) (omega (arith, short)) in
@@ -367,7 +364,7 @@ quick_row c state k made i most e r l short few s =
       is_reciprocal = refl;
       numerator = is;
       below = below n (all_weights (suc k)) t b most (weight_sum_law.divisor k) (some_divisor k) up.high few;
-      large = omega (arith, (more_means c state k made i e r l s).within, reached_le c k i r.inside, r.fit.reached);
+      large = omega (arith, (numerator_made c state k made i e r l s).within, reached_le c k i r.inside, r.fit.reached);
       mean = ap (λ (y : ℤ). floor_of y b) (sym is);
       top = mean_le c k made.multipliers made.reached i r.ready.nonneg rows l;
     }
@@ -395,7 +392,7 @@ quick_runs c state k made i e r l s g =
     let h = n / 2 ^ g.scale.bits in
     let w = h * g.q / 2 ^ 32 in
     let near = near_row c k made i (2 ^ 29) e g n g.below in
-    let sum = more_means c state k made i e r l s in
+    let sum = numerator_made c state k made i e r l s in
     let numerator = held_new e (variable Numerator i) (pos n) in
     let e1 = with_value e (variable Numerator i) (pos n) in
     let m2 = makes_shifted_by e1 _ (variable Shift 0) (pos n) n g.scale.bits (makes_value e1 (variable Numerator i) (pos n) n numerator (le_refl n) g.large) g.scale.shifts g.bits in
@@ -448,7 +445,7 @@ twice_runs c state k made i e r l s g =
     let large : m < 2 ^ 63 = omega (arith, g.large) in
     let f = m / b in
     let small : f < 2 ^ 27 = rest_small m b (some_divisor k) first.high in
-    let sum = more_means c state k made i e r l s in
+    let sum = numerator_made c state k made i e r l s in
     let e1 = with_value e (variable Numerator i) (pos n) in
     let whole = held_new e (variable Numerator i) (pos n) in
     let m2 = makes_shifted_by e1 _ (variable Shift 0) (pos high) n g.scale.bits
