@@ -3,13 +3,14 @@ use Rattle.std.proofs.Common.{◌≡◌, ℕ, ◌-◌, ◌≤◌, ℤ, pos, List
 use Rattle.std.specs.Prelude.{codes, ◌↔◌}
 use Rattle.std.proofs.lemmas.List.{length-map, drop-map, take_rest}
 use Rattle.qp_model.specs.problem.Limits.{most_states, most_stages, most_rows}
-use Rattle.qp_model.specs.machine.Controller.{Numbers, IsInForm, FitsWord}
+use Rattle.qp_model.specs.machine.Controller.{Numbers, FitsWord}
+use Rattle.controller_text.specs.TextForm.{IsTextForm}
 use Rattle.text_lines.specs.Lines.{Keyed, keyed_line, no_line, small, view, views}
 use Rattle.text_lines.specs.declared.line.Line.{Line}
 use Rattle.text_lines.specs.Grammar.{IsBeginning}
 use Rattle.controller_text.specs.Lines.{keyed_lines}
-use Rattle.controller_file.specs.Following.{IsWhole}
-use Rattle.controller_file.proofs.Blank.{blank, plain_blank, blank_fits}
+use Rattle.controller_file.specs.Following.{IsAnyWhole}
+use Rattle.controller_file.proofs.Blank.{blank, blank_form, blank_fits, most_plain}
 use Rattle.controller_file.proofs.Again.{small_is}
 use Rattle.cell_file.specs.Cells.{AreAlike}
 use Rattle.cell_file.specs.Alike.{IsAlikeLine}
@@ -31,14 +32,14 @@ same_line i ls ms e = ap (λ (ks : List Keyed). get_or ks i no_line) e
 same_numbers : (a b : Keyed) → a ≡ b → a.numbers ≡ b.numbers
 same_numbers a b e = ap (λ (k : Keyed). k.numbers) e
 
-version_small : (c : Numbers) → IsInForm c → small (pos c.version) ≡ c.version
-version_small c form = small_is c.version (omega (arith, form.sized.version.1))
+version_small : (c : Numbers) → IsTextForm c → small (pos c.version) ≡ c.version
+version_small c form = small_is c.version (omega (arith, form.version.1))
 
 -- ---- each line of a controller that is alike is such a line
-pub alike_line : (c d : Numbers) → AreAlike c d → IsInForm d → (tail : List Keyed) (l : Keyed) (m : List Keyed) → keyed_lines d ≡ tail ++ l ∷ m → IsAlikeLine c (length tail) l.numbers
+pub alike_line : (c d : Numbers) → AreAlike c d → IsTextForm d → (tail : List Keyed) (l : Keyed) (m : List Keyed) → keyed_lines d ≡ tail ++ l ∷ m → IsAlikeLine c (length tail) l.numbers
 alike_line c d alike form [] l m e =
     subst (IsAlikeLine c 0) (same_numbers (version_line d) l (same_line 0 (keyed_lines d) (l ∷ m) e))
-    (rw (version_small d form, alike.states, alike.stages) (form.sized.states.1, form.sized.stages.1))
+    (rw (version_small d form, alike.states, alike.stages) (omega (arith, form.sized.states.1, (most_plain d.version).0), omega (arith, form.sized.stages.1, (most_plain d.version).1)))
 alike_line c d alike form (a ∷ []) l m e =
     subst (IsAlikeLine c 1) (same_numbers (size_line d) l (same_line 1 (keyed_lines d) (a ∷ l ∷ m) e)) (ap pos (sym alike.states), ap pos (sym alike.inputs), ap pos (sym alike.stages))
 alike_line c d alike form (a ∷ b ∷ []) l m e =
@@ -50,8 +51,11 @@ alike_line c d alike form (a ∷ b ∷ x ∷ tail) l m e = tt
 abbrev on_grid : (grid version n p stages m : ℕ) → Numbers
 on_grid grid version n p stages m = record (blank version n p stages m) { fraction_bits = grid; grid_bits = grid }
 
-on_grid_form : (grid version n p stages m : ℕ) → grid ≤ 24 → IsInForm (blank version n p stages m) → IsInForm (on_grid grid version n p stages m)
+on_grid_form : (grid version n p stages m : ℕ) → grid ≤ 24 → IsTextForm (blank version n p stages m) → IsTextForm (on_grid grid version n p stages m)
 on_grid_form grid version n p stages m few form = record {
+  version = form.version;
+  steps = form.steps;
+  words = form.words;
   sized = record {
     version = form.sized.version;
     states = form.sized.states;
@@ -97,7 +101,7 @@ one_row version = omega arith
 -- a controller like c, with these lines
 pub record Goes (c : Numbers) (tail : List Keyed) (l : Keyed) : Type 0 where
   pub numbers : Numbers
-  pub form : IsInForm numbers
+  pub form : IsTextForm numbers
   pub word : FitsWord numbers
   pub alike : AreAlike c numbers
   pub more : List Keyed
@@ -113,16 +117,16 @@ sizes_by c e d alike same grid =
     record { states = alike.states ∙ four.0; inputs = alike.inputs ∙ four.1; stages = alike.stages ∙ four.2; grid = grid }
 
 -- the lines of a text that goes on
-whole_lines : (tail : List Keyed) (l : Keyed) (b : IsBeginning IsWhole (tail ++ l ∷ [])) → keyed_lines b.whole.numbers ≡ tail ++ l ∷ b.more
+whole_lines : (tail : List Keyed) (l : Keyed) (b : IsBeginning IsAnyWhole (tail ++ l ∷ [])) → keyed_lines b.whole.numbers ≡ tail ++ l ∷ b.more
 whole_lines tail l b = b.whole.lines ∙ append_assoc tail (l ∷ []) b.more
 
-pub goes_alike : (c e : Numbers) → IsInForm c → IsInForm e → AreAlike c e → (tail : List Keyed) (l : Keyed) (rest : List Keyed) → keyed_lines e ≡ tail ++ rest →
-    IsBeginning IsWhole (tail ++ l ∷ []) → IsAlikeLine c (length tail) l.numbers → Goes c tail l
+pub goes_alike : (c e : Numbers) → IsTextForm c → IsTextForm e → AreAlike c e → (tail : List Keyed) (l : Keyed) (rest : List Keyed) → keyed_lines e ≡ tail ++ rest →
+    IsBeginning IsAnyWhole (tail ++ l ∷ []) → IsAlikeLine c (length tail) l.numbers → Goes c tail l
 goes_alike c e own other alike [] l rest lines b h =
     let d = b.whole.numbers in
     let first : version_line d ≡ l = same_line 0 (keyed_lines d) (l ∷ b.more) (whole_lines [] l b) in
     let room : (c.states ≤ most_states d.version) × (c.stages ≤ most_stages d.version) = rw (version_small d b.whole.form) at (subst (IsAlikeLine c 0) (sym (same_numbers (version_line d) l first)) h) in
-    let form = plain_blank d.version c.states c.inputs c.stages 1 b.whole.form.sized.version (own.sized.states.0, room.0) own.sized.inputs (own.sized.stages.0, room.1) (omega arith, one_row d.version) in
+    let form = blank_form d.version c.states c.inputs c.stages 1 b.whole.form.version (own.sized.states.0, room.0) own.sized.inputs (own.sized.stages.0, room.1) (omega arith, one_row d.version) in
     record {
       numbers = on_grid c.grid_bits d.version c.states c.inputs c.stages 1;
       form = on_grid_form c.grid_bits d.version c.states c.inputs c.stages 1 own.sized.grid_bits form;
@@ -137,7 +141,9 @@ goes_alike c e own other alike (a ∷ []) l rest lines b h =
     let first : version_line d ≡ a = same_line 0 (keyed_lines d) (a ∷ l ∷ b.more) (whole_lines (a ∷ []) l b) in
     let sizes : (pos d.states ≡ pos c.states) × (pos d.inputs ≡ pos c.inputs) × (pos d.stages ≡ pos c.stages) = subst (IsAlikeLine c 1) (sym (same_numbers (size_line d) l second)) h in
     let s = b.whole.form.sized in
-    let form = plain_blank d.version d.states d.inputs d.stages d.rows s.version s.states s.inputs s.stages s.rows in
+    let most = most_plain d.version in
+    let form =
+    blank_form d.version d.states d.inputs d.stages d.rows b.whole.form.version (s.states.0, omega (arith, s.states.1, most.0)) s.inputs (s.stages.0, omega (arith, s.stages.1, most.1)) (s.rows.0, omega (arith, s.rows.1, most.1)) in
     record {
       numbers = on_grid c.grid_bits d.version d.states d.inputs d.stages d.rows;
       form = on_grid_form c.grid_bits d.version d.states d.inputs d.stages d.rows own.sized.grid_bits form;
@@ -162,8 +168,8 @@ goes_alike c e own other alike (a ∷ z ∷ y ∷ tail) l rest lines b h =
 
 -- ---- as the code has it
 pub test_by : (lines : List Line) (s : ℕ) (T : Type 0) (ns zs : List ℤ) → ns ≡ zs →
-    ((k : Numbers) (rest : List Keyed) → IsInForm k → views (take (length lines - 1) (drop 1 lines)) ≡ keyed_lines k ++ rest → T ↔ IsAlikeLine k (length (take (length lines - s) (drop s lines))) ns) →
-    (k : Numbers) (rest : List Keyed) → IsInForm k → drop 1 (views lines) ≡ keyed_lines k ++ rest → T ↔ IsAlikeLine k (length (views (take (length lines - s) (drop s lines)))) zs
+    ((k : Numbers) (rest : List Keyed) → IsTextForm k → views (take (length lines - 1) (drop 1 lines)) ≡ keyed_lines k ++ rest → T ↔ IsAlikeLine k (length (take (length lines - s) (drop s lines))) ns) →
+    (k : Numbers) (rest : List Keyed) → IsTextForm k → drop 1 (views lines) ≡ keyed_lines k ++ rest → T ↔ IsAlikeLine k (length (views (take (length lines - s) (drop s lines)))) zs
 test_by lines s T ns zs same test k rest form e =
     subst (λ (n : ℕ). T ↔ IsAlikeLine k n zs) (sym (length-map (take (length lines - s) (drop s lines)) view))
     (subst (λ (ys : List ℤ). T ↔ IsAlikeLine k (length (take (length lines - s) (drop s lines))) ys) same (test k rest form (ap views (take_rest lines 1) ∙ sym (drop-map view 1 lines) ∙ e)))

@@ -6,12 +6,13 @@ use Rattle.std.proofs.lemmas.Bool.{cases_lt}
 use Rattle.std.proofs.lemmas.List.{take-append-drop, take-append-le, length-append, length-take-le, length-drop, length-replicate, get_or_append_left, get_or-append-add, get_or-replicate, get_or_default, drop-append-le, drop_all, append-nil}
 use Rattle.integer_algebra.specs.Sums.{at}
 use Rattle.std.proofs.lemmas.List.Elements.{All-take}
-use Rattle.qp_model.specs.machine.Controller.{Numbers, IsInForm, FitsWord}
+use Rattle.qp_model.specs.machine.Controller.{Numbers, FitsWord}
+use Rattle.controller_text.specs.TextForm.{IsTextForm}
 use Rattle.text_lines.specs.Lines.{Keyed, no_line, line_in, small}
 use Rattle.text_lines.specs.Blocks.{chained}
 use Rattle.text_lines.specs.Grammar.{IsBeginning}
 use Rattle.controller_text.specs.Lines.{keyed_lines}
-use Rattle.controller_file.specs.Following.{IsWhole}
+use Rattle.controller_file.specs.Following.{IsAnyWhole}
 use Rattle.text_lines.proofs.Beginnings.{grown}
 use Rattle.controller_file.proofs.Blank.{all_same}
 use Rattle.cell_file.specs.Cells.{AreAlike, AreCells}
@@ -63,13 +64,13 @@ alike_filled cells k d c lt are like =
     all_append (AreAlike (get_or (filled cells k d) 0 c)) (take k cells) (replicate (length cells - k) d) (alike_kept cells k d c lt are)
     (all_same (AreAlike (get_or (filled cells k d) 0 c)) d (first_of cells k d c lt like) (length cells - k))
 
-filled_are : (cells : List Numbers) (k : ℕ) (d : Numbers) → k < length cells → AreCells cells → IsInForm d → FitsWord d → IsLikeFirst cells k d → AreCells (filled cells k d)
+filled_are : (cells : List Numbers) (k : ℕ) (d : Numbers) → k < length cells → AreCells cells → IsTextForm d → FitsWord d → IsLikeFirst cells k d → AreCells (filled cells k d)
 filled_are cells k d lt are form word like =
     let long = filled_long cells k d (omega (arith, lt)) in
     record {
       some = omega (arith, long, are.some);
       few = omega (arith, long, are.few);
-      form = all_filled IsInForm cells k d are.form form;
+      form = all_filled IsTextForm cells k d are.form form;
       word = all_filled FitsWord cells k d are.word word;
       alike = λ i c l. alike_filled cells k d c lt are like i c l;
     }
@@ -88,7 +89,7 @@ some_left n k lt = (n - k - 1, omega (arith, lt))
 
 -- a controller that begins behind the whole cells, and goes on with this line
 pub goes_on : (cells : List Numbers) (ls more : List Keyed) (p : Place) (l : Keyed) (d : Numbers) (m : List Keyed) → AreCells cells → cells_lines cells ≡ ls ++ more → IsPlaceOf cells (length ls) p →
-    p.cells < length cells → IsInForm d → FitsWord d → IsLikeFirst cells p.cells d → keyed_lines d ≡ drop p.start ls ++ l ∷ m → IsBeginning IsCellsWhole (ls ++ l ∷ [])
+    p.cells < length cells → IsTextForm d → FitsWord d → IsLikeFirst cells p.cells d → keyed_lines d ≡ drop p.start ls ++ l ∷ m → IsBeginning IsCellsWhole (ls ++ l ∷ [])
 goes_on cells ls more p l d m are e place lt form word like lines =
     let k = p.cells in
     let new = filled cells k d in
@@ -190,28 +191,28 @@ module _ (ls : List Keyed) (p : Place) (placed : Placed ls p) (some : 0 < length
       front (drop p.start ls) more (keyed_lines (get_or cells p.cells blank_one)) (rest_lines (drop (p.cells + 1) cells)) (tail_is cells ls more p blank_one e (at_least cells (length ls) p place) lt)
       (omega (arith, length-drop p.start ls, place.next lt, before_next cells p.cells blank_one lt, place.start))
 
-  pub tail_begins : IsBeginning IsCellsWhole ls → (p.cells ≡ small (at (line_in ls 0) 0) → ⊥) → IsBeginning IsWhole (drop p.start ls)
+  pub tail_begins : IsBeginning IsCellsWhole ls → (p.cells ≡ small (at (line_in ls 0) 0) → ⊥) → IsBeginning IsAnyWhole (drop p.start ls)
   tail_begins b not =
       let cells = b.whole.cells in
       let lt = there cells b.more b.whole.are b.whole.lines not in
       let m = begun_with cells b.more b.whole.are b.whole.lines lt in
       record { more = m.0; whole = record { numbers = get_or cells p.cells blank_one; form = b.whole.are.form p.cells blank_one lt; word = b.whole.are.word p.cells blank_one lt; lines = m.1 } }
 
-  pub first_follows : (l : Keyed) → IsBeginning IsCellsWhole ls → (p.cells ≡ small (at (line_in ls 0) 0) → ⊥) → p.cells ≡ 0 → IsBeginning IsWhole (drop p.start ls ++ l ∷ []) → IsBeginning IsCellsWhole (ls ++ l ∷ [])
+  pub first_follows : (l : Keyed) → IsBeginning IsCellsWhole ls → (p.cells ≡ small (at (line_in ls 0) 0) → ⊥) → p.cells ≡ 0 → IsBeginning IsAnyWhole (drop p.start ls ++ l ∷ []) → IsBeginning IsCellsWhole (ls ++ l ∷ [])
   first_follows l b not none g =
       let cells = b.whole.cells in
       let place = at_least cells (length ls) p (placed cells b.more b.whole.are b.whole.lines) in
       goes_on cells ls b.more p l g.whole.numbers g.more b.whole.are b.whole.lines place (there cells b.more b.whole.are b.whole.lines not) g.whole.form g.whole.word
       (λ lt c. absurd (omega (arith, lt, none))) (g.whole.lines ∙ append_assoc (drop p.start ls) (l ∷ []) g.more)
 
-  pub cell_only : (l : Keyed) → (p.cells ≡ small (at (line_in ls 0) 0) → ⊥) → IsBeginning IsCellsWhole (ls ++ l ∷ []) → IsBeginning IsWhole (drop p.start ls ++ l ∷ [])
+  pub cell_only : (l : Keyed) → (p.cells ≡ small (at (line_in ls 0) 0) → ⊥) → IsBeginning IsCellsWhole (ls ++ l ∷ []) → IsBeginning IsAnyWhole (drop p.start ls ++ l ∷ [])
   cell_only l not g =
       let cells = g.whole.cells in
       let e = wider l g in
       let lt = there cells (l ∷ g.more) g.whole.are e not in
       let m = line_there cells ls g.more p l blank_one e (placed cells (l ∷ g.more) g.whole.are e) lt in
       let c = get_or cells p.cells blank_one in
-      grown IsWhole (drop p.start ls) l m.0 (keyed_lines c) (record { numbers = c; form = g.whole.are.form p.cells blank_one lt; word = g.whole.are.word p.cells blank_one lt; lines = refl }) m.1
+      grown IsAnyWhole (drop p.start ls) l m.0 (keyed_lines c) (record { numbers = c; form = g.whole.are.form p.cells blank_one lt; word = g.whole.are.word p.cells blank_one lt; lines = refl }) m.1
 
   -- ---- and like the first
   first_there : (cells : List Numbers) (k : ℕ) → 0 < k → k ≤ length cells → suc (length (keyed_lines (get_or cells 0 blank_one))) ≤ lines_before cells k
@@ -229,8 +230,8 @@ module _ (ls : List Keyed) (p : Place) (placed : Placed ls p) (some : 0 < length
       front (keyed_lines (get_or cells 0 blank_one)) (rest_lines (drop 1 cells)) (drop 1 ls) more here (omega (arith, long, place.start, place.within, length-drop 1 ls))
 
   module _ (l : Keyed) (T : Type 0) (tail : List Keyed) (tail_is_rest : tail ≡ drop p.start ls)
-      (test : (c : Numbers) (rest : List Keyed) → IsInForm c → drop 1 ls ≡ keyed_lines c ++ rest → T ↔ IsAlikeLine c (length tail) l.numbers) where
-    pub alike_follows : IsBeginning IsCellsWhole ls → (p.cells ≡ small (at (line_in ls 0) 0) → ⊥) → (p.cells ≡ 0 → ⊥) → IsBeginning IsWhole (drop p.start ls ++ l ∷ []) → T → IsBeginning IsCellsWhole (ls ++ l ∷ [])
+      (test : (c : Numbers) (rest : List Keyed) → IsTextForm c → drop 1 ls ≡ keyed_lines c ++ rest → T ↔ IsAlikeLine c (length tail) l.numbers) where
+    pub alike_follows : IsBeginning IsCellsWhole ls → (p.cells ≡ small (at (line_in ls 0) 0) → ⊥) → (p.cells ≡ 0 → ⊥) → IsBeginning IsAnyWhole (drop p.start ls ++ l ∷ []) → T → IsBeginning IsCellsWhole (ls ++ l ∷ [])
     alike_follows b not none g t =
         let cells = b.whole.cells in
         let are = b.whole.are in

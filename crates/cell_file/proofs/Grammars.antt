@@ -5,7 +5,8 @@ use Rattle.std.specs.List.{AllByRecursion}
 use Rattle.std.proofs.lemmas.Int.{ints}
 use Rattle.std.proofs.lemmas.List.{length-append, length-replicate, get_or-replicate}
 use Rattle.std.proofs.lemmas.List.Elements.{All-from_recursion, recursion_from_All}
-use Rattle.qp_model.specs.machine.Controller.{Numbers, IsInForm, FitsWord}
+use Rattle.qp_model.specs.machine.Controller.{Numbers, FitsWord}
+use Rattle.controller_text.specs.TextForm.{IsTextForm}
 use Rattle.integer_algebra.specs.Sums.{at}
 use Rattle.text_lines.specs.Lines.{Keyed, keyed_line, no_line, IsKeyedLine, place, place_of}
 use Rattle.text_lines.proofs.Blocks.{key_is, count_is}
@@ -16,8 +17,7 @@ use Rattle.text_lines.proofs.Beginnings.{begins}
 use Rattle.text_lines.proofs.Chained.{all_append, all_chained}
 use Rattle.text_lines.proofs.Good.{natural_fits, good}
 use Rattle.controller_text.specs.Lines.{keyed_lines}
-use Rattle.controller_file.proofs.Blank.{blank, plain_blank, blank_fits, all_same}
-use Rattle.controller_text.proofs.Forms.{plain_form}
+use Rattle.controller_file.proofs.Blank.{blank, blank_form, blank_fits, all_same}
 use Rattle.controller_text.proofs.Blocks.{few_lines}
 use Rattle.controller_text.proofs.Texts.{good_lines}
 use Rattle.cell_file.specs.Cells.{AreAlike, AreCells}
@@ -27,8 +27,8 @@ use Rattle.cell_file.specs.Lines.{head_line, end_line, rest_lines, cells_lines, 
 abbrev one_blank : Numbers
 one_blank = blank 1 1 1 1 1
 
-blank_is : IsInForm one_blank
-blank_is = plain_blank 1 1 1 1 1 (omega arith, omega arith) (omega arith, omega arith) (omega arith, omega arith) (omega arith, omega arith) (omega arith, omega arith)
+blank_is : IsTextForm one_blank
+blank_is = blank_form 1 1 1 1 1 (omega arith, omega arith) (omega arith, omega arith) (omega arith, omega arith) (omega arith, omega arith) (omega arith, omega arith)
 
 blanks_alike : (n i : ℕ) (c : Numbers) → i < length (replicate n one_blank) → AreAlike (get_or (replicate n one_blank) 0 c) (get_or (replicate n one_blank) i c)
 blanks_alike n i c lt =
@@ -41,7 +41,7 @@ blanks_are : (n : ℕ) → 1 ≤ n → n ≤ 64 → AreCells (replicate n one_bl
 blanks_are n some few = record {
   some = omega (arith, some, length-replicate n one_blank);
   few = omega (arith, few, length-replicate n one_blank);
-  form = all_same IsInForm one_blank blank_is n;
+  form = all_same IsTextForm one_blank blank_is n;
   word = all_same FitsWord one_blank (blank_fits 1 1 1 1 1) n;
   alike = blanks_alike n;
 }
@@ -86,26 +86,26 @@ head_law l T z here is test = (λ t. from (test.0 t), λ b. test.1 (to b))
 nothing : IsBeginning IsCellsWhole []
 nothing = begins IsCellsWhole 0 (cells_lines (replicate 1 one_blank)) (record { cells = replicate 1 one_blank; are = blanks_are 1 (omega arith) (omega arith); lines = refl })
 
-each_good : (cells : List Numbers) → AllByRecursion IsInForm cells → AllByRecursion FitsWord cells → AllByRecursion (AllByRecursion IsKeyedLine) (map keyed_lines cells)
+each_good : (cells : List Numbers) → AllByRecursion IsTextForm cells → AllByRecursion FitsWord cells → AllByRecursion (AllByRecursion IsKeyedLine) (map keyed_lines cells)
 each_good [] form word = tt
-each_good (c ∷ cells) form word = (recursion_from_All IsKeyedLine (keyed_lines c) (good_lines c (plain_form c form.0) word.0), each_good cells form.1 word.1)
+each_good (c ∷ cells) form word = (recursion_from_All IsKeyedLine (keyed_lines c) (good_lines c form.0 word.0), each_good cells form.1 word.1)
 
 pub cells_good : (cells : List Numbers) → AreCells cells → All IsKeyedLine (cells_lines cells)
 cells_good cells are =
-    let form = recursion_from_All IsInForm cells are.form in
+    let form = recursion_from_All IsTextForm cells are.form in
     let word = recursion_from_All FitsWord cells are.word in
     let head = good (codes "mpc-cells") (pos (length cells) ∷ []) refl (natural_fits (length cells) (omega (arith, are.few)), tt) in
     let last = good (codes "end") [] refl tt in
     All-from_recursion IsKeyedLine (cells_lines cells)
     (head, all_append IsKeyedLine (chained (map keyed_lines cells)) (end_line ∷ []) (all_chained IsKeyedLine (map keyed_lines cells) (each_good cells form word)) (last, tt))
 
-few_chained : (cells : List Numbers) → AllByRecursion IsInForm cells → length (chained (map keyed_lines cells)) ≤ length cells * 936
+few_chained : (cells : List Numbers) → AllByRecursion IsTextForm cells → length (chained (map keyed_lines cells)) ≤ length cells * 936
 few_chained [] form = omega arith
-few_chained (c ∷ cells) form = omega (arith, length-append (keyed_lines c) (chained (map keyed_lines cells)), few_lines c (plain_form c form.0), few_chained cells form.1)
+few_chained (c ∷ cells) form = omega (arith, length-append (keyed_lines c) (chained (map keyed_lines cells)), few_lines c form.0, few_chained cells form.1)
 
 pub cells_few : (cells : List Numbers) → AreCells cells → length (cells_lines cells) ≤ 60000
 cells_few cells are =
-    let few = few_chained cells (recursion_from_All IsInForm cells are.form) in
+    let few = few_chained cells (recursion_from_All IsTextForm cells are.form) in
     omega (arith, few, are.few, length-append (chained (map keyed_lines cells)) (end_line ∷ []))
 
 few_whole : (ls : List Keyed) → IsCellsWhole ls → length ls < 2 ^ 32 - 1

@@ -1,7 +1,8 @@
 -- The place of the first lines of a text of cells.
 use Rattle.std.proofs.Common.{◌≡◌, ℕ, ◌+◌, ◌-◌, ◌<◌, ◌≤◌, List, [], ◌∷◌, ◌++◌, length, get_or, take, drop, Option, Some, None, refl, sym, ap, subst, ◌∙◌, arith}
 use Rattle.std.proofs.lemmas.List.{drop-append-le}
-use Rattle.qp_model.specs.machine.Controller.{Numbers, IsInForm}
+use Rattle.qp_model.specs.machine.Controller.{Numbers}
+use Rattle.controller_text.specs.TextForm.{IsTextForm}
 use Rattle.text_lines.specs.Lines.{Keyed}
 use Rattle.controller_text.specs.Lines.{keyed_lines}
 use Rattle.cell_file.specs.Cells.{AreCells}
@@ -11,7 +12,6 @@ use Rattle.cell_file.proofs.Chains.{at_cell, at_end, before_next}
 use Rattle.cell_file.proofs.Alikes.{version_line, size_line}
 use Rattle.controller_file.proofs.Again.{small_is}
 use Rattle.controller_file.proofs.Blank.{blank}
-use Rattle.controller_text.proofs.Forms.{plain_form}
 use Rattle.controller_text.proofs.Blocks.{same_sizes, line_count}
 use Rattle.controller_file.specs.Following.{IsAnyWhole}
 use Rattle.controller_text.specs.Table.{text_table, Says}
@@ -95,16 +95,16 @@ two_begin lines s long b =
     let c = b.numbers in
     let some : 2 ≤ length (drop s (views lines)) = omega (arith, length-drop s (views lines), length-map lines view, long) in
     subst (IsBeginning IsAnyWhole) (sym (slice_views lines s ∙ two_lines c (drop s (views lines)) b.more b.rest some b.lines))
-    (begins IsAnyWhole 2 (keyed_lines c) (record { numbers = c; form = plain_form c b.form; word = b.word; lines = refl }))
+    (begins IsAnyWhole 2 (keyed_lines c) (record { numbers = c; form = b.form; word = b.word; lines = refl }))
 
 pub end_is : (lines : List Line) (s : ℕ) (z : Sizes) (count : ℕ) (c : Numbers) (more rest : List Keyed) → s + 2 ≤ length lines → Says (views (take (s + 2 - s) (drop s lines))) z → count ≡ total_rows (text_table z) →
-    IsInForm c → drop s (views lines) ++ more ≡ keyed_lines c ++ rest → count ≡ length (keyed_lines c)
+    IsTextForm c → drop s (views lines) ++ more ≡ keyed_lines c ++ rest → count ≡ length (keyed_lines c)
 end_is lines s z count c more rest long says is form e =
     let some : 2 ≤ length (drop s (views lines)) = omega (arith, length-drop s (views lines), length-map lines view, long) in
     let two = slice_views lines s ∙ two_lines c (drop s (views lines)) more rest some e in
     let said : Says (version_line c ∷ size_line c ∷ []) z = subst (λ (ks : List Keyed). Says ks z) two says in
     let same = same_sizes c z (cc (said.version (omega arith))) (said.sizes (omega arith)) in
-    is ∙ ap (λ (y : Sizes). total_rows (text_table y)) (sym same) ∙ sym (line_count c (plain_form c form))
+    is ∙ ap (λ (y : Sizes). total_rows (text_table y)) (sym same) ∙ sym (line_count c form)
 
 -- ---- as the code has them
 pub tail_views : (lines : List Line) (s : ℕ) → views (take (length lines - s) (drop s lines)) ≡ drop s (views lines)
@@ -117,7 +117,7 @@ cell_inside cells lines more p k end some are e counted is lt =
 
 -- what the search for the end of a cell tells
 abbrev pub Told : List Line → Place → Option ℕ → Type 0
-Told lines p found = (c : Numbers) (more rest : List Keyed) → IsInForm c → drop p.start (views lines) ++ more ≡ keyed_lines c ++ rest → EndsAt (length lines) (p.start + length (keyed_lines c)) found
+Told lines p found = (c : Numbers) (more rest : List Keyed) → IsTextForm c → drop p.start (views lines) ++ more ≡ keyed_lines c ++ rest → EndsAt (length lines) (p.start + length (keyed_lines c)) found
 
 pub cell_after : (cells : List Numbers) (lines : List Line) (more : List Keyed) (p : Place) (found : Option ℕ) (end : ℕ) → AreCells cells → cells_lines cells ≡ views lines ++ more → IsPlaceOf cells (length (views lines)) p →
     p.cells < length cells → Told lines p found → found ≡ Some end → IsPlaceOf cells (length (views lines)) (record { cells = p.cells + 1; start = end })

@@ -1,12 +1,12 @@
 -- The lines of cells are their text, and a text has one list of cells.
-use Rattle.std.proofs.Common.{◌≡◌, inl, inr, ◌⊎◌, ℕ, suc, pos, List, [], ◌∷◌, ◌++◌, length, get_or, take, drop, map, Vec, Result, Ok, Err, refl, sym, ap, subst, ◌∙◌, append_assoc, arith}
+use Rattle.std.proofs.Common.{◌≡◌, inl, inr, ◌⊎◌, ℕ, zero, suc, pos, List, [], ◌∷◌, ◌++◌, length, get_or, take, drop, map, Vec, Result, Ok, Err, refl, sym, ap, subst, ◌∙◌, append_assoc, arith}
 use Rattle.std.specs.Prelude.{All, IfOk, IfErr, MatchResult, codes}
 use Rattle.std.specs.List.{flat_map}
 use Rattle.std.specs.declared.alloc.Global.{Global}
 use Rattle.std.proofs.lemmas.List.{append-nil, take_at, drop_at, map-append}
 use Rattle.number_text.specs.Lines.{text_of}
-use Rattle.qp_model.specs.machine.Controller.{Numbers, IsInForm}
-use Rattle.qp_model.specs.machine.AbsoluteSums.{IsController}
+use Rattle.qp_model.specs.machine.Controller.{Numbers}
+use Rattle.controller_text.specs.TextForm.{IsTextForm}
 use Rattle.qp_model.specs.text.ControllerText.{controller_text}
 use Rattle.text_lines.specs.Lines.{Keyed, no_line, spelled}
 use Rattle.text_lines.specs.Blocks.{chained, total_rows}
@@ -17,9 +17,12 @@ use Rattle.controller_text.specs.Table.{text_table, sizes_of}
 use Rattle.controller_text.specs.declared.layout.Sizes.{Sizes}
 use Rattle.controller_text.specs.declared.bad_controller.BadController.{BadController}
 use Rattle.controller_text.specs.declared.bad_controller.BadController.TheVariants.{Memory, Unsafe, Line}
-use Rattle.controller_text.proofs.Forms.{plain_form}
 use Rattle.controller_text.proofs.Blocks.{same_sizes, line_count}
 use Rattle.controller_text.proofs.Texts.{keyed_text}
+use Rattle.controller_file.specs.FirstLine.{IsEitherController}
+use Rattle.controller_file.specs.AnyText.{any_numbers, IsSafe}
+use Rattle.controller_file.specs.declared.any_controller.AnyController.{AnyController}
+use Rattle.controller_file.proofs.AnyText.{either, one_any}
 use Rattle.controller_file.proofs.Uniqueness.{one_choice}
 use Rattle.cell_file.specs.Cells.{AreCells}
 use Rattle.cell_file.specs.Lines.{head_line, end_line, rest_lines, cells_lines, IsCellsWhole}
@@ -57,19 +60,19 @@ form_to bytes t = record {
 }
 
 -- ---- one list of cells
-one_cell : (c d : Numbers) → IsInForm c → IsInForm d → (more rest : List Keyed) → keyed_lines c ++ more ≡ keyed_lines d ++ rest → (c ≡ d) × (more ≡ rest)
+one_cell : (c d : Numbers) → IsTextForm c → IsTextForm d → (more rest : List Keyed) → keyed_lines c ++ more ≡ keyed_lines d ++ rest → (c ≡ d) × (more ≡ rest)
 one_cell c d form other more rest e =
     let first : version_line c ≡ version_line d = ap (λ (ks : List Keyed). get_or ks 0 no_line) e in
     let second : size_line c ≡ size_line d = ap (λ (ks : List Keyed). get_or ks 1 no_line) e in
     let one : pos c.version ∷ [] ≡ pos d.version ∷ [] = ap (λ (k : Keyed). k.numbers) first in
     let sizes = same_sizes c (sizes_of d) (cc one) (ap (λ (k : Keyed). k.numbers) second) in
-    let long : length (keyed_lines c) ≡ length (keyed_lines d) = line_count c (plain_form c form) ∙ ap (λ (z : Sizes). total_rows (text_table z)) sizes ∙ sym (line_count d (plain_form d other)) in
+    let long : length (keyed_lines c) ≡ length (keyed_lines d) = line_count c form ∙ ap (λ (z : Sizes). total_rows (text_table z)) sizes ∙ sym (line_count d other) in
     let lines : keyed_lines c ≡ keyed_lines d = sym (take_at (keyed_lines c) more (length (keyed_lines d)) long) ∙ ap (take (length (keyed_lines d))) e ∙ take_at (keyed_lines d) rest (length (keyed_lines d)) refl in
     let left : more ≡ rest = sym (drop_at (keyed_lines c) more (length (keyed_lines d)) long) ∙ ap (drop (length (keyed_lines d))) e ∙ drop_at (keyed_lines d) rest (length (keyed_lines d)) refl in
-    (one_choice c d (plain_form c form) (plain_form d other) lines, left)
+    (one_choice c d form other lines, left)
 
 -- of as many cells, and lines behind those of the first
-same_rest : (xs ys : List Numbers) (more : List Keyed) → All IsInForm xs → All IsInForm ys → length xs ≡ length ys → rest_lines xs ++ more ≡ rest_lines ys → (xs ≡ ys) × (more ≡ [])
+same_rest : (xs ys : List Numbers) (more : List Keyed) → All IsTextForm xs → All IsTextForm ys → length xs ≡ length ys → rest_lines xs ++ more ≡ rest_lines ys → (xs ≡ ys) × (more ≡ [])
 same_rest [] [] more f g long e = (refl, ap (drop 1) e)
 same_rest [] (b ∷ ys) more f g long e = absurd (omega (arith, long))
 same_rest (a ∷ xs) [] more f g long e = absurd (omega (arith, long))
@@ -97,6 +100,28 @@ one_cells bytes xs ys f g =
     let texts : text_of (map spelled (cells_lines xs)) ≡ text_of (map spelled (cells_lines ys)) = lines_text xs ∙ sym f.text ∙ g.text ∙ sym (lines_text ys) in
     one_list xs ys f.are g.are (one_text (cells_lines xs) (cells_lines ys) (cells_good xs f.are) (cells_good ys g.are) texts)
 
+-- ---- controllers by their numbers
+pub all_numbers : (P : Numbers → Type 0) (cells : List AnyController) → All (λ k. P (any_numbers k)) cells → All P (map any_numbers cells)
+all_numbers P [] all i c lt = absurd (omega (arith, lt))
+all_numbers P (k ∷ cells) all zero c lt = all 0 k (omega arith)
+all_numbers P (k ∷ cells) all (suc i) c lt = all_numbers P cells (λ j d l. all (suc j) d (omega (arith, l))) i c (omega (arith, lt))
+
+all_either : (cells : List AnyController) → All IsSafe cells → All IsEitherController (map any_numbers cells)
+all_either cells safe = all_numbers IsEitherController cells (λ i k lt. either (get_or cells i k) (safe i k lt))
+
+-- the numbers tell the machines
+one_each : (xs ys : List AnyController) → All IsSafe xs → All IsSafe ys → map any_numbers xs ≡ map any_numbers ys → xs ≡ ys
+one_each [] [] f g e = refl
+one_each [] (b ∷ ys) f g e = absurd (omega (arith, ap length e))
+one_each (a ∷ xs) [] f g e = absurd (omega (arith, ap length e))
+one_each (a ∷ xs) (b ∷ ys) f g e =
+    let here = one_any a b (f 0 a (omega arith)) (g 0 b (omega arith)) (ap (λ (cs : List Numbers). get_or cs 0 (any_numbers a)) e) in
+    let others = one_each xs ys (λ i d lt. f (suc i) d (omega (arith, lt))) (λ i d lt. g (suc i) d (omega (arith, lt))) (ap (drop 1) e) in
+    (λ i. here i ∷ others i)
+
+pub one_any_cells : (bytes : List ℕ) (xs ys : List AnyController) → IsCellsText bytes xs → IsCellsText bytes ys → xs ≡ ys
+one_any_cells bytes xs ys f g = one_each xs ys f.safe g.safe (one_cells bytes (map any_numbers xs) (map any_numbers ys) f.form g.form)
+
 pub no_prefix : CellsHaveNoPrefix
 no_prefix bytes more xs ys f g =
     no_prefix_of (cells_lines xs) (cells_lines ys) more (cells_good xs f.are) (cells_good ys g.are)
@@ -108,30 +133,30 @@ module _ (bytes : List ℕ) (ls : List Keyed) (w : IsCellsWhole ls) (text : byte
   pub formed : IsTextOfCells bytes w.cells
   formed = record { are = w.are; text = text ∙ ap (λ (ks : List Keyed). text_of (map spelled ks)) (sym w.lines) ∙ lines_text w.cells }
 
-  pub whole_found : (r : Result (Vec Numbers Global) BadController) → IfOk r (λ v. AreCellsOf ls v.items) → IfOk r (λ v. IsCellsText bytes v.items)
-  whole_found (Ok v) h = subst (IsCellsText bytes) (sym (h.one w.cells w.are w.lines)) (record { form = formed; safe = subst (All IsController) (h.one w.cells w.are w.lines) h.safe })
+  pub whole_found : (r : Result (Vec AnyController Global) BadController) → IfOk r (λ v. AreCellsOf ls v.items) → IfOk r (λ v. IsCellsText bytes v.items)
+  whole_found (Ok v) h = record { form = subst (IsTextOfCells bytes) (sym (h.one w.cells w.are w.lines)) formed; safe = h.safe }
   whole_found (Err e) h = tt
 
-  pub whole_no_line : (r : Result (Vec Numbers Global) BadController) → IfErr r (AreNoneOf ls) → (l : ℕ) → r ≡ Err (Line l) → IsBadCellsLine bytes l
+  pub whole_no_line : (r : Result (Vec AnyController Global) BadController) → IfErr r (AreNoneOf ls) → (l : ℕ) → r ≡ Err (Line l) → IsBadCellsLine bytes l
   whole_no_line (Ok v) h l is = cc
   whole_no_line (Err e) (inl memory) l is = absurd (let never : ⊥ = cc in never)
   whole_no_line (Err e) (inr wide) l is = let told = wide.0 in absurd (let never : ⊥ = cc in never)
 
-  pub whole_wide : (r : Result (Vec Numbers Global) BadController) → IfErr r (AreNoneOf ls) → r ≡ Err Unsafe → AreUnsafe bytes
+  pub whole_wide : (r : Result (Vec AnyController Global) BadController) → IfErr r (AreNoneOf ls) → r ≡ Err Unsafe → AreUnsafe bytes
   whole_wide (Ok v) h is = cc
   whole_wide (Err e) (inl memory) is = absurd (let never : ⊥ = cc in never)
   whole_wide (Err e) (inr wide) is = record { cells = w.cells; form = formed; wide = wide.1 w.cells w.are w.lines }
 
-  pub whole_right : (r : Result (Vec Numbers Global) BadController) → IfOk r (λ v. AreCellsOf ls v.items) → IfErr r (AreNoneOf ls) → (cells : List Numbers) → IsCellsText bytes cells →
+  pub whole_right : (r : Result (Vec AnyController Global) BadController) → IfOk r (λ v. AreCellsOf ls v.items) → IfErr r (AreNoneOf ls) → (cells : List AnyController) → IsCellsText bytes cells →
       MatchResult r (λ v. v.items ≡ cells) (λ e. e ≡ Memory)
-  whole_right (Ok v) found fault cells t = found.one w.cells w.are w.lines ∙ one_cells bytes w.cells cells formed t.form
+  whole_right (Ok v) found fault cells t = one_any_cells bytes v.items cells (whole_found (Ok v) found) t
   whole_right (Err e) found (inl memory) cells t = memory
-  whole_right (Err e) found (inr wide) cells t = absurd (wide.1 w.cells w.are w.lines (subst (All IsController) (one_cells bytes cells w.cells t.form formed) t.safe))
+  whole_right (Err e) found (inr wide) cells t = absurd (wide.1 w.cells w.are w.lines (subst (All IsEitherController) (one_cells bytes (map any_numbers cells) w.cells t.form formed) (all_either cells t.safe)))
 
-  pub whole_first : (r : Result (Vec Numbers Global) BadController) (l : ℕ) → IsBadCellsLine bytes l → (r ≡ Err (Line l)) ⊎ (r ≡ Err Memory)
+  pub whole_first : (r : Result (Vec AnyController Global) BadController) (l : ℕ) → IsBadCellsLine bytes l → (r ≡ Err (Line l)) ⊎ (r ≡ Err Memory)
   whole_first r l bad = absurd (bad.none (record { cells = w.cells; form = formed }))
 
-  pub whole_sums : (r : Result (Vec Numbers Global) BadController) → IfOk r (λ v. AreCellsOf ls v.items) → IfErr r (AreNoneOf ls) → AreUnsafe bytes → (r ≡ Err Unsafe) ⊎ (r ≡ Err Memory)
-  whole_sums (Ok v) found fault u = absurd (u.wide (subst (All IsController) (found.one w.cells w.are w.lines ∙ one_cells bytes w.cells u.cells formed u.form) found.safe))
+  pub whole_sums : (r : Result (Vec AnyController Global) BadController) → IfOk r (λ v. AreCellsOf ls v.items) → IfErr r (AreNoneOf ls) → AreUnsafe bytes → (r ≡ Err Unsafe) ⊎ (r ≡ Err Memory)
+  whole_sums (Ok v) found fault u = absurd (u.wide (subst (All IsEitherController) (found.one w.cells w.are w.lines ∙ one_cells bytes w.cells u.cells formed u.form) (all_either v.items found.safe)))
   whole_sums (Err e) found (inl memory) u = inr (ap Err memory)
   whole_sums (Err e) found (inr wide) u = inl (ap Err wide.0)

@@ -1,13 +1,14 @@
 -- Lines with which the lines of a controller begin, whatever comes behind.
 use Rattle.std.specs.Prelude.{◌≡◌, ℕ, ◌<◌, ◌≤◌, List, ◌++◌, Option, MatchOption}
-use Rattle.qp_model.specs.machine.Controller.{Numbers, IsInForm, FitsWord}
+use Rattle.qp_model.specs.machine.Controller.{Numbers, FitsWord}
+use Rattle.controller_text.specs.TextForm.{IsTextForm}
 use Rattle.text_lines.specs.Lines.{Keyed}
 use Rattle.controller_text.specs.Lines.{keyed_lines}
 
 -- they are a part of a controller's lines, or these and more
 pub record BeginsCell (ls : List Keyed) : Type 0 where
   pub numbers : Numbers
-  pub form : IsInForm numbers
+  pub form : IsTextForm numbers
   pub word : FitsWord numbers
   pub more : List Keyed
   pub rest : List Keyed

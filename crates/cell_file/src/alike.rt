@@ -2,8 +2,9 @@
 ghost use Rattle.std.specs.Prelude.{◌≡◌, ◌↔◌, ◌≤◌, List, ◌++◌, IsTrue};
 ghost use Rattle.integer_algebra.specs.Sums.{at};
 ghost use Rattle.qp_model.specs.problem.Limits.{most_states, most_stages};
-ghost use Rattle.qp_model.specs.machine.Controller.{Numbers, IsInForm};
+ghost use Rattle.qp_model.specs.machine.Controller.{Numbers};
 ghost use Rattle.text_lines.specs.Lines.{Keyed, views};
+ghost use Rattle.controller_text.specs.TextForm.{IsTextForm};
 ghost use Rattle.controller_text.specs.Lines.{keyed_lines};
 ghost use Rattle.cell_file.specs.Alike.{IsAlikeLine};
 
@@ -13,7 +14,7 @@ use text_lines::{Line, number_at, number_in, numbers_in, small};
 /// Whether the numbers of the line with this index among those of its controller are such as a controller has that is like the first, whose lines are the
 /// first of these.
 pub fn is_alike(first: &[Line], index: usize, numbers: &[i128]) -> bool
-    ensures { (c : Numbers) (rest : List Keyed) → IsInForm c → views first.now ≡ keyed_lines c ++ rest →
+    ensures { (c : Numbers) (rest : List Keyed) → IsTextForm c → views first.now ≡ keyed_lines c ++ rest →
         IsTrue result ↔ IsAlikeLine c index numbers.now }
 {
     match index {
@@ -26,7 +27,7 @@ pub fn is_alike(first: &[Line], index: usize, numbers: &[i128]) -> bool
 
 // Whether a version allows the sizes of the first controller.
 fn has_room(first: &[Line], version: u32) -> bool
-    ensures { (c : Numbers) (rest : List Keyed) → IsInForm c → views first.now ≡ keyed_lines c ++ rest →
+    ensures { (c : Numbers) (rest : List Keyed) → IsTextForm c → views first.now ≡ keyed_lines c ++ rest →
         IsTrue result ↔ ((c.states ≤ most_states version) × (c.stages ≤ most_stages version)) }
 {
     number_in(first, 1, 0) <= most_states(version) as i128

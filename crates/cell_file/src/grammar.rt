@@ -7,7 +7,7 @@ ghost use Rattle.cell_file.specs.Lines.{IsCellsWhole};
 
 use crate::alike::is_alike;
 use crate::place::{count_in, place_after};
-use controller_file::can_follow as controller_can_follow;
+use controller_file::any_can_follow;
 use text_lines::{Grammar, Line, has_place, number_at};
 
 /// The most cells of a text.
@@ -42,7 +42,7 @@ fn can_follow(before: &[Line], line: &Line) -> bool
         return place.start == before.len() && has_place(line, "end", 0);
     }
     let tail = &before[place.start..];
-    controller_can_follow(tail, line)
+    any_can_follow(tail, line)
         && (place.cells == 0 || is_alike(&before[1..], tail.len(), &line.numbers))
 }
 

@@ -1,9 +1,10 @@
 // Where the first lines of a text of cells stand.
 ghost use Rattle.std.specs.Prelude.{◌≡◌, ℕ, ◌+◌, ◌<◌, ◌≤◌, List, ◌++◌, length, drop, MatchOption};
 ghost use Rattle.integer_algebra.specs.Sums.{at};
-ghost use Rattle.qp_model.specs.machine.Controller.{Numbers, IsInForm};
+ghost use Rattle.qp_model.specs.machine.Controller.{Numbers};
 ghost use Rattle.text_lines.specs.Lines.{Keyed, views, line_in, small};
 ghost use Rattle.text_lines.specs.Grammar.{IsBeginning};
+ghost use Rattle.controller_text.specs.TextForm.{IsTextForm};
 ghost use Rattle.controller_text.specs.Lines.{keyed_lines};
 ghost use Rattle.cell_file.specs.Cells.{AreCells};
 ghost use Rattle.cell_file.specs.Lines.{cells_lines, IsCellsWhole, IsPlace};
@@ -51,7 +52,7 @@ pub fn place_after(lines: &[Line]) -> Place
 pub fn end_from(lines: &[Line], start: usize) -> Option<usize>
     requires inside { start ≤ length lines.now }
     requires beginning { BeginsCell (drop start (views lines.now)) }
-    ensures { (c : Numbers) (more rest : List Keyed) → IsInForm c → drop start (views lines.now) ++ more ≡ keyed_lines c ++ rest →
+    ensures { (c : Numbers) (more rest : List Keyed) → IsTextForm c → drop start (views lines.now) ++ more ≡ keyed_lines c ++ rest →
         EndsAt (length lines.now) (start + length (keyed_lines c)) result }
 {
     if lines.len() < start + 2 {

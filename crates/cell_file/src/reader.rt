@@ -1,33 +1,32 @@
 // The controllers of cells from their text.
 ghost use Rattle.std.specs.Prelude.{◌≡◌, ◌⊎◌, ℕ, List, All, Err, IfOk, IfErr, MatchResult, map};
 ghost use Rattle.number_text.specs.Lines.{text_of};
-ghost use Rattle.qp_model.specs.machine.Controller.{Numbers};
+ghost use Rattle.controller_file.specs.declared.any_controller.AnyController.{AnyController};
 ghost use Rattle.text_lines.specs.Lines.{views, spelled};
-ghost use Rattle.controller_file.specs.Following.{IsWhole};
+ghost use Rattle.controller_file.specs.Following.{IsAnyWhole};
 ghost use Rattle.cell_file.specs.Lines.{IsCellsWhole};
 ghost use Rattle.cell_file.specs.Reading.{IsOf, IsNoneOf, AreCellsOf, AreNoneOf};
 ghost use Rattle.cell_file.specs.Text.{IsCellsText, IsBadCellsLine, AreUnsafe};
 
 use crate::grammar::CellsGrammar;
 use crate::place::{count_in, end_from};
-use controller_file::{parts_of, safe};
+use controller_file::{AnyController, any_safe, parts_of};
 use controller_text::BadController;
-use overflow_check::Controller;
 use std::alloc::{AllocError, Global};
 use text_lines::{Line, lines_in};
 
-/// The controllers of cells whose text the bytes are.
+/// The controllers of cells, each of any version, whose text the bytes are.
 ///
 /// # Errors
 /// `Line` exactly where the bytes are no text of cells in form: it names the first line with which, after those before it, no text in form begins. `Unsafe`
 /// exactly where the bytes are in form and the absolute sums of some controller don't fit the width that it says.
-pub fn read_cells(alloc: Global, bytes: &[u8]) -> Result<Vec<Controller>, BadController>
+pub fn read_cells(alloc: Global, bytes: &[u8]) -> Result<Vec<AnyController>, BadController>
     ensures found { IfOk result (λ v. IsCellsText bytes.now v.items) }
     ensures bad_line { (l : ℕ) → result ≡ Err (BadController.Line l) → IsBadCellsLine bytes.now l }
     ensures wide { result ≡ Err BadController.Unsafe → AreUnsafe bytes.now }
 
     // The other way round, with nothing but out of memory in between.
-    ensures right { (cells : List Numbers) → IsCellsText bytes.now cells → MatchResult result (λ v. v.items ≡ cells) (λ e. e ≡ BadController.Memory) }
+    ensures right { (cells : List AnyController) → IsCellsText bytes.now cells → MatchResult result (λ v. v.items ≡ cells) (λ e. e ≡ BadController.Memory) }
     ensures bad_first { (l : ℕ) → IsBadCellsLine bytes.now l → (result ≡ Err (BadController.Line l)) ⊎ (result ≡ Err BadController.Memory) }
     ensures bad_sums { AreUnsafe bytes.now → (result ≡ Err BadController.Unsafe) ⊎ (result ≡ Err BadController.Memory) }
 {
@@ -46,7 +45,7 @@ fn cells_in(alloc: Global, bytes: &[u8]) -> Result<Result<Vec<Line<'_>>, u32>, A
 }
 
 // The controllers of all cells.
-fn controllers_of(alloc: Global, lines: &[Line]) -> Result<Vec<Controller>, BadController>
+fn controllers_of(alloc: Global, lines: &[Line]) -> Result<Vec<AnyController>, BadController>
     requires { IsCellsWhole (views lines.now) }
     ensures found { IfOk result (λ v. AreCellsOf (views lines.now) v.items) }
     ensures fault { IfErr result (AreNoneOf (views lines.now)) }
@@ -67,11 +66,11 @@ fn controllers_of(alloc: Global, lines: &[Line]) -> Result<Vec<Controller>, BadC
 }
 
 // The controller whose lines these are.
-fn controller_of(alloc: Global, lines: &[Line]) -> Result<Controller, BadController>
-    requires { IsWhole (views lines.now) }
+fn controller_of(alloc: Global, lines: &[Line]) -> Result<AnyController, BadController>
+    requires { IsAnyWhole (views lines.now) }
     ensures found { IfOk result (λ k. IsOf (views lines.now) k) }
     ensures fault { IfErr result (IsNoneOf (views lines.now)) }
 {
     let parts = parts_of(alloc, lines)?;
-    safe(parts)
+    any_safe(parts)
 }

@@ -12,7 +12,8 @@ use Rattle.qp_model.specs.bounds.Printed.{Printed}
 use Rattle.bound_report.specs.Report.{report_text}
 use Rattle.plan_lines.specs.Lines.{plan_lines}
 use Rattle.plan_lines.specs.Inside.{AreInside}
-use Rattle.plan_lines.specs.Making.{Ending, all, short, cut, stopped, PrintsLines, making_of_plans}
+use Rattle.plan_lines.specs.ControllerFile.declared.any_controller.AnyController.TheVariants.{Plain}
+use Rattle.plan_lines.specs.Making.{Ending, all, short, cut, stopped, PrintsLines, making_of_any}
 use Rattle.plan_lines.specs.Printing.{ArePrinted, AreFirstLines, LinesShow, lines_of_plans}
 use Rattle.plan_lines.proofs.LineByLine.{longer, after}
 use Rattle.plan_lines.proofs.Acting.{lines_told, lines_ended, lines_shown}
@@ -31,10 +32,10 @@ some_of f each (x ∷ xs) l = omega (arith, each x, length-append (f x) (flat_ma
 lines_some : (c : Numbers) (states : Matrix) → 0 < length states.rows → 0 < length (plan_lines c states (length states.rows))
 lines_some c states l =
     subst (λ (xs : List (List ℤ)). 0 < length (flat_map (plan_line c) xs)) (sym (take-length states.rows))
-    (some_of (plan_line c) (line_some c) states.rows l)
+    (some_of (plan_line c) (line_some (Plain c)) states.rows l)
 
 -- ---- what the lines show
-plans_only : {O : Type 0} {screen : Screen O} {c : Numbers} {m : Matrix} {out now : O} {k : ℕ} {text : List ℕ} {s : Status} → Ending screen (making_of_plans c) m out now k text s →
+plans_only : {O : Type 0} {screen : Screen O} {c : Numbers} {m : Matrix} {out now : O} {k : ℕ} {text : List ℕ} {s : Status} → Ending screen (making_of_any (Plain c)) m out now k text s →
     (s ≡ Memory) ⊎ ((s ≡ Done) ⊎ (s ≡ WriteFault 0))
 plans_only (all whole got) = inr (inl refl)
 plans_only (short got) = inl refl
@@ -46,10 +47,10 @@ pub record PlansEnd {O : Type 0} (screen : Screen O) (c : Numbers) (m : Matrix) 
   pub printed : IfSome (screen.got out) (λ old. IsSomeAnd (screen.got now) (ArePrinted c m s old))
   pub failed : s ≡ WriteFault 0 → Rose (screen.faults out) (screen.faults now)
 
-pub plans_end : {O : Type 0} (screen : Screen O) (c : Numbers) (m : Matrix) (out now : O) (s : Status) → AreInside c m (length m.rows) → PrintsLines screen (making_of_plans c) m out now s → PlansEnd screen c m out now s
+pub plans_end : {O : Type 0} (screen : Screen O) (c : Numbers) (m : Matrix) (out now : O) (s : Status) → AreInside c m (length m.rows) → PrintsLines screen (making_of_any (Plain c)) m out now s → PlansEnd screen c m out now s
 plans_end screen c m out now s inside l =
     let lines = lines_of_plans c m in
-    let p = lines_ended (demo_deeds 0) (lines_told (making_of_plans c) m lines (lines_as c (plan_line c) m) (λ s. ⊥)) screen out now s inside l in
+    let p = lines_ended (demo_deeds 0) (lines_told (making_of_any (Plain c)) m lines (lines_as c (plan_line c) m) (λ s. ⊥)) screen out now s inside l in
     record {
       only = plans_only l.ending;
       printed =

@@ -11,7 +11,7 @@ use fixed_kernel::Kernel;
 use io_edge::Sink;
 use overflow_check::Controller;
 use packed_rows::PackedRows;
-use plan_lines::print_lines;
+use plan_lines::{AnyKernel, print_lines};
 use qp_model::Bounds;
 use std::alloc::Global;
 
@@ -32,14 +32,14 @@ pub fn print_text<O: Sink>(
     ensures failed { result ≡ Status.WriteFault 0 → Rose (O.faults out.old) (O.faults out.new) }
     ensures no_fewer { O.faults out.old ≤ O.faults out.new }
 {
-    let Ok(mut kernel) = Kernel::prepare(alloc, controller) else {
+    let Ok(kernel) = Kernel::prepare(alloc, controller) else {
         return Status::Memory;
     };
     let Ok(report) = report_text(alloc, bounds) else {
         return Status::Memory;
     };
     match out.put(&report) {
-        Ok(()) => print_lines(alloc, &mut kernel, states, out),
+        Ok(()) => print_lines(alloc, &mut AnyKernel::Plain(kernel), states, out),
         Err(_) => Status::WriteFault { file: 0 },
     }
 }

@@ -28,7 +28,7 @@ ControllerRight c bytes = IsControllerText bytes c
 abbrev pub AnyControllerRight : AnyController → List ℕ → Type 0
 AnyControllerRight k bytes = IsAnyControllerText bytes k
 
-abbrev pub CellsRight : List Numbers → List ℕ → Type 0
+abbrev pub CellsRight : List AnyController → List ℕ → Type 0
 CellsRight cells bytes = IsCellsText bytes cells
 
 -- why bytes are no text of controllers: what says that a line is the first bad one, and what says that sums don't fit

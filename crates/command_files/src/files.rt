@@ -56,7 +56,7 @@ pub fn read_cells_file<S: Store>(
     file: u32,
     name: &str,
     store: &mut S,
-) -> Result<Vec<Controller>, Status>
+) -> Result<Vec<AnyController>, Status>
     ensures { ReadsFile S.Store cells_kind file name.now (λ v. v.items) result store.old store.new }
 {
     let bytes = read_bytes(alloc, CELLS_LIMIT, file, name, store)?;

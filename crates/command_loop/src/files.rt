@@ -1,9 +1,7 @@
 // The files of a loop, one after the other.
 ghost use Rattle.std.specs.Prelude.{◌≡◌, ◌<◌, ◌^◌, length};
 ghost use Rattle.qp_model.specs.problem.Parts.{design_of};
-ghost use Rattle.qp_model.specs.machine.Controller.{numbers, IsSized};
 ghost use Rattle.qp_model.specs.machine.Successor.{IsFor};
-ghost use Rattle.overflow_check.specs.FastController.{with_last_version};
 ghost use Rattle.controller_file.specs.AnyText.{any_numbers};
 ghost use Rattle.command_line.specs.Words.{IsLoop};
 ghost use Rattle.command_line.specs.Running.{Runs};
@@ -17,19 +15,8 @@ use command_line::Status;
 use controller_file::AnyController;
 use io_edge::{Sink, Store, Words};
 use packed_rows::PackedRows;
-use qp_model::{ControllerParts, Design};
+use qp_model::Design;
 use std::alloc::Global;
-
-// The numbers of a controller of either machine, in form but for words and width.
-pub fn parts_of(controller: &AnyController) -> &ControllerParts
-    ensures value { numbers result.now ≡ any_numbers controller.now }
-    ensures sized { IsSized (with_last_version (numbers result.now)) }
-{
-    match controller {
-        AnyController::Plain(controller) => controller.parts(),
-        AnyController::Fast(controller) => controller.parts(),
-    }
-}
 
 // The shifts, where there are disturbances, and the loops.
 fn run_states<S: Store, O: Sink>(
@@ -51,7 +38,7 @@ fn run_states<S: Store, O: Sink>(
         (loop_shifts turns disturbed (design_of design.now) controller.now states.now) }
 {
     if disturbed {
-        let n = parts_of(controller).n;
+        let n = controller.parts().n;
         match read_shifts_file(alloc, 5, words.at(5), n, turns as usize, store) {
             Ok(shifts) => print_loops(alloc, design, controller, states, &Some(shifts), turns, out),
             Err(status) => status,
@@ -77,7 +64,7 @@ fn run_controller<S: Store, O: Sink>(
     ensures { Runs S.Store O.Sink words.now (loop_deeds turns disturbed) store.old store.new out.old out.new result
         (loop_states turns disturbed (design_of design.now) controller.now) }
 {
-    match read_states_file(alloc, 3, words.at(3), parts_of(controller).n, store) {
+    match read_states_file(alloc, 3, words.at(3), controller.parts().n, store) {
         Ok(states) => {
             run_states(
                 alloc, words, turns, disturbed, design, controller, &states, store, out,
@@ -105,7 +92,7 @@ pub fn run_design<S: Store, O: Sink>(
         Ok(controller) => controller,
         Err(ended) => return ended,
     };
-    match mismatch_of(design, parts_of(&controller)) {
+    match mismatch_of(design, controller.parts()) {
         Some(status) => status,
         None => run_controller(
             alloc,

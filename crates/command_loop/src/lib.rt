@@ -11,5 +11,4 @@ pub use command::run_loops;
 pub use command_design_files::{FILE_LIMIT, read_asked_file, read_bytes, told_text};
 pub use command_files::{read_any_controller_file, read_range_file};
 pub use controller_file::AnyController;
-pub use files::parts_of;
 pub use mismatch::mismatch_of;

@@ -2,7 +2,7 @@
 use Rattle.std.proofs.Common.{List, inl, refl, arith}
 use Rattle.io_edge.specs.declared.sink.Sink.{Ghosts as Screen}
 use Rattle.mat_int.specs.Matrix.{Matrix}
-use Rattle.qp_model.specs.machine.Controller.{Numbers}
+use Rattle.plan_lines.specs.ControllerFile.declared.any_controller.AnyController.{AnyController}
 use Rattle.command_line.specs.Script.{ends}
 use Rattle.command_line.specs.Does.{Prints}
 use Rattle.command_line.proofs.Gathering.{whole}
@@ -30,5 +30,5 @@ serve_sound = record {
 }
 
 -- of cells of which there is one
-pub serve_ended : (c : Numbers) (cells : List Numbers) (m : Matrix) {O : Type 0} (screen : Screen O) (out now : O) (s : Status) → PrintsRecords screen (making_of_cells cells) m out now s → Prints screen serve_deeds out now s (serve_act cells m)
+pub serve_ended : (c : AnyController) (cells : List AnyController) (m : Matrix) {O : Type 0} (screen : Screen O) (out now : O) (s : Status) → PrintsRecords screen (making_of_cells cells) m out now s → Prints screen serve_deeds out now s (serve_act cells m)
 serve_ended c cells m screen = records_ended serve_deeds (lines_told (making_of_cells cells) m (served_lines cells m) (served_as c cells m) serve_deeds.tells) screen

@@ -4,8 +4,8 @@ use Rattle.std.specs.Prelude.{IfSome, IsSomeAnd}
 use Rattle.std.proofs.lemmas.List.{append-nil}
 use Rattle.io_edge.specs.Faults.{Files}
 use Rattle.mat_int.specs.Matrix.{Matrix}
-use Rattle.qp_model.specs.machine.Controller.{Numbers}
-use Rattle.cell_file.proofs.Texts.{one_cells}
+use Rattle.plan_lines.specs.ControllerFile.declared.any_controller.AnyController.{AnyController}
+use Rattle.cell_file.proofs.Texts.{one_any_cells}
 use Rattle.command_line.specs.Words.{word_of}
 use Rattle.command_line.specs.Limit.{cells_limit}
 use Rattle.command_line.specs.Answers.{Contents, ForContents, FileHolds, IsAnswer, IsCaused}
@@ -23,11 +23,11 @@ use Rattle.command_serve.specs.Printing.{AddsSomeLines, served_lines}
 use Rattle.command_serve.specs.Held.{ServesHeld}
 
 -- ---- what a file holds is one thing
-same_cells : (content : Option (List ℕ)) (a b : List Numbers) → FileHolds cells_limit (CellsRight a) content → FileHolds cells_limit (CellsRight b) content → a ≡ b
+same_cells : (content : Option (List ℕ)) (a b : List AnyController) → FileHolds cells_limit (CellsRight a) content → FileHolds cells_limit (CellsRight b) content → a ≡ b
 same_cells content a b x y =
-    one_cells x.bytes a b x.right.form (subst (λ (bytes : List ℕ). CellsRight b bytes) (one_content cells_limit cells_limit content x y) y.right).form
+    one_any_cells x.bytes a b x.right (subst (λ (bytes : List ℕ). CellsRight b bytes) (one_content cells_limit cells_limit content x y) y.right)
 
-pub called_done : (k : Contents) (cells : List Numbers) (m : Matrix) → HoldsServed (k 1) (k 2) cells m → calls_of serve_script k Done
+pub called_done : (k : Contents) (cells : List AnyController) (m : Matrix) → HoldsServed (k 1) (k 2) cells m → calls_of serve_script k Done
 called_done k cells m holds = inr (cells, holds.cells_right, inr (m, holds.states_right, inr (refl, holds.served)))
 
 pub serves_held : (words : List (List ℕ)) (held : Option Files) (s : Status) (before now : Option (List ℕ)) → (IsCaused s → ForContents words held (λ k. IsAnswer (calls_of serve_script k) s)) →

@@ -3,8 +3,8 @@ use Rattle.std.proofs.Common.{◌≡◌, inl, inr, ℕ, zero, suc, ◌<◌, ◌�
 use Rattle.std.proofs.lemmas.Bool.{cases_lt}
 use Rattle.std.proofs.lemmas.List.{append-nil}
 use Rattle.mat_int.specs.Matrix.{Matrix, row_of}
-use Rattle.qp_model.specs.machine.Controller.{Numbers}
-use Rattle.qp_model.specs.text.ControllerText.{plan_line}
+use Rattle.plan_lines.specs.ControllerFile.declared.any_controller.AnyController.{AnyController}
+use Rattle.plan_lines.specs.Lines.{any_plan_line}
 use Rattle.plan_lines.proofs.LineByLine.{longer}
 use Rattle.plan_lines.proofs.Acting.{AreToldAs}
 use Rattle.plan_lines.proofs.PlanLines.{line_some}
@@ -17,22 +17,22 @@ use Rattle.command_serve.proofs.Serving.{some_cell, any_default, one_first}
 use Rattle.command_serve.proofs.Unserving.{served_judged}
 
 -- a state that some cell's box holds has a line
-line_of : (cells : List Numbers) (xi : List ℤ) → IsHeldBySome cells xi → (line : List ℕ) × IsServedLine cells xi line
+line_of : (cells : List AnyController) (xi : List ℤ) → IsHeldBySome cells xi → (line : List ℕ) × IsServedLine cells xi line
 line_of cells xi held =
     let c = some_cell cells held.0 held.1.there in
-    (plan_line (get_or cells held.0 c) xi, record { cell = held.0; first = held.1; is = λ d. ap (λ (n : Numbers). plan_line n xi) (any_default cells held.0 c d held.1.there) })
+    (any_plan_line (get_or cells held.0 c) xi, record { cell = held.0; first = held.1; is = λ d. ap (λ (k : AnyController). any_plan_line k xi) (any_default cells held.0 c d held.1.there) })
 
 -- a line has its line feed at least
-pub served_some : (cells : List Numbers) (xi : List ℤ) (line : List ℕ) → IsServedLine cells xi line → 0 < length line
+pub served_some : (cells : List AnyController) (xi : List ℤ) (line : List ℕ) → IsServedLine cells xi line → 0 < length line
 served_some cells xi line served =
     let c = some_cell cells served.cell served.first.there in
     omega (arith, ap length (served.is c), line_some (get_or cells served.cell c) xi)
 
 -- a state has one line, and states one text
-one_line : (cells : List Numbers) (xi : List ℤ) (line other : List ℕ) → IsServedLine cells xi line → IsServedLine cells xi other → line ≡ other
+one_line : (cells : List AnyController) (xi : List ℤ) (line other : List ℕ) → IsServedLine cells xi line → IsServedLine cells xi other → line ≡ other
 one_line cells xi line other served same =
     let c = some_cell cells served.cell served.first.there in
-    served.is c ∙ ap (λ (i : ℕ). plan_line (get_or cells i c) xi) (one_first cells xi served.cell same.cell served.first same.first) ∙ sym (same.is c)
+    served.is c ∙ ap (λ (i : ℕ). any_plan_line (get_or cells i c) xi) (one_first cells xi served.cell same.cell served.first same.first) ∙ sym (same.is c)
 
 pub one_text_law : OneTextLaw
 one_text_law cells states zero text other lines same = lines ∙ sym same
@@ -41,11 +41,11 @@ one_text_law cells states (suc n) text other lines same =
     ∙ ap (λ (xs : List ℕ). same.before ++ xs) (one_line cells (row_of states n) lines.line same.line lines.last same.last) ∙ sym same.is
 
 -- the lines of first states are the beginning of those of more
-pub record MoreLines (cells : List Numbers) (states : Matrix) (n : ℕ) (text : List ℕ) : Type 0 where
+pub record MoreLines (cells : List AnyController) (states : Matrix) (n : ℕ) (text : List ℕ) : Type 0 where
   pub rest : List ℕ
   pub lines : AreServedLines cells states n (text ++ rest)
 
-module _ (cells : List Numbers) (states : Matrix) where
+module _ (cells : List AnyController) (states : Matrix) where
   no_more : (m n : ℕ) (text : List ℕ) → n ≡ m → AreServedLines cells states n text → MoreLines cells states m text
   no_more m n text is lines = record { rest = []; lines = subst (λ (k : ℕ). AreServedLines cells states k (text ++ [])) is (subst (AreServedLines cells states n) (sym (append-nil text)) lines) }
 
@@ -65,7 +65,7 @@ module _ (cells : List Numbers) (states : Matrix) where
   ]
 
 -- ---- what is printed of the lines of cells of which there is one
-pub served_as : (c : Numbers) (cells : List Numbers) (m : Matrix) → AreToldAs (making_of_cells cells) m (served_lines cells m)
+pub served_as : (c : AnyController) (cells : List AnyController) (m : Matrix) → AreToldAs (making_of_cells cells) m (served_lines cells m)
 served_as c cells m = record {
   judged = served_judged c cells m;
   never = λ entry xi s never. never;

@@ -1,32 +1,31 @@
 // The kernels of cells at work.
 ghost use Rattle.std.specs.Prelude.{◌≡◌, ◌<◌, length, get_or, IfOk, MatchOption};
-ghost use Rattle.qp_model.specs.machine.Controller.{Numbers};
+ghost use Rattle.plan_lines.specs.ControllerFile.declared.any_controller.AnyController.{AnyController};
+ghost use Rattle.plan_lines.specs.Making.{any_controller};
 ghost use Rattle.command_serve.specs.Served.{HaveWidth, IsHeldBySome, controllers_of};
 ghost use Rattle.command_serve.specs.Unserved.{IsHeldByNone};
 ghost use Rattle.command_serve.specs.Lines.{IsServedLine};
 
 use cell_file::find;
 use command_line::Status;
-use fixed_kernel::Kernel;
-use overflow_check::Controller;
-use plan_lines::{PreparedMachine, line_from};
+use plan_lines::{AnyController, AnyKernel, PreparedMachine, kernel_of, line_from};
 use std::alloc::{AllocError, Global};
 
 /// Cells with a kernel for each, in order.
 #[derive(Drop)]
 pub struct Cells<'a> {
-    cells: &'a [Controller],
-    kernels: Vec<Kernel<'a>>,
+    cells: &'a [AnyController],
+    kernels: Vec<AnyKernel<'a>>,
 }
 
 /// The kernels of cells.
-pub fn cells_of(alloc: Global, cells: &[Controller]) -> Result<Cells<'_>, AllocError>
+pub fn cells_of(alloc: Global, cells: &[AnyController]) -> Result<Cells<'_>, AllocError>
     ensures cells { IfOk result (λ v. v.cells.now ≡ cells.now) }
     ensures kernels { IfOk result (λ v. controllers_of v.kernels.items ≡ cells.now) }
 {
     let mut kernels = Vec::new(alloc);
     for cell in cells {
-        let kernel = Kernel::prepare(alloc, cell)?;
+        let kernel = kernel_of(alloc, cell)?;
         kernels.push(kernel)?;
     }
     Ok(Cells { cells, kernels })
@@ -37,7 +36,7 @@ impl<'a> PreparedMachine for Cells<'a> {
     ghost use Rattle.std.specs.Prelude.{List};
     ghost use Rattle.command_serve.specs.Making.{ArePreparedFor, making_of_cells};
 
-    ghost Subject = { List Numbers };
+    ghost Subject = { List AnyController };
 
     ghost subject = { λ s. s.cells.now };
 
@@ -57,8 +56,8 @@ impl<'a> PreparedMachine for Cells<'a> {
 // The line of a state that some cell's box holds, from the kernel of the first.
 fn served_line(
     alloc: Global,
-    cells: &[Controller],
-    kernels: &mut [Kernel],
+    cells: &[AnyController],
+    kernels: &mut [AnyKernel],
     state: &[i128],
 ) -> Result<Vec<u8>, AllocError>
     requires kernels { controllers_of kernels.old ≡ cells.now }
@@ -74,14 +73,14 @@ fn served_line(
 }
 
 // The first coordinate outside the first cell's box of a state that no cell's box holds. None exactly where one holds it.
-fn outside_all(cells: &[Controller], first: &Kernel, state: &[i128]) -> Option<u32>
+fn outside_all(cells: &[AnyController], first: &AnyKernel, state: &[i128]) -> Option<u32>
     requires some { 0 < length cells.now }
     requires width { HaveWidth cells.now (length state.now) }
-    requires first { (c : Numbers) → get_or cells.now 0 c ≡ first.now.controller }
+    requires first { (c : AnyController) → get_or cells.now 0 c ≡ any_controller first.now }
     ensures { MatchOption result (IsHeldBySome cells.now state.now) (IsHeldByNone cells.now state.now) }
 {
     match find(cells, state) {
         Some(_) => None,
-        None => first.first_outside(state),
+        None => first.refused(state),
     }
 }

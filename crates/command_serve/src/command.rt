@@ -9,12 +9,11 @@ use crate::cells::cells_of;
 use command_files::{read_cells_file, read_states_file};
 use command_line::Status;
 use io_edge::{Sink, Store, Words};
-use overflow_check::Controller;
-use plan_lines::print_prepared;
+use plan_lines::{AnyController, print_prepared};
 use std::alloc::Global;
 
 // How many numbers a state of cells has.
-fn state_size(cells: &[Controller]) -> usize
+fn state_size(cells: &[AnyController]) -> usize
     requires { 0 < length cells.now }
     ensures { result ≡ cell_states cells.now }
 {
@@ -22,7 +21,7 @@ fn state_size(cells: &[Controller]) -> usize
 }
 
 /// Prints a line for each state of the second file, the averaged plan from that state of the first of the first file's controllers whose box holds it, over its
-/// `K*2^f`; nothing where a file is refused or no controller's box holds a state.
+/// `K*2^f`, and over `K*(K+3)/2*2^f` in version 3; nothing where a file is refused or no controller's box holds a state.
 pub fn serve<S: Store, O: Sink>(alloc: Global, words: &Words, store: &mut S, out: &mut O) -> Status
     requires { IsServe words.now }
     ensures { Does S.Store O.Sink words.now serve_deeds store.old store.new out.old out.new result }

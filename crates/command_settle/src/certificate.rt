@@ -10,7 +10,7 @@ ghost use Rattle.command_loop.specs.ControllerFile.AnyText.{any_numbers};
 ghost use Rattle.command_settle.specs.CertificateFile.{certificate_kind};
 
 use command_line::Status;
-use command_loop::{AnyController, FILE_LIMIT, parts_of, read_bytes, told_text};
+use command_loop::{AnyController, FILE_LIMIT, read_bytes, told_text};
 use io_edge::Store;
 use number_text::TextFault;
 use settle_check::{CertificateParts, read_certificate};
@@ -50,6 +50,6 @@ fn certificate_for(
         → IsCertificateFault bytes.now (any_numbers controller.now).states (box_of (any_numbers controller.now).low (any_numbers controller.now).high) told
         → MatchResult result (λ _. ⊥) (λ e. (e ≡ told) ⊎ (e ≡ Memory)) }
 {
-    let c = parts_of(controller);
+    let c = controller.parts();
     read_certificate(alloc, bytes, &c.lo, &c.hi)
 }

@@ -16,7 +16,7 @@ ghost use Rattle.command_settle.specs.Loops.{LoopsSettleOf};
 
 use crate::lines::settled_text;
 use command_line::Status;
-use command_loop::{AnyController, parts_of};
+use command_loop::AnyController;
 use mat_int::Mat;
 use qp_model::{Design, Quantity, Refusal};
 use settle_check::{CertificateParts, SettleFault, Settled, check_settling};
@@ -79,7 +79,7 @@ fn box_settled(
         IsAnswer (CertificateCalls (design_of design.now) (any_numbers controller.now) (certificate_numbers certificate.now) range.now) Status.Done) }
     ensures ends { IfErr result (IsUntold (design_of design.now) (any_numbers controller.now) (certificate_numbers certificate.now) range.now) }
 {
-    let (d, c) = (design.parts(), parts_of(controller));
+    let (d, c) = (design.parts(), controller.parts());
     match check_settling(alloc, d, c, certificate, range.row(0), range.row(1)) {
         Ok(settled) => Ok(settled),
         Err(fault) => Err(settle_status(fault)),

@@ -15,7 +15,7 @@ use crate::certificate::read_certificate_file;
 use crate::printing::print_settled;
 use command_line::Status;
 use command_loop::{
-    AnyController, mismatch_of, parts_of, read_any_controller_file, read_range_file,
+    AnyController, mismatch_of, read_any_controller_file, read_range_file,
 };
 use io_edge::{Sink, Store, Words};
 use mat_int::Mat;
@@ -41,7 +41,7 @@ fn run_certificate<S: Store, O: Sink>(
     ensures { Runs S.Store O.Sink words.now (settle_deeds disturbed) store.old store.new out.old out.new result
         (settle_range disturbed (design_of design.now) controller.now (certificate_numbers certificate.now)) }
 {
-    let n = parts_of(controller).n;
+    let n = controller.parts().n;
     if disturbed {
         match read_range_file(alloc, 4, words.at(4), n, store) {
             Ok(range) => print_settled(alloc, design, controller, certificate, &range, out),
@@ -102,7 +102,7 @@ pub fn run_design<S: Store, O: Sink>(
         Ok(controller) => controller,
         Err(ended) => return ended,
     };
-    match mismatch_of(design, parts_of(&controller)) {
+    match mismatch_of(design, controller.parts()) {
         Some(status) => status,
         None => run_controller(alloc, words, disturbed, design, &controller, store, out),
     }

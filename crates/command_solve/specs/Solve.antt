@@ -1,30 +1,18 @@
 -- What `solve` does with its two files.
-use Rattle.std.specs.Prelude.{ℕ, ℤ, List, length, Option}
+use Rattle.std.specs.Prelude.{ℕ, List, length, Option}
 use Rattle.mat_int.specs.Matrix.{Matrix, row_of}
 use Rattle.qp_model.specs.machine.Machine.{IsAdmissible}
-use Rattle.qp_model.specs.text.ControllerText.{plan_line}
-use Rattle.controller_file.specs.AnyText.{any_numbers}
-use Rattle.controller_file.specs.declared.any_controller.AnyController.{AnyController}
-use Rattle.controller_file.specs.declared.any_controller.AnyController.TheVariants.{Plain, Fast}
+use Rattle.plan_lines.specs.ControllerFile.AnyText.{any_numbers}
+use Rattle.plan_lines.specs.ControllerFile.declared.any_controller.AnyController.{AnyController}
 use Rattle.fixed_kernel.specs.Outside.{IsFirstOutside}
-use Rattle.primal_average.specs.FastLine.{fast_plan_line}
 use Rattle.command_line.specs.Limit.{file_limit}
 use Rattle.command_line.specs.Answers.{FileHolds}
 use Rattle.command_line.specs.Script.{Act, Script, ends, reads}
 use Rattle.command_files.specs.Texts.{AnyControllerRight, StatesRight}
 use Rattle.command_files.specs.Reading.{any_controller_kind, states_kind}
 use Rattle.plan_lines.specs.Inside.{AreInside}
-use Rattle.plan_lines.specs.Making.{Making, making_by}
+use Rattle.plan_lines.specs.Lines.{any_plan_line}
 use Rattle.plan_lines.specs.Printing.{lines_by, lines_act}
-
--- the line of the averaged plan of a controller of either machine from a state
-abbrev pub any_plan_line : AnyController → List ℤ → List ℕ
-any_plan_line (Plain c) = plan_line c
-any_plan_line (Fast c) = fast_plan_line c
-
--- what its machine makes of states
-abbrev pub making_of_any : AnyController → Making
-making_of_any k = making_by (any_numbers k) (any_plan_line k)
 
 -- two files hold a controller and states that all lie in its box
 pub record HoldsRuns (controller states : Option (List ℕ)) (k : AnyController) (m : Matrix) : Type 0 where

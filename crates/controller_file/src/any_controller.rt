@@ -1,6 +1,7 @@
 // A controller of either machine from its text.
 ghost use Rattle.std.specs.Prelude.{◌≡◌, ◌⊎◌, ℕ, Err, IfOk, IfErr, MatchResult};
-ghost use Rattle.qp_model.specs.machine.Controller.{numbers};
+ghost use Rattle.qp_model.specs.machine.Controller.{numbers, IsSized};
+ghost use Rattle.overflow_check.specs.FastController.{with_last_version};
 ghost use Rattle.controller_file.specs.declared.any_controller.AnyController.{AnyController};
 ghost use Rattle.controller_file.specs.FirstLine.{IsEitherController, IsAnyBadLine, IsAnyUnsafe};
 ghost use Rattle.controller_file.specs.AnyText.{any_numbers, IsSafe, IsAnyControllerText};
@@ -19,6 +20,19 @@ pub enum AnyController {
     Plain(Controller),
     /// Of the accelerated machine.
     Fast(FastController),
+}
+
+impl AnyController {
+    /// Its numbers, in form but for words and width.
+    pub fn parts(&self) -> &ControllerParts
+        ensures value { numbers result.now ≡ any_numbers self.now }
+        ensures sized { IsSized (with_last_version (numbers result.now)) }
+    {
+        match self {
+            AnyController::Plain(controller) => controller.parts(),
+            AnyController::Fast(controller) => controller.parts(),
+        }
+    }
 }
 
 /// The controller, of any version, whose text the bytes are.
@@ -41,8 +55,8 @@ pub fn read_any_controller(alloc: Global, bytes: &[u8]) -> Result<AnyController,
     }
 }
 
-// The controller of the numbers of a text, by their version.
-fn any_safe(parts: ControllerParts) -> Result<AnyController, BadController>
+/// The controller of the numbers of a text, by their version. `Unsafe` where they are no controller's.
+pub fn any_safe(parts: ControllerParts) -> Result<AnyController, BadController>
     ensures ok { IfOk result (λ o. (any_numbers o ≡ numbers parts) × IsSafe o) }
     ensures fault { IfErr result (λ e. (e ≡ BadController.Unsafe) × (¬ IsEitherController (numbers parts))) }
 {

@@ -9,9 +9,9 @@ mod parts;
 mod reader;
 mod sizes;
 
-pub use any_controller::{AnyController, read_any_controller};
-pub use following::can_follow;
+pub use any_controller::{AnyController, any_safe, read_any_controller};
+pub use following::any_can_follow;
 pub use laws::{one_controller_law, prefix_law};
 pub use parts::parts_of;
-pub use reader::{read_controller, safe};
+pub use reader::read_controller;
 pub use sizes::sizes_in;

@@ -19,11 +19,7 @@ pub told_ok : {T E P : Type 0} (r : Result T E) → is_err r ≡ false → OnOk 
 told_ok (Ok x) is h = h
 told_ok (Err e) is h = absurd (let never : ⊥ = cc in never)
 
--- what is said of a value that is this one, where there is one, and of one of which two things are known
-pub ok_is : {T E : Type 0} (r : Result T E) (t : T) (P : T → Type 0) → P t → IfOk r (λ x. x ≡ t) → IfOk r P
-ok_is (Ok x) t P h is = subst P (sym is) h
-ok_is (Err e) t P h is = tt
-
+-- what is said of a value, where there is one, of which two things are known
 pub ok_both : {T E : Type 0} (r : Result T E) (P Q R : T → Type 0) → ((x : T) → P x → Q x → R x) → IfOk r P → IfOk r Q → IfOk r R
 ok_both (Ok x) P Q R f p q = f x p q
 ok_both (Err e) P Q R f p q = tt

@@ -8,13 +8,14 @@ use Rattle.std.proofs.Math.Seq.{take-length}
 use Rattle.io_edge.specs.Faults.{GrowsByPart}
 use Rattle.mat_int.specs.Matrix.{Matrix, row_of}
 use Rattle.qp_model.specs.machine.Controller.{Numbers}
-use Rattle.qp_model.specs.machine.Machine.{IsAdmissible, average_denominator, averaged_plan}
+use Rattle.qp_model.specs.machine.Machine.{IsAdmissible}
+use Rattle.controller_file.specs.declared.any_controller.AnyController.{AnyController}
+use Rattle.controller_file.specs.declared.any_controller.AnyController.TheVariants.{Plain, Fast}
 use Rattle.qp_model.specs.text.ControllerText.{plan_line}
-use Rattle.number_text.specs.Lines.{spaced}
 use Rattle.fixed_kernel.specs.Outside.{IsFirstOutside}
 use Rattle.fixed_kernel.proofs.OneOutside.{one_outside_law}
 use Rattle.plan_lines.specs.Inside.{AreHeld}
-use Rattle.plan_lines.specs.Lines.{first_lines, AreLinesOf}
+use Rattle.plan_lines.specs.Lines.{any_plan_line, first_lines, AreLinesOf}
 use Rattle.plan_lines.specs.Making.{making_by}
 use Rattle.plan_lines.specs.Printing.{AreSomeLines, AreFirstLines, lines_by}
 use Rattle.plan_lines.proofs.LineByLine.{longer}
@@ -24,8 +25,9 @@ use Rattle.plan_lines.proofs.Acting.{IsJudged, AreToldAs}
 pub ended : (xs : List ℕ) → 0 < length (xs ++ 10 ∷ [])
 ended xs = omega (arith, length-append xs (10 ∷ []))
 
-pub line_some : (c : Numbers) (xi : List ℤ) → 0 < length (plan_line c xi)
-line_some c xi = ended (spaced (pos (average_denominator c) ∷ averaged_plan c xi))
+pub line_some : (k : AnyController) (xi : List ℤ) → 0 < length (any_plan_line k xi)
+line_some (Plain c) xi = ended _
+line_some (Fast c) xi = ended _
 
 -- ---- lines that are values of a function
 pub lines_more : (f : List ℤ → List ℕ) (m : Matrix) (k : ℕ) → k < length m.rows → flat_map f (take (suc k) m.rows) ≡ flat_map f (take k m.rows) ++ f (row_of m k)

@@ -4,6 +4,14 @@ use Rattle.std.specs.List.{flat_map}
 use Rattle.mat_int.specs.Matrix.{Matrix, row_of}
 use Rattle.qp_model.specs.machine.Controller.{Numbers}
 use Rattle.qp_model.specs.text.ControllerText.{plan_line}
+use Rattle.primal_average.specs.FastLine.{fast_plan_line}
+use Rattle.controller_file.specs.declared.any_controller.AnyController.{AnyController}
+use Rattle.controller_file.specs.declared.any_controller.AnyController.TheVariants.{Plain, Fast}
+
+-- the line of the averaged plan of a controller of either machine from a state
+abbrev pub any_plan_line : AnyController → List ℤ → List ℕ
+any_plan_line (Plain c) = plan_line c
+any_plan_line (Fast c) = fast_plan_line c
 
 -- the lines of the first k states, in order, by what the line of each is
 abbrev pub first_lines : (line : List ℤ → List ℕ) → Matrix → ℕ → List ℕ

@@ -5,11 +5,14 @@ use Rattle.io_edge.specs.declared.sink.Sink.{Ghosts as Screen}
 use Rattle.mat_int.specs.Matrix.{Matrix, row_of}
 use Rattle.qp_model.specs.machine.Controller.{Numbers}
 use Rattle.qp_model.specs.machine.Machine.{IsAdmissible}
-use Rattle.qp_model.specs.text.ControllerText.{plan_line}
 use Rattle.fixed_kernel.specs.Outside.{IsFirstOutside}
-use Rattle.primal_average.specs.FastLine.{fast_plan_line}
+use Rattle.controller_file.specs.AnyText.{any_numbers}
+use Rattle.controller_file.specs.declared.any_controller.AnyController.{AnyController}
+use Rattle.controller_file.specs.declared.any_controller.AnyController.TheVariants.{Plain, Fast}
 use Rattle.plan_lines.specs.Inside.{AreHeld, IsFirstOut}
-use Rattle.plan_lines.specs.Lines.{AreLinesOf}
+use Rattle.plan_lines.specs.Lines.{any_plan_line, AreLinesOf}
+use Rattle.plan_lines.specs.declared.any_kernel.AnyKernel.{AnyKernel}
+use Rattle.plan_lines.specs.declared.any_kernel.AnyKernel.TheVariants.{Plain as PlainKernel, Fast as FastKernel}
 use Rattle.command_line.specs.declared.status.Status.{Status}
 use Rattle.command_line.specs.declared.status.Status.TheVariants.{Done, Memory, WriteFault}
 
@@ -27,12 +30,13 @@ pub record Making : Type 1 where
 abbrev pub making_by : Numbers → (line_of : List ℤ → List ℕ) → Making
 making_by c line_of = record { holds = IsAdmissible c; outside = IsFirstOutside c; line = λ xi line. line ≡ line_of xi; stops = λ entry xi s. ⊥ }
 
--- a kernel: the line of its controller's averaged plan, of either machine
-abbrev pub making_of_plans : Numbers → Making
-making_of_plans c = making_by c (plan_line c)
+-- a kernel, of either machine: the line of its controller's averaged plan
+abbrev pub any_controller : AnyKernel → AnyController
+any_controller (PlainKernel k) = Plain k.controller
+any_controller (FastKernel k) = Fast k.controller
 
-abbrev pub making_of_fast_plans : Numbers → Making
-making_of_fast_plans c = making_by c (fast_plan_line c)
+abbrev pub making_of_any : AnyController → Making
+making_of_any k = making_by (any_numbers k) (any_plan_line k)
 
 -- it runs from each of the first k states
 abbrev pub AreRunFrom : Making → Matrix → ℕ → Type 0

@@ -35,8 +35,46 @@ const SECOND: Changed = (
     ],
 );
 
+// Those of its states 0 and 1 alone, of version 3.
+const FAST_LOWER: Changed = (
+    LOW,
+    &[
+        ("mpc-controller 1", "mpc-controller 3"),
+        ("words 6\n", "words 12\nexps 0 1 1\n"),
+    ],
+);
+
+const FAST_HIGHER: Changed = (
+    CONTROLLER,
+    &[
+        ("mpc-controller 1", "mpc-controller 3"),
+        ("steps 4\n", "steps 3\n"),
+        ("words 6\n", "words 12\nexps 0 1 1\n"),
+        ("lo 0\n", "lo 1\n"),
+    ],
+);
+
+// One that says version 3 and has the words of another.
+const FEW_WORDS: Changed = (
+    CONTROLLER,
+    &[
+        ("mpc-controller 1", "mpc-controller 3"),
+        ("lo 0\n", "lo 1\n"),
+    ],
+);
+
 // A controller of the design's whole box, of which a sum has no room in its width.
 const UNSAFE: Changed = (CONTROLLER, &[("W 256", "W 512")]);
+
+// And such a one of version 3.
+const FAST_WIDE: Changed = (
+    CONTROLLER,
+    &[
+        ("mpc-controller 1", "mpc-controller 3"),
+        ("words 6\n", "words 12\nexps 0 1 1\n"),
+        ("W 256", "W 512"),
+    ],
+);
 
 // The controller of two states, with a part of its box.
 const LEFT: Changed = (CONTROLLER_OF_TWO, &[("hi 16 5", "hi -1 5")]);
@@ -45,7 +83,7 @@ const LEFT: Changed = (CONTROLLER_OF_TWO, &[("hi 16 5", "hi -1 5")]);
 const RIGHT: Changed = (CONTROLLER_OF_TWO, &[("lo -16 -3", "lo 0 -3")]);
 
 // Texts of cells: a name, the first line, and the controllers. All cells of `over`, `turned` and `three` but the first hold a state that another holds.
-static CELLS: [(&str, &str, &[Changed]); 10] = [
+static CELLS: [(&str, &str, &[Changed]); 15] = [
     ("c", "mpc-cells 2\n", &[LOWER, HIGH]),
     ("over", "mpc-cells 2\n", &[LOWER, WHOLE]),
     ("turned", "mpc-cells 2\n", &[WHOLE, LOWER]),
@@ -56,6 +94,11 @@ static CELLS: [(&str, &str, &[Changed]); 10] = [
     ("cut", "mpc-cells 3\n", &[LOWER, HIGH]),
     ("more", "mpc-cells 1\n", &[LOWER, HIGH]),
     ("pairs", "mpc-cells 2\n", &[LEFT, RIGHT]),
+    ("fast", "mpc-cells 2\n", &[FAST_LOWER, FAST_HIGHER]),
+    ("fast-first", "mpc-cells 2\n", &[FAST_LOWER, HIGH]),
+    ("fast-last", "mpc-cells 2\n", &[LOWER, FAST_HIGHER]),
+    ("words", "mpc-cells 2\n", &[LOWER, FEW_WORDS]),
+    ("wide", "mpc-cells 2\n", &[LOWER, FAST_WIDE]),
 ];
 
 // Files of states.
@@ -82,6 +125,12 @@ serve unsafe s: error 11 controller 1 unsafe
 serve unlike s: error 11 controller 1 line 22
 serve cut s: error 11 controller 1 line 40
 serve more s: error 11 controller 1 line 21
+serve fast s: 64 0,9216 -4960
+serve fast beyond: error 12 outside-box 1 0 1
+serve fast-first s: 64 0,4096 -2224
+serve fast-last s: 32 0,9216 -4960
+serve words s: error 11 controller 1 line 26
+serve wide s: error 11 controller 1 unsafe
 serve pairs p: 1792 0 329,1792 -42 -462,1792 -8 63
 serve pairs second: error 12 outside-box 2 0 2
 serve pairs first: error 12 outside-box 1 0 1

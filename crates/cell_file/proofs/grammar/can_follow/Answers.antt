@@ -4,19 +4,19 @@ use Rattle.std.proofs.lemmas.Bool.{false≢true}
 use Rattle.std.proofs.lemmas.List.{length-map}
 use Rattle.text_lines.specs.Lines.{Keyed, view, views, place_of}
 use Rattle.text_lines.specs.Grammar.{IsBeginning}
-use Rattle.controller_file.specs.Following.{IsWhole}
+use Rattle.controller_file.specs.Following.{IsAnyWhole}
 use Rattle.cell_file.proofs.Alikes.{test_by}
 use Rattle.cell_file.proofs.Places.{tail_views}
 use Rattle.cell_file.proofs.Grammars.{end_is}
 use Rattle.cell_file.proofs.Follows.{end_follows, end_only, tail_begins, first_follows, cell_only, alike_follows, alike_only}
 use Rattle.cell_file.proofs.grammar.can_follow.Goals as goal
 
-pub can_follow-requires-clause-beginning : goal.can_follow-requires-clause-beginning
-can_follow-requires-clause-beginning c =
+pub any_can_follow-requires-clause-beginning : goal.any_can_follow-requires-clause-beginning
+any_can_follow-requires-clause-beginning c =
     let lines = c.args.before.now in
     let p = c.place_after-place.result in
     let some : 0 < length lines = search rules in
-    subst (IsBeginning IsWhole) (sym (tail_views lines p.start))
+    subst (IsBeginning IsAnyWhole) (sym (tail_views lines p.start))
     (tail_begins (views lines) p c.place_after-place.ensures (omega (arith, some, length-map lines view)) c.requires.beginning (λ is. absurd (omega (arith, is, c.if-place-count_in.false, c.count_in.ensures))))
 
 pub returns-then-place-before : goal.returns-then-place-before
@@ -37,7 +37,7 @@ returns-then-place-eq0 c =
     let p = c.place_after-place.result in
     let some : 0 < length lines = search rules in
     let long : 0 < length (views lines) = omega (arith, some, length-map lines view) in
-    let goes = subst (λ (ks : List Keyed). IsBeginning IsWhole (ks ++ view c.args.line.now ∷ [])) (tail_views lines p.start) (c.can_follow.ensures.0 c.if-can_follow.true) in (
+    let goes = subst (λ (ks : List Keyed). IsBeginning IsAnyWhole (ks ++ view c.args.line.now ∷ [])) (tail_views lines p.start) (c.any_can_follow.ensures.0 c.if-any_can_follow.true) in (
       λ t. first_follows (views lines) p c.place_after-place.ensures long (view c.args.line.now) c.requires.beginning (λ is. absurd (omega (arith, is, c.if-place-count_in.false, c.count_in.ensures))) (omega (arith, c.if-place-eq0.true)) goes,
       λ b. search rules,
     )
@@ -49,7 +49,7 @@ returns-else-place-eq0 c =
     let p = c.place_after-place.result in
     let some : 0 < length lines = search rules in
     let long : 0 < length (views lines) = omega (arith, some, length-map lines view) in
-    let goes = subst (λ (ks : List Keyed). IsBeginning IsWhole (ks ++ l ∷ [])) (tail_views lines p.start) (c.can_follow.ensures.0 c.if-can_follow.true) in
+    let goes = subst (λ (ks : List Keyed). IsBeginning IsAnyWhole (ks ++ l ∷ [])) (tail_views lines p.start) (c.any_can_follow.ensures.0 c.if-any_can_follow.true) in
     let tail = views (take (length lines - p.start) (drop p.start lines)) in
     let test = test_by lines p.start (IsTrue c.is_alike.result) c.deref.result.now l.numbers c.deref.ensures.value c.is_alike.ensures in (
       λ t. alike_follows (views lines) p c.place_after-place.ensures long l (IsTrue c.is_alike.result) tail (tail_views lines p.start) test c.requires.beginning
@@ -58,13 +58,13 @@ returns-else-place-eq0 c =
           (λ is. absurd (omega (arith, is, c.if-place-count_in.false, c.count_in.ensures))) (λ is. absurd (omega (arith, is, c.if-place-eq0.false))) b,
     )
 
-pub returns-else-can_follow : goal.returns-else-can_follow
-returns-else-can_follow c =
+pub returns-else-any_can_follow : goal.returns-else-any_can_follow
+returns-else-any_can_follow c =
     let lines = c.args.before.now in
     let p = c.place_after-place.result in
     let some : 0 < length lines = search rules in
     let long : 0 < length (views lines) = omega (arith, some, length-map lines view) in (
-      λ t. absurd (false≢true (sym c.if-can_follow.false ∙ t)),
-      λ b. c.can_follow.ensures.1 (subst (λ (ks : List Keyed). IsBeginning IsWhole (ks ++ view c.args.line.now ∷ [])) (sym (tail_views lines p.start))
+      λ t. absurd (false≢true (sym c.if-any_can_follow.false ∙ t)),
+      λ b. c.any_can_follow.ensures.1 (subst (λ (ks : List Keyed). IsBeginning IsAnyWhole (ks ++ view c.args.line.now ∷ [])) (sym (tail_views lines p.start))
           (cell_only (views lines) p c.place_after-place.ensures long (view c.args.line.now) (λ is. absurd (omega (arith, is, c.if-place-count_in.false, c.count_in.ensures))) b)),
     )

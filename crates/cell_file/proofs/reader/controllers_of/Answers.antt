@@ -1,6 +1,6 @@
 use Rattle.std.proofs.Common.{◌≡◌, ◌++◌, ◌∷◌, [], true, rules, arith}
 use Rattle.std.specs.Result.{is_ok}
-use Rattle.qp_model.specs.machine.AbsoluteSums.{IsController}
+use Rattle.controller_file.specs.AnyText.{IsSafe}
 use Rattle.text_lines.specs.Lines.{views}
 use Rattle.cell_file.specs.Reading.{AreNoneOf}
 use Rattle.cell_file.proofs.Reading.{there, cell_begins, never_none, order, slice_whole, one_more, none_of_each, all_pushed, handed_on}
@@ -62,7 +62,7 @@ loop-preserved c =
     let items : c.push.new.self.items ≡ c.loop.cells.items ++ c.in_ok-controller.controller ∷ [] = rw good at c.push.ensures.items in
     record {
       end = c.loop.invariant.end;
-      safe = all_pushed IsController c.loop.cells.items c.push.new.self.items c.in_ok-controller.controller items c.loop.invariant.safe c.in_ok-controller.ensures.found.safe;
+      safe = all_pushed IsSafe c.loop.cells.items c.push.new.self.items c.in_ok-controller.controller items c.loop.invariant.safe c.in_ok-controller.ensures.found.safe;
       read = λ cells are e.
           let lt = there cells lines are e c.loop.counter _ c.loop.invariant.end c.loop-test.true in
           one_more cells lines are e c.loop.cells.items c.loop.counter c.loop.start (c.loop.invariant.read cells are e) lt c.end_from.result c.end_from.ensures c.in-Some.end c.in_ok-controller.controller c.push.new.self.items

@@ -20,7 +20,7 @@ returns-in-Ok-put g c =
       no_fewer = omega (arith, c.put.ensures.no_fewer, did.no_fewer);
     }
 
-pub returns-clause-printed : goal.returns-clause-printed
-returns-clause-printed g c =
+pub returns-in-Err-clause-printed : goal.returns-in-Err-clause-printed
+returns-in-Err-clause-printed g c =
     let told = rw (c.deref.ensures.value, c.in-Ok-report_text.ensures) at c.in-Err.ensures.err in
     report_fault c.args.controller.now (printed c.args.bounds.now) c.args.states.now (g.O.Sink.got c.args.out.now) (g.O.Sink.got c.put.new.self) told

@@ -10,7 +10,7 @@ returns-in-Ok g c =
     let kept = c.in-Ok.ensures in
     let did = c.print_loops.ensures in
     rw c.if-disturbed.true
-    (went_on kept.passes (rw (ap (λ (n : Numbers). n.states) c.parts_of.ensures.value, c.at.ensures) at kept.right)
+    (went_on kept.passes (rw (ap (λ (n : Numbers). n.states) c.parts.ensures.value, c.at.ensures) at kept.right)
     (acted
     (printed tt
     (loops_printed (design_of c.args.design.now) c.args.controller.now (Some c.in-Ok.shifts) c.args.turns c.args.states.now c.print_loops.result g.O.Sink true c.args.out.now c.print_loops.new.out did)

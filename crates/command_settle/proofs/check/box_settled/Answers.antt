@@ -18,14 +18,14 @@ use Rattle.command_settle.proofs.check.box_settled.Goals as goal
 pub check_settling-requires : goal.check_settling-requires
 check_settling-requires c =
     let states = ap (λ (p : DesignParts). p.states) c.parts-d.ensures.value ∙ c.requires.matched.states in
-    let low = ap (λ (n : Numbers). n.low) c.parts_of-c.ensures.value in
-    let high = ap (λ (n : Numbers). n.high) c.parts_of-c.ensures.value in
+    let low = ap (λ (n : Numbers). n.low) c.parts-c.ensures.value in
+    let high = ap (λ (n : Numbers). n.high) c.parts-c.ensures.value in
     record {
       design = c.parts-d.ensures.sound;
-      sized = c.parts_of-c.ensures.sized;
-      matched = rw (c.parts-d.ensures.value, c.parts_of-c.ensures.value) c.requires.matched;
+      sized = c.parts-c.ensures.sized;
+      matched = rw (c.parts-d.ensures.value, c.parts-c.ensures.value) c.requires.matched;
       certificate = subst (λ (k : ℕ). IsCertificateFor k c.args.certificate.now) (sym states) c.requires.certificate;
-      inside = subst (λ (k : ℕ). IsPartOf k (box_of c.parts_of-c.result.now.lo.items c.parts_of-c.result.now.hi.items) (state_box c.args.certificate.now.still)) (sym states) (rw (low, high) c.requires.inside);
+      inside = subst (λ (k : ℕ). IsPartOf k (box_of c.parts-c.result.now.lo.items c.parts-c.result.now.hi.items) (state_box c.args.certificate.now.still)) (sym states) (rw (low, high) c.requires.inside);
       shift_low = rw c.row.ensures.value (c.requires.range.low.long ∙ sym states);
       shift_high = rw c.row-2.ensures.value (c.requires.range.high.long ∙ sym states);
     }
@@ -47,16 +47,16 @@ returns-in-Ok c =
     let d = design_of c.args.design.now in
     let n = any_numbers c.args.controller.now in
     let f = certificate_numbers c.args.certificate.now in
-    let told = rw (c.parts-d.ensures.value, c.parts_of-c.ensures.value, c.row.ensures.value, c.row-2.ensures.value) at c.in-Ok.ensures in
-    let own : IsLoopFor (design_of c.parts-d.result.now) (numbers c.parts_of-c.result.now) = record {
+    let told = rw (c.parts-d.ensures.value, c.parts-c.ensures.value, c.row.ensures.value, c.row-2.ensures.value) at c.in-Ok.ensures in
+    let own : IsLoopFor (design_of c.parts-d.result.now) (numbers c.parts-c.result.now) = record {
       plant = positive c.parts-d.result.now.plant_den c.parts-d.ensures.sound.plant_den;
-      sized = c.parts_of-c.ensures.sized;
-      sizes = rw (c.parts-d.ensures.value, c.parts_of-c.ensures.value) c.requires.matched;
+      sized = c.parts-c.ensures.sized;
+      sizes = rw (c.parts-d.ensures.value, c.parts-c.ensures.value) c.requires.matched;
     } in
-    let loop : IsLoopFor d n = rw (c.parts-d.ensures.value, c.parts_of-c.ensures.value) at own in
+    let loop : IsLoopFor d n = rw (c.parts-d.ensures.value, c.parts-c.ensures.value) at own in
     record {
       rest = told.rest;
-      costs = costs_same _ _ _ _ _ _ _ _ (state_box c.args.certificate.now.still) c.args.certificate.now.after c.in-Ok.settled.costs c.parts-d.ensures.value c.parts_of-c.ensures.value
+      costs = costs_same _ _ _ _ _ _ _ _ (state_box c.args.certificate.now.still) c.args.certificate.now.after c.in-Ok.settled.costs c.parts-d.ensures.value c.parts-c.ensures.value
           c.row.ensures.value c.row-2.ensures.value c.in-Ok.ensures.costs;
       settles = any_settle d c.args.controller.now (range_box c.args.range.now) (certificate_in f) loop told.found.still told.settled;
       passes = told.found;
@@ -69,7 +69,7 @@ returns-in-Err c =
     let d = design_of c.args.design.now in
     let n = any_numbers c.args.controller.now in
     let f = certificate_numbers c.args.certificate.now in
-    let told = rw (c.parts-d.ensures.value, c.parts_of-c.ensures.value, c.row.ensures.value, c.row-2.ensures.value) at c.in-Err.ensures in
+    let told = rw (c.parts-d.ensures.value, c.parts-c.ensures.value, c.row.ensures.value, c.row-2.ensures.value) at c.in-Err.ensures in
     record {
       rest = tt;
       costs = tt;

@@ -13,7 +13,7 @@ pub returns-in-Ok-zero : goal.returns-in-Ok-zero
 returns-in-Ok-zero g c =
     let n = any_numbers c.args.controller.now in
     let did = c.print_settled-in-Ok-zero.ensures in
-    let none : c.in-Ok-zero.range ≡ no_disturbances n.states = c.in-Ok-zero.ensures ∙ ap (λ (k : Numbers). no_disturbances k.states) c.parts_of.ensures.value in
+    let none : c.in-Ok-zero.range ≡ no_disturbances n.states = c.in-Ok-zero.ensures ∙ ap (λ (k : Numbers). no_disturbances k.states) c.parts.ensures.value in
     rw c.if-disturbed.false
     (acted
     (printed tt

@@ -14,11 +14,11 @@ returns-in-Err g c =
 pub returns-in-Some : goal.returns-in-Some
 returns-in-Some g c =
     let kept = c.in-Ok.ensures in
-    let differs = subst (λ (n : Numbers). IsMismatch (design_of c.args.design.now) n c.in-Some.status) c.parts_of.ensures.value c.in-Some.ensures in
+    let differs = subst (λ (n : Numbers). IsMismatch (design_of c.args.design.now) n c.in-Some.status) c.parts.ensures.value c.in-Some.ensures in
     went_on kept.passes (rw c.at.ensures at kept.right) (failed differs)
 
 pub returns : goal.returns
 returns g c =
     let kept = c.in-Ok.ensures in
-    let matched = subst (λ (n : Numbers). IsFor n (design_of c.args.design.now)) c.parts_of.ensures.value c.in-None.ensures in
+    let matched = subst (λ (n : Numbers). IsFor n (design_of c.args.design.now)) c.parts.ensures.value c.in-None.ensures in
     went_on kept.passes (rw c.at.ensures at kept.right) (passed matched c.run_controller.ensures)
