@@ -1,5 +1,5 @@
 -- The numbers of a cell's design are known, and with them its refusals.
-use Rattle.std.proofs.Common.{◌≡◌, ◌⊎◌, inl, inr, ℕ, ◌*◌, ◌^◌, ℤ, pos, List, length, Result, Ok, Err, sym, ap, subst, ◌∙◌, arith, unsigned_abs}
+use Rattle.std.proofs.Common.{◌≡◌, ◌⊎◌, inl, inr, ℕ, ◌*◌, ◌^◌, ℤ, pos, Bool, List, length, Result, Ok, Err, refl, sym, ap, subst, ◌∙◌, arith, unsigned_abs}
 use Rattle.std.specs.Prelude.{All, IsOk, IfOk, IfErr}
 use Rattle.std.proofs.lemmas.List.{ext_get_or}
 use Rattle.integer_algebra.specs.Sums.{at}
@@ -7,19 +7,16 @@ use Rattle.qp_model.specs.problem.Design.{Design}
 use Rattle.qp_model.specs.problem.Parts.{design_of, design_numbers, DesignNumbers}
 use Rattle.qp_model.specs.problem.Policy.{Plans, IsPolicyFor}
 use Rattle.qp_model.specs.problem.Runs.{Holds}
-use Rattle.qp_model.specs.bounds.Certified.{IsCertified}
 use Rattle.qp_model.specs.bounds.Printed.{printed}
-use Rattle.qp_model.specs.declared.bounds.Margin.{Margin}
 use Rattle.qp_model.specs.declared.design_parts.DesignParts.{DesignParts}
-use Rattle.design_engine.specs.Targets.{Targets, targets_of, IsWithinTargets}
-use Rattle.design_engine.specs.Built.{IsBuilt}
-use Rattle.design_engine.specs.Refusals.{HasCause, PassesAll}
-use Rattle.design_engine.specs.declared.generation.Made.{Made}
+use Rattle.design_engine.specs.Targets.{Targets, targets_of}
+use Rattle.fast_bounds.specs.ByMachine.{CauseBy}
 use Rattle.qp_model.specs.declared.refusal.Refusal.{Refusal}
 use Rattle.qp_model.specs.declared.refusal.Refusal.TheVariants.{Memory}
 use Rattle.cell_split.specs.Cells.{cell_low, cell_high}
 use Rattle.cell_split.proofs.Designs.{from_numbers}
-use Rattle.cell_maker.specs.Made.{IsCellDesign, IsCellMade, IsCellRefused, PassesCell}
+use Rattle.cell_maker.specs.declared.cell.MadeCell.{MadeCell}
+use Rattle.cell_maker.specs.Made.{IsCellDesign, PassesSomeBy, IsMadeBy, IsCellMade, IsCellRefused, Generates, GeneratesBy, GeneratesCell}
 
 -- ---- sizes
 fits_by : (p q : DesignParts) (plans : Plans) → q.states ≡ p.states → q.stages ≡ p.stages → q.inputs ≡ p.inputs → IsPolicyFor (design_of p) plans → IsPolicyFor (design_of q) plans
@@ -60,29 +57,65 @@ cell_same p other cuts k q e h = record {
   high = subst (λ (n : DesignNumbers). Holds q.hi.items n.states (cell_high (at n.hi) cuts k)) e h.high;
 }
 
--- ---- what the generator says of a cell's design is said of the cell
-pub tells_cell : (p : DesignParts) (cuts : List (List ℤ)) (k : ℕ) (plans : Plans) (q : DesignParts) (r : Result Made Refusal) → IsCellDesign p cuts k q →
-    ((e : Refusal) → HasCause (design_of q) (targets_of q) plans e → (r ≡ Err e) ⊎ (r ≡ Err Memory)) → (e : Refusal) → IsCellRefused p cuts k plans e → (r ≡ Err e) ⊎ (r ≡ Err Memory)
-tells_cell p cuts k plans q r cell tells e h = tells e (of_numbers (λ d t. HasCause d t plans e) h.design q (cell_numbers p cuts k h.design q h.cell cell) h.cause)
-
-pub passes_cell : (p : DesignParts) (cuts : List (List ℤ)) (k : ℕ) (plans : Plans) (q : DesignParts) (r : Result Made Refusal) → IsCellDesign p cuts k q →
-    ((m : Margin) (s f : ℕ) → PassesAll (design_of q) (targets_of q) plans m s f → IsOk r ⊎ (r ≡ Err Memory)) → PassesCell p cuts k plans → IsOk r ⊎ (r ≡ Err Memory)
-passes_cell p cuts k plans q r cell accepts h =
-    accepts h.margin h.exponent h.bits (of_numbers (λ d t. PassesAll d t plans h.margin h.exponent h.bits) h.design q (cell_numbers p cuts k h.design q h.cell cell) h.all)
-
-not_told : (m : Made) (e : Refusal) → (Ok m ≡ Err e) ⊎ (Ok m ≡ Err Memory) → ⊥
+-- ---- what the generator of a machine says
+not_told : {M : Type 0} (m : M) (e : Refusal) → (Ok m ≡ Err e) ⊎ (Ok m ≡ Err Memory) → ⊥
 not_told m e (inl is) = cc
 not_told m e (inr is) = cc
 
-pub made_of : (p : DesignParts) (cuts : List (List ℤ)) (k : ℕ) (plans : Plans) (q : DesignParts) (r : Result Made Refusal) → IsCellDesign p cuts k q → IfOk r (λ m. IsBuilt q plans m.controller (printed m.bounds)) →
-    IfOk r (λ m. IsCertified (design_of q) m.controller (printed m.bounds)) → IfOk r (λ m. IsWithinTargets (targets_of q) (printed m.bounds)) →
-    ((e : Refusal) → IsCellRefused p cuts k plans e → (r ≡ Err e) ⊎ (r ≡ Err Memory)) → IfOk r (λ m. IsCellMade p cuts k plans m.controller (printed m.bounds))
-made_of p cuts k plans q (Ok m) cell built certified targets tells =
-    record { design = q; cell = cell; built = built; certified = certified; targets = targets; accepted = λ e h. not_told m e (tells e h) }
-made_of p cuts k plans q (Err e) cell built certified targets tells = tt
+-- an answer tells a refusal, or out of memory
+abbrev pub Tells : {M : Type 0} → Result M Refusal → Refusal → Type 0
+Tells a e = (a ≡ Err e) ⊎ (a ≡ Err Memory)
 
-pub refused_of : (p : DesignParts) (cuts : List (List ℤ)) (k : ℕ) (plans : Plans) (q : DesignParts) (r : Result Made Refusal) → IsCellDesign p cuts k q →
-    IfErr r (λ e. (e ≡ Memory) ⊎ HasCause (design_of q) (targets_of q) plans e) → IfErr r (λ e. (e ≡ Memory) ⊎ IsCellRefused p cuts k plans e)
-refused_of p cuts k plans q (Ok m) cell why = tt
-refused_of p cuts k plans q (Err e) cell (inl memory) = inl memory
-refused_of p cuts k plans q (Err e) cell (inr cause) = inr (record { design = q; cell = cell; cause = cause })
+abbrev refusal : Refusal → Result MadeCell Refusal
+refusal e = Err e
+
+-- its answer, with what it made put into another form
+module _ {M : Type 0} (Made : MadeCell → Type 0) (Cause : Refusal → Type 0) (Passes : Type 0) (r : Result M Refusal) (tells : (e : Refusal) → Cause e → Tells r e) where
+  pub generates_ok : (x : M) (y : MadeCell) → r ≡ Ok x → Made y → Generates Made Cause Passes (Ok y)
+  generates_ok x y is made = record {
+    made = made;
+    refused = tt;
+    every_refusal = λ e h. absurd (not_told x e (subst (λ (a : Result M Refusal). Tells a e) is (tells e h)));
+    accepted = λ h. inl refl;
+  }
+
+  pub generates_err : (e : Refusal) → r ≡ Err e → (e ≡ Memory) ⊎ Cause e → (Passes → IsOk r ⊎ (r ≡ Err Memory)) → Generates Made Cause Passes (Err e)
+  generates_err e is why accepts = record { made = tt; refused = why; every_refusal = λ o h. moved o (tells o h); accepted = λ h. passed r is (accepts h) }
+    where
+      same : (o : Refusal) → r ≡ Err o → e ≡ o
+      same o told = cc
+
+      moved : (o : Refusal) → Tells r o → Tells (refusal e) o
+      moved o (inl told) = inl (ap refusal (same o told))
+      moved o (inr told) = inr (ap refusal (same Memory told))
+
+      passed : (a : Result M Refusal) → a ≡ Err e → IsOk a ⊎ (a ≡ Err Memory) → IsOk (refusal e) ⊎ (refusal e ≡ Err Memory)
+      passed (Ok x) never h = absurd (let no : ⊥ = cc in no)
+      passed (Err o) is (inl ok) = absurd (let no : ⊥ = cc in no)
+      passed (Err o) is (inr memory) = inr (let one : e ≡ Memory = cc in ap refusal one)
+
+-- of the design of a cell it is said of the cell
+module _ (p : DesignParts) (fast : Bool) (cuts : List (List ℤ)) (k : ℕ) (plans : Plans) (q : DesignParts) (cell : IsCellDesign p cuts k q) where
+  tells_cell : (r : Result MadeCell Refusal) → ((e : Refusal) → CauseBy fast (design_of q) (targets_of q) plans e → Tells r e) →
+      (e : Refusal) → IsCellRefused p fast cuts k plans e → Tells r e
+  tells_cell r tells e h = tells e (of_numbers (λ d t. CauseBy fast d t plans e) h.design q (cell_numbers p cuts k h.design q h.cell cell) h.cause)
+
+  made_of : (r : Result MadeCell Refusal) → IfOk r (λ m. IsMadeBy fast q plans m.controller (printed m.bounds)) → ((e : Refusal) → IsCellRefused p fast cuts k plans e → Tells r e) →
+      IfOk r (λ m. IsCellMade p fast cuts k plans m.controller (printed m.bounds))
+  made_of (Ok m) made tells = record { design = q; cell = cell; made = made; accepted = λ e h. not_told m e (tells e h) }
+  made_of (Err e) made tells = tt
+
+  refused_of : (r : Result MadeCell Refusal) → IfErr r (λ e. (e ≡ Memory) ⊎ CauseBy fast (design_of q) (targets_of q) plans e) → IfErr r (λ e. (e ≡ Memory) ⊎ IsCellRefused p fast cuts k plans e)
+  refused_of (Ok m) why = tt
+  refused_of (Err e) (inl memory) = inl memory
+  refused_of (Err e) (inr cause) = inr (record { design = q; cell = cell; cause = cause })
+
+  pub generates_cell : (r : Result MadeCell Refusal) → GeneratesBy fast q plans r → GeneratesCell p fast cuts k plans r
+  generates_cell r is =
+      let tells = tells_cell r is.every_refusal in
+      record {
+        made = made_of r is.made tells;
+        refused = refused_of r is.refused;
+        every_refusal = tells;
+        accepted = λ h. is.accepted (of_numbers (λ d t. PassesSomeBy fast d t plans) h.design q (cell_numbers p cuts k h.design q h.cell cell) h.all);
+      }

@@ -7,10 +7,9 @@ ghost use Rattle.qp_model.specs.bounds.Printed.{printed};
 ghost use Rattle.cell_split.specs.Cells.{cell_count, AreCutsFor};
 ghost use Rattle.cell_maker.specs.Made.{AreCellsMade, IsOnlyRefused};
 
-use crate::cell::make_cell;
+use crate::cell::{MadeCell, make_cell};
 use cell_split::Cuts;
-use design_engine::Made;
-use overflow_check::Controller;
+use controller_file::AnyController;
 use qp_model::{Bounds, Design, Policy, Refusal};
 use std::alloc::{AllocError, Global};
 
@@ -21,28 +20,30 @@ pub struct CellRefusal {
     pub refusal: Refusal,
 }
 
-/// The controllers of cells, and the bounds of each.
+/// The controllers of cells, all of one machine, and the bounds of each.
 #[derive(Drop)]
 pub struct MadeCells {
-    pub controllers: Vec<Controller>,
+    pub controllers: Vec<AnyController>,
     pub bounds: Vec<Bounds>,
 }
 
-/// The controllers and the bounds of all cells that have a policy, in their order: each is what `generate` makes of the cell's design and policy.
+/// The controllers and the bounds of all cells that have a policy, in their order: each is what `generate` makes of the cell's design and policy, by the
+/// machine that is asked for.
 ///
 /// # Errors
 /// The first refusal, cell by cell. `Memory` where memory runs out before.
 pub fn make_cells(
     alloc: Global,
     design: &Design,
+    fast: bool,
     cuts: &Cuts,
     policies: &[Option<Policy>],
 ) -> Result<MadeCells, CellRefusal>
     requires cuts { AreCutsFor (design_of design.now) cuts.now }
     requires count { length policies.now ≡ cell_count cuts.now }
     requires sized { All (λ o. IfSome o (λ p. IsPolicyFor (design_of design.now) (plans_of p))) policies.now }
-    ensures made { IfOk result (λ m. AreCellsMade design.now cuts.now (map (option_map plans_of) policies.now) m.controllers.items (map printed m.bounds.items)) }
-    ensures refused { IfErr result (λ e. (e.refusal ≡ Refusal.Memory) ⊎ IsOnlyRefused design.now cuts.now (map (option_map plans_of) policies.now) e) }
+    ensures made { IfOk result (λ m. AreCellsMade design.now fast cuts.now (map (option_map plans_of) policies.now) m.controllers.items (map printed m.bounds.items)) }
+    ensures refused { IfErr result (λ e. (e.refusal ≡ Refusal.Memory) ⊎ IsOnlyRefused design.now fast cuts.now (map (option_map plans_of) policies.now) e) }
 {
     let mut all = MadeCells {
         controllers: Vec::new(alloc),
@@ -52,7 +53,7 @@ pub fn make_cells(
         let Some(policy) = &policies[k as usize] else {
             continue;
         };
-        match make_cell(alloc, design, cuts, policy, k + 1) {
+        match make_cell(alloc, design, fast, cuts, policy, k + 1) {
             Ok(made) => {
                 if put(&mut all, made).is_err() {
                     return Err(refused(k + 1, Refusal::Memory));
@@ -65,7 +66,7 @@ pub fn make_cells(
 }
 
 // What was made of the next cell, behind that of those before it.
-fn put(all: &mut MadeCells, made: Made) -> Result<(), AllocError>
+fn put(all: &mut MadeCells, made: MadeCell) -> Result<(), AllocError>
     ensures controllers { OnOk result (all.new.controllers.items ≡ all.old.controllers.items ++ made.controller ∷ []) }
     ensures bounds { OnOk result (all.new.bounds.items ≡ all.old.bounds.items ++ made.bounds ∷ []) }
 {

@@ -5,7 +5,8 @@ use Rattle.mat_int.specs.Matrix.{row_of}
 use Rattle.qp_model.specs.problem.Design.{Design}
 use Rattle.qp_model.specs.problem.Parts.{design_of}
 use Rattle.qp_model.specs.problem.Policy.{Plans}
-use Rattle.qp_model.specs.machine.Controller.{Numbers}
+use Rattle.controller_file.specs.AnyText.{any_numbers}
+use Rattle.controller_file.specs.declared.any_controller.AnyController.{AnyController}
 use Rattle.qp_model.specs.bounds.Printed.{Printed}
 use Rattle.command_line.specs.Words.{word_of}
 use Rattle.command_line.specs.Limit.{file_limit}
@@ -29,24 +30,24 @@ use Rattle.command_laws.specs.Laws.{CoveredServeLaw, WholeServeLaw, SplitServeLa
 use Rattle.command_laws.proofs.States.{state_long}
 
 -- the state that one controller alone has gets the line of its plan
-planned : (d : Design) (cells : List Numbers) (bounds : List Printed) (xi : List ℤ) → IsServedBy d cells bounds xi → IsPlannedBy d cells bounds xi
+planned : (d : Design) (cells : List AnyController) (bounds : List Printed) (xi : List ℤ) → IsServedBy d cells bounds xi → IsPlannedBy d cells bounds xi
 planned d cells bounds xi by = record { by = by; line = one_cell_law cells xi by.index (record { there = by.first.there; here = by.first.here; alone = by.alone }) }
 
 -- the states of cells are as long as those of the whole design
-states_of_all : (one two three : Option (List ℕ)) (text : List ℕ) (cells : List Numbers) (bounds : List Printed) → CellsRight cells text → (made : AreSplitFrom one two three cells bounds) →
+states_of_all : (one two three : Option (List ℕ)) (text : List ℕ) (cells : List AnyController) (bounds : List Printed) → CellsRight cells text → (made : AreSplitFrom one two three cells bounds) →
     cell_states cells ≡ made.p.states
 states_of_all one two three text [] bounds is_text made = absurd (omega (arith, is_text.form.are.some))
 states_of_all one two three text (c ∷ cells) bounds is_text made =
     let first = cell_of_controller made.plans (cell_count made.lists) 0 (omega (arith, made.made.count)) in
     let box = rw (first.own, ← first.place) at (made.boxes.low first.cell c first.inside) in
-    sym (is_text.form.are.form 0 c (omega arith)).sized.shaped.low ∙ box.long
+    sym (is_text.form.are.form 0 (any_numbers c) (omega arith)).sized.shaped.low ∙ box.long
 
 -- a state of a cell that has plans is served
-with_plans : (d : Design) (cells : List Numbers) (bounds : List Printed) (xi : List ℤ) (o : Option Plans) → IsSome o → MatchOption o (NoneHolds cells xi (length cells)) (λ _. IsServedBy d cells bounds xi) → IsServedBy d cells bounds xi
+with_plans : (d : Design) (cells : List AnyController) (bounds : List Printed) (xi : List ℤ) (o : Option Plans) → IsSome o → MatchOption o (NoneHolds cells xi (length cells)) (λ _. IsServedBy d cells bounds xi) → IsServedBy d cells bounds xi
 with_plans d cells bounds xi (Some plans) some by = by
 with_plans d cells bounds xi None some by = absurd cc
 
-served_by : (d : Design) (cuts : List (List ℤ)) (policies : List (Option Plans)) (cells : List Numbers) (bounds : List Printed) (xi : List ℤ) → IsServedByCell d cuts policies cells bounds xi →
+served_by : (d : Design) (cuts : List (List ℤ)) (policies : List (Option Plans)) (cells : List AnyController) (bounds : List Printed) (xi : List ℤ) → IsServedByCell d cuts policies cells bounds xi →
     IsCovered d cuts policies xi → IsServedBy d cells bounds xi
 served_by d cuts policies cells bounds xi by covered =
     let same : covered.cell ≡ by.own.cell = by.own.alone covered.cell covered.is_cell covered.here in

@@ -31,7 +31,8 @@ use Rattle.command_line.specs.declared.status.Status.TheVariants.{Done}
 use Rattle.command_files.specs.Texts.{AnyControllerRight, StatesRight}
 use Rattle.command_files.specs.Reading.{any_controller_kind, states_kind}
 use Rattle.command_files.proofs.OneThing.{one_content, one_states}
-use Rattle.command_solve.specs.Solve.{HoldsRuns, any_plan_line, solve_act, solve_script}
+use Rattle.plan_lines.specs.Lines.{any_plan_line}
+use Rattle.command_solve.specs.Solve.{HoldsRuns, solve_act, solve_script}
 use Rattle.command_solve.specs.Deeds.{solve_work, solve_deeds}
 use Rattle.command_laws.specs.Runs.{HasAnswered, HoldsGridStates, IsSolvedAs}
 use Rattle.command_laws.specs.Laws.{GenerateSolveLaw, LeanSolveLaw, FastSolveLaw}

@@ -19,7 +19,7 @@ use Rattle.command_line.specs.declared.status.Status.{Status}
 use Rattle.command_line.specs.declared.status.Status.TheVariants.{Done}
 use Rattle.command_files.specs.Texts.{StatesRight}
 use Rattle.plan_lines.specs.Printing.{IsSolvedBy}
-use Rattle.command_solve.specs.Solve.{any_plan_line}
+use Rattle.plan_lines.specs.Lines.{any_plan_line}
 use Rattle.command_solve.specs.Deeds.{solve_deeds}
 use Rattle.command_split.specs.Splitting.Cells.{cell_of, IsCell}
 use Rattle.command_split.specs.Made.{cell_plans}
@@ -55,7 +55,7 @@ abbrev pub IsFastSolvedAsCertified : List (List ℕ) → Files → Design → Nu
 IsFastSolvedAsCertified words files d c b = IsSolvedAs (Fast c) (IsFastCertifiedAt d c b) words files
 
 -- One controller has the state in its box, and is certified there with its bounds; the state's line is that of its averaged plan, and no other.
-pub record IsPlannedBy (d : Design) (cells : List Numbers) (bounds : List Printed) (xi : List ℤ) : Type 0 where
+pub record IsPlannedBy (d : Design) (cells : List AnyController) (bounds : List Printed) (xi : List ℤ) : Type 0 where
   pub by : IsServedBy d cells bounds xi
   pub line : HasOneCell cells xi by.index
 
@@ -67,7 +67,7 @@ pub record IsCovered (d : Design) (cuts : List (List ℤ)) (policies : List (Opt
   pub plans : IsSome (cell_plans policies cell)
 
 -- the same of the controllers of cells: each state is served
-pub record IsServedAsCertified (words : List (List ℕ)) (files : Files) (d : Design) (cells : List Numbers) (bounds : List Printed) (states : Matrix) (s : Status) (before now : Option (List ℕ)) : Type 0 where
+pub record IsServedAsCertified (words : List (List ℕ)) (files : Files) (d : Design) (cells : List AnyController) (bounds : List Printed) (states : Matrix) (s : Status) (before now : Option (List ℕ)) : Type 0 where
   pub called : IsCalledFor serve_deeds words (Some files) Done
   pub served : IsAllServed cells states s before now
   pub planned : (e : ℕ) → e < length states.rows → IsPlannedBy d cells bounds (row_of states e)

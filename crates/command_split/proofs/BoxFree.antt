@@ -6,9 +6,11 @@ use Rattle.qp_model.specs.problem.Design.{Design, CostRow, LimitRow}
 use Rattle.qp_model.specs.problem.Trajectory.{trajectory, lift}
 use Rattle.qp_model.specs.problem.Residual.{residual, residual_scale, IsFeasible}
 use Rattle.qp_model.specs.problem.Cost.{cost, cost_scale}
-use Rattle.qp_model.specs.machine.Controller.{Numbers}
 use Rattle.qp_model.specs.bounds.Printed.{Printed}
-use Rattle.qp_model.specs.bounds.Certified.{IsCertifiedAt, KeepsBounds, CostsAtMost, ExceedsNoRowBy}
+use Rattle.qp_model.specs.bounds.Certified.{KeepsBounds, CostsAtMost, ExceedsNoRowBy}
+use Rattle.cell_maker.specs.Controllers.declared.any_controller.AnyController.{AnyController}
+use Rattle.cell_maker.specs.Controllers.declared.any_controller.AnyController.TheVariants.{Plain, Fast}
+use Rattle.cell_maker.specs.Made.{IsCertifiedBy}
 
 module _ (d : Design) (low high : ℕ → ℤ) where
   abbrev boxed : Design
@@ -74,5 +76,6 @@ module _ (d : Design) (low high : ℕ → ℤ) where
       };
     }
 
-  pub certified_same : (c : Numbers) (b : Printed) (xi : List ℤ) → IsCertifiedAt boxed c b xi → IsCertifiedAt d c b xi
-  certified_same c b xi h = record { values = h.values; steps = h.steps; plan = bounds_same (at xi) b _ _ h.plan }
+  pub certified_same : (k : AnyController) (b : Printed) (xi : List ℤ) → IsCertifiedBy boxed k b xi → IsCertifiedBy d k b xi
+  certified_same (Plain c) b xi h = record { values = h.values; steps = h.steps; plan = bounds_same (at xi) b _ _ h.plan }
+  certified_same (Fast c) b xi h = record { values = h.values; steps = h.steps; plan = bounds_same (at xi) b _ _ h.plan }

@@ -1,5 +1,5 @@
 -- A controller that is made of a design and a policy alone: why it keeps the whole promise of its bounds, and why it is refused.
-use Rattle.std.proofs.Common.{◌≡◌, inl, inr, ℕ, ◌+◌, ◌*◌, ◌^◌, ◌<◌, ◌≤◌, max, ℤ, pos, ◌≤ℤ◌, unsigned_abs, arith, refl, subst, sym, ◌∙◌, Result}
+use Rattle.std.proofs.Common.{◌≡◌, inl, inr, ℕ, ◌+◌, ◌*◌, ◌^◌, ◌<◌, ◌≤◌, max, List, ℤ, pos, ◌≤ℤ◌, unsigned_abs, arith, refl, subst, sym, ◌∙◌, Result}
 use Rattle.std.proofs.lemmas.Int.{ints}
 use Rattle.qp_model.specs.problem.Design.{Design}
 use Rattle.qp_model.specs.problem.Parts.{design_of}
@@ -13,29 +13,34 @@ use Rattle.qp_model.specs.bounds.RealErrors.{real_errors}
 use Rattle.qp_model.specs.declared.bounds.Margin.{Margin}
 use Rattle.qp_model.specs.declared.design_parts.DesignParts.{DesignParts}
 use Rattle.qp_model.specs.declared.quantity.Quantity.{Quantity}
-use Rattle.qp_model.specs.declared.quantity.Quantity.TheVariants.{Multiplier}
+use Rattle.qp_model.specs.declared.quantity.Quantity.TheVariants.{Multiplier, Error, Descent, Width}
 use Rattle.qp_model.specs.declared.refusal.Refusal.{Refusal}
 use Rattle.qp_model.specs.declared.refusal.Refusal.TheVariants.{Memory, TooWide}
+use Rattle.controller_maker.specs.Widest.{fast_width_size}
 use Rattle.dual_bounds.specs.FastSteps.{quarter_steps}
 use Rattle.dual_bounds.proofs.RowBounds.{greatest_row}
+use Rattle.overflow_check.specs.FastController.{most_fast_steps}
 use Rattle.lean_engine.specs.Steps.{IsExponentOf}
+use Rattle.lean_engine.specs.Engine.RowExponents.{AreExponentsOf}
 use Rattle.lean_engine.specs.Engine.Aims.{aim_of}
 use Rattle.lean_engine.specs.Engine.Bounds.{margin_of, printed_multiplier, AreBoundsWith}
 use Rattle.lean_engine.specs.Engine.Refusals.{PassesMargin}
+use Rattle.lean_engine.specs.Engine.Stages.{Nothing, Sized, Finds, OfForm}
 use Rattle.lean_engine.specs.Engine.Targets.{Targets, targets_of}
 use Rattle.lean_engine.specs.Engine.Terms.{plain_terms}
 use Rattle.lean_engine.specs.Engine.Tests.{PassesForm, IsRefusedFor, HasFormCause}
+use Rattle.lean_engine.specs.Engine.declared.aimed.Aim.{Aim}
 use Rattle.lean_engine.specs.Engine.declared.bounds.Terms.{Terms}
 use Rattle.lean_engine.proofs.Engine.CauseCases.{refused_map}
 use Rattle.lean_engine.proofs.Engine.PromiseLaws.{margin_repairs}
-use Rattle.lean_engine.proofs.Engine.StageLaws.{form_one, form_none, form_apart, form_told, form_passed, corners_one, corners_none, corners_apart, corner_passed}
+use Rattle.lean_engine.proofs.Engine.StageLaws.{form_one, form_none, form_clear, form_apart, form_told, form_passed, corners_one, corners_none, corners_clear, corners_apart, corner_passed}
 use Rattle.lean_engine.proofs.Engine.TargetLaws.{halves_within}
-use Rattle.lean_engine.proofs.Engine.TestLaws.{sized_one, sized_none, sized_apart}
+use Rattle.lean_engine.proofs.Engine.TestLaws.{IsNone, sized_one, sized_none, sized_clear, sized_apart}
 use Rattle.fast_bounds.specs.FastAnswers.{real_cost_for, stated_cost_for, IsFastMadeBy, TellsOf}
 use Rattle.fast_bounds.specs.FastCertified.{IsFastMadeWith}
-use Rattle.fast_bounds.specs.FastMargin.{fast_margin_size, AfterFastMargin, HasFastMarginCause, PassesSomeFastMargin, FastMarginCausesLaw, FastMarginPassingLaw}
+use Rattle.fast_bounds.specs.FastMargin.{fast_margin_size, AfterFastMargin, HasFastMarginCause, PassesFastMargin, PassesSomeFastMargin, FastMarginCausesLaw, FastMarginPassingLaw}
 use Rattle.fast_bounds.specs.FastMargin.{IsFastMarginBuilt, IsFastMarginBuiltAs, FastMarginLaw}
-use Rattle.fast_bounds.specs.FastRefusals.{HasFastAimCause, PassesSomeFastAim}
+use Rattle.fast_bounds.specs.FastRefusals.{AreStepsFor, AreFastBitsOf, AfterFastBits, IsFastFine, HasFastAimCause, PassesFastAim, PassesSomeFastAim}
 use Rattle.fast_bounds.specs.declared.generation.FastMade.{FastMade}
 use Rattle.fast_bounds.proofs.FastAnswers.{told_as}
 use Rattle.fast_bounds.proofs.FastCauses.{fast_aim_one, fast_aim_none, fast_aim_apart}
@@ -86,6 +91,34 @@ margin_no_cause p plans t m s k es f e design policy h =
 pub margin_memory_apart : (d : Design) (t : Targets) (plans : Plans) → HasFastMarginCause d t plans Memory → ⊥
 margin_memory_apart d t plans = corners_apart d plans (AfterFastMargin d t)
     (λ m. sized_apart Multiplier _ _ (form_apart d (HasFastAimCause d (aim_of t m)) (λ s. fast_aim_apart d (aim_of t m) s))) Memory refl
+
+-- ---- none where something was made
+-- where no test of an aim tells anything, whose steps are few enough and whose exponents and bits are known, it passes them all
+fast_aim_clear : (d : Design) (a : Aim) (s k : ℕ) (es : List ℕ) (f : ℕ) → IsNone (HasFastAimCause d a s) → AreStepsFor a s k → k ≤ most_fast_steps → AreExponentsOf d s es →
+    AreFastBitsOf d a s k es f → PassesFastAim d a s k es f
+fast_aim_clear d a s k es f none steps few exponents bits =
+    let error = sized_clear Error _ (Finds ℕ (IsFastFine d a s k es) (AreFastBitsOf d a s k es) (AfterFastBits d a s k)) (λ e h. none e (inr (k, (steps, few), inr (es, exponents, h)))) in
+    let descent = sized_clear Descent _ (Sized Width (fast_width_size d (unsigned_abs a.r) s k f) Nothing) (λ e h. error.1 e (inr (f, bits, h))) in
+    record { steps = steps; few = few; exponents = exponents; error = error.0; choice = bits; descent = descent.0; width = (sized_clear Width _ Nothing descent.1).0 }
+
+-- a design with a policy that is refused for no reason passes every test, with the numbers of its controller
+pub margin_passes : (p : DesignParts) (plans : Plans) (c : Numbers) (b : Printed) → ((e : Refusal) → HasFastMarginCause (design_of p) (targets_of p) plans e → ⊥) → IsFastMarginBuilt p plans c b →
+    PassesFastMargin (design_of p) (targets_of p) plans (margin_of b) c.step_exponent c.steps c.exponents c.fraction_bits
+margin_passes p plans c b none built =
+    let d = design_of p in
+    let t = targets_of p in
+    let m = margin_of b in
+    let made = built.made in
+    let corners = corners_clear d plans (AfterFastMargin d t) m built.margin built.slack none in
+    let multiplier = sized_clear Multiplier _ (OfForm d (HasFastAimCause d (aim_of t m))) corners.1 in
+    let form = form_clear d (HasFastAimCause d (aim_of t m)) multiplier.1 in
+    record {
+      margin = record { room = corners.0; margin = built.margin; slack = built.slack };
+      multiplier = multiplier.0;
+      form = form.0;
+      exponent = made.exponent;
+      aim = fast_aim_clear d (aim_of t m) c.step_exponent c.steps c.exponents c.fraction_bits (form.1 c.step_exponent made.exponent) made.steps made.controller.form.sized.steps.1 made.exponents made.bits;
+    }
 
 -- ---- the refusals
 module _ (d : Design) (t : Targets) (plans : Plans) (m : Margin) (before : PassesMargin d t plans m) where

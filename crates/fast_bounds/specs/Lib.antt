@@ -4,3 +4,4 @@ pub mod FastRefusals
 pub mod FastTerms
 pub mod FastAnswers
 pub mod FastMargin
+pub mod ByMachine

@@ -35,7 +35,7 @@ struct Refused {
 }
 
 // Whether a run ends with this line, and leaves these texts under its two names.
-fn leaves(
+pub(crate) fn leaves(
     alloc: Global,
     store: &mut MemStore,
     fails: &Fails,

@@ -6,4 +6,4 @@ use Rattle.cell_maker.specs.Made.{AreMadeTo}
 use Rattle.cell_maker.proofs.make.make_cells.Given as goal
 
 abbrev pub invariant-loop-k : goal.invariant-loop-k
-invariant-loop-k l = AreMadeTo l.design l.cuts (map (option_map plans_of) l.policies) l.k l.all.controllers.items (map printed l.all.bounds.items)
+invariant-loop-k l = AreMadeTo l.design l.fast l.cuts (map (option_map plans_of) l.policies) l.k l.all.controllers.items (map printed l.all.bounds.items)

@@ -11,10 +11,10 @@ returns-in-Ok c =
     let made = c.in-Ok.ensures.made in
     record {
       made = made;
-      called = done_called c.args.design.now c.args.cuts.now (map (option_map plans_of) c.args.policies.now) c.in-Ok.made.controllers.items (map printed c.in-Ok.made.bounds.items) made;
+      called = done_called c.args.wanted.now.design c.args.wanted.now.fast c.args.cuts.now (map (option_map plans_of) c.args.policies.now) c.in-Ok.made.controllers.items (map printed c.in-Ok.made.bounds.items) made;
       unmade = tt;
     }
 
 pub returns-in-Err : goal.returns-in-Err
 returns-in-Err c =
-    none_made (refused_called c.args.design.now c.args.cuts.now (map (option_map plans_of) c.args.policies.now) c.in-Err.refused c.cell_status.result c.cell_status.ensures c.in-Err.ensures.refused)
+    none_made (refused_called c.args.wanted.now.design c.args.wanted.now.fast c.args.cuts.now (map (option_map plans_of) c.args.policies.now) c.in-Err.refused c.cell_status.result c.cell_status.ensures c.in-Err.ensures.refused)

@@ -14,7 +14,7 @@ use Rattle.command_split.proofs.cells.texts_of.Goals as goal
 
 pub texts_made-requires-clause-alike : goal.texts_made-requires-clause-alike
 texts_made-requires-clause-alike c =
-    are_alike c.args.design.now c.args.cuts.now (map (option_map plans_of) c.args.policies.now) c.in_ok-made.made.controllers.items (map printed c.in_ok-made.made.bounds.items) c.in_ok-made.ensures.made
+    are_alike c.args.wanted.now.design c.args.wanted.now.fast c.args.cuts.now (map (option_map plans_of) c.args.policies.now) c.in_ok-made.made.controllers.items (map printed c.in_ok-made.made.bounds.items) c.in_ok-made.ensures.made
 
 pub texts_made-requires-clause-some : goal.texts_made-requires-clause-some
 texts_made-requires-clause-some c = omega (arith, c.in_ok-made.ensures.made.count, c.requires.some)
@@ -26,7 +26,7 @@ texts_made-requires-clause-few c =
 
 pub returns : goal.returns
 returns c =
-    let design : IsDesign c.args.design.now = search rules in
+    let design : IsDesign c.args.wanted.now.design = search rules in
     let made = c.in_ok-made.made in
     let is = c.in_ok-made.ensures in
     makes_of c.texts_made.result is.called
