@@ -20,14 +20,14 @@ use Rattle.command_line.proofs.TwoTexts.{some_weaker}
 use Rattle.command_design_files.specs.Reading.{policy_kind}
 use Rattle.command_design_files.proofs.Stopping.{text_refused}
 use Rattle.command_generate.specs.Made.{CallsFor, IsMadeOf, AreTextsBy, AreTextsOf}
-use Rattle.command_generate.specs.Generate.{generate_act, generate_work, IsMadeFrom, AreMadeAndWrittenBy, AreMadeAndWritten, IsGenerated}
+use Rattle.command_generate.specs.Generate.{generate_act, plain_work, IsMadeFrom, AreMadeAndWrittenBy, AreMadeAndWritten, IsGenerated}
 use Rattle.command_generate.proofs.Making.{making_telling}
 use Rattle.command_generate.proofs.SameDesign.{along}
 use Rattle.command_line.specs.declared.status.Status.{Status}
 use Rattle.command_line.specs.declared.status.Status.TheVariants.{Done}
 
 -- ---- its script
-pub generate_sound : IsSoundWork generate_work
+pub generate_sound : IsSoundWork plain_work
 generate_sound = record {
   sound = (
     omega arith,
@@ -67,11 +67,11 @@ abbrev pub made_and_written : (Made Of : Numbers → Printed → Type 0) (first 
 made_and_written Made Of first second words files new two of = made_and_written_by IsControllerText Made Of first second words files new controller_short two of
 
 -- ---- what it left
-pub generated : (words : List (List ℕ)) (s : Status) (held now : Option Files) → s ≡ Done → leaves_of generate_work.script words s held now → IfSome held (λ files. IsSomeAnd now (IsGenerated words files))
+pub generated : (words : List (List ℕ)) (s : Status) (held now : Option Files) → s ≡ Done → leaves_of plain_work.script words s held now → IfSome held (λ files. IsSomeAnd now (IsGenerated words files))
 generated words s None now is left = tt
-generated words s (Some files) now is left = go (left_told words s files now generate_work.script left)
+generated words s (Some files) now is left = go (left_told words s files now plain_work.script left)
   where
-    go : leaves_at generate_work.script (λ i. files (word_of words i)) words s (Some files) now → IsSomeAnd now (IsGenerated words files)
+    go : leaves_at plain_work.script (λ i. files (word_of words i)) words s (Some files) now → IsSomeAnd now (IsGenerated words files)
     go (inl none) = absurd (none.done is)
     go (inr (p, design, inl none)) = absurd (none.done is)
     go (inr (p, design, inr (plans, policy, leaves))) =

@@ -1,4 +1,4 @@
--- What `generate` does with what its first two files hold, and what it leaves in the store.
+-- What `generate` does with what its first two files hold, of designs of versions 1 and 2, and what it leaves in the store.
 use Rattle.std.specs.Prelude.{◌≡◌, ◌≢◌, ℕ, ◌≤◌, List, length, Option, Some}
 use Rattle.io_edge.specs.Faults.{Files}
 use Rattle.qp_model.specs.problem.Policy.{Plans}
@@ -27,12 +27,12 @@ generate_act p plans = two_texts (MakingCalls p plans) (λ words. AreTextsOf (Is
 abbrev pub generate_after : DesignParts → Script
 generate_after p = reads 2 (policy_kind (design_of p)) (λ plans. ends (generate_act p plans))
 
-abbrev pub generate_work : Work
-generate_work = two_work (reads 1 design_kind generate_after) 3 4
+abbrev pub plain_work : Work
+plain_work = two_work (reads 1 design_kind generate_after) 3 4
 
--- its row of the table of commands
-abbrev pub generate_deeds : Deeds
-generate_deeds = deeds_of_work generate_work
+-- its row, where it stands alone
+abbrev pub plain_deeds : Deeds
+plain_deeds = deeds_of_work plain_work
 
 -- ---- what is written
 -- two files hold a design and a policy for it

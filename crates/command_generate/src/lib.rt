@@ -1,4 +1,4 @@
-//! `generate`: a controller and the report of its bounds, from a design and a policy, and what is made of them.
+//! `generate` of designs of versions 1 and 2: a controller and the report of its bounds, from a design and a policy, and what is made of them.
 #![tactic(auto)]
 
 mod command;

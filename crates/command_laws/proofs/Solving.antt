@@ -35,7 +35,7 @@ use Rattle.plan_lines.specs.Lines.{any_plan_line}
 use Rattle.command_solve.specs.Solve.{HoldsRuns, solve_act, solve_script}
 use Rattle.command_solve.specs.Deeds.{solve_work, solve_deeds}
 use Rattle.command_laws.specs.Runs.{HasAnswered, HoldsGridStates, IsSolvedAs}
-use Rattle.command_laws.specs.Laws.{GenerateSolveLaw, LeanSolveLaw, FastSolveLaw}
+use Rattle.command_laws.specs.Laws.{WrittenSolveLaw, GenerateSolveLaw, FastGenerateSolveLaw, LeanSolveLaw, FastSolveLaw}
 use Rattle.command_laws.proofs.States.{state_long, grid_state_held}
 
 -- ---- what a file holds is one thing
@@ -92,25 +92,32 @@ module _ (d : Design) (k : AnyController) (P : List ℤ → Type 0) (sizes : Has
         inside = λ e lt. grid_state_held d (any_numbers k) sizes (row_of states e) (long e lt) (grid.inside e lt);
       }
 
--- a text of a controller that was written under the name that is read
-written : (left : Files) (name other text : List ℕ) (k : AnyController) → IsAnyControllerText text k → length text ≤ file_limit → left name ≡ Some text → other ≡ name →
-    FileHolds file_limit (AnyControllerRight k) (left other)
-written left name other text k is_text short file same = record { bytes = text; held = ap left same ∙ file; short = short; right = is_text }
+  -- a text of it that was written is the one that is read
+  abbrev written_solved : (first : ℕ) (words asked : List (List ℕ)) (left : Files) (text : List ℕ) → IsAnyControllerText text k → length text ≤ file_limit → left (word_of words first) ≡ Some text →
+      WrittenSolveLaw first d words asked left (IsSolvedAs k P asked left)
+  written_solved first words asked left text is_text short file states s before now same grid run =
+      solved_as asked left states s before now (record { bytes = text; held = ap left same ∙ file; short = short; right = is_text }) grid run
 
 pub generate_solve_law : GenerateSolveLaw
-generate_solve_law words asked files left made states s before now same grid run =
+generate_solve_law words asked files left made =
     let from = made.made in
-    solved_as (design_of from.p) (Plain made.controller) (IsCertifiedAt (design_of from.p) made.controller made.bounds) from.built.made.made.sizes from.certified asked left states s before now
-    (written left (word_of words 3) (word_of asked 1) made.text (Plain made.controller) made.is_text made.short made.controller_file same) grid run
+    written_solved (design_of from.p) (Plain made.controller) (IsCertifiedAt (design_of from.p) made.controller made.bounds) from.built.made.made.sizes from.certified 3 words asked left
+    made.text made.is_text made.short made.controller_file
+
+pub fast_generate_solve_law : FastGenerateSolveLaw
+fast_generate_solve_law words asked files left made =
+    let from = made.made in
+    written_solved (design_of from.p) (Fast made.controller) (IsFastCertifiedAt (design_of from.p) made.controller made.bounds) from.made.built.made.made.sizes from.made.certified 3 words asked left
+    made.text made.is_text made.short made.controller_file
 
 pub lean_solve_law : LeanSolveLaw
-lean_solve_law words asked files left made states s before now same grid run =
+lean_solve_law words asked files left made =
     let from = made.made in
-    solved_as (design_of from.p) (Plain made.controller) (IsCertifiedAt (design_of from.p) made.controller made.bounds) from.made.built.made.made.sizes from.made.certified asked left states s before now
-    (written left (word_of words 4) (word_of asked 1) made.text (Plain made.controller) made.is_text made.short made.controller_file same) grid run
+    written_solved (design_of from.p) (Plain made.controller) (IsCertifiedAt (design_of from.p) made.controller made.bounds) from.made.built.made.made.sizes from.made.certified 4 words asked left
+    made.text made.is_text made.short made.controller_file
 
 pub fast_solve_law : FastSolveLaw
-fast_solve_law words asked files left made states s before now same grid run =
+fast_solve_law words asked files left made =
     let from = made.made in
-    solved_as (design_of from.p) (Fast made.controller) (IsFastCertifiedAt (design_of from.p) made.controller made.bounds) from.made.built.made.made.sizes from.made.certified asked left states s before now
-    (written left (word_of words 4) (word_of asked 1) made.text (Fast made.controller) made.is_text made.short made.controller_file same) grid run
+    written_solved (design_of from.p) (Fast made.controller) (IsFastCertifiedAt (design_of from.p) made.controller made.bounds) from.made.built.made.made.sizes from.made.certified 4 words asked left
+    made.text made.is_text made.short made.controller_file

@@ -1,15 +1,17 @@
 //! The laws of two commands: what is written is read back, and its plans keep what was printed.
 #![tactic(auto)]
 
-ghost use Rattle.command_laws.specs.Laws.{GenerateSolveLaw, LeanSolveLaw, FastSolveLaw, SplitServeLaw};
+ghost use Rattle.command_laws.specs.Laws.{GenerateSolveLaw, FastGenerateSolveLaw, LeanSolveLaw, FastSolveLaw, SplitServeLaw};
 
 /// After `generate` was done, `solve` of its controller and grid states of the design's box refuses nothing: all is done, but for want of memory and faults of files or the output.
-/// Each line is that of a plan that exceeds no constraint by more than the printed violation, and costs at most the printed gap more than any feasible plan.
+/// Each line is that of a plan that exceeds no constraint by more than the printed violation, and costs at most the printed gap more than any feasible plan. So it is for designs of
+/// versions 1 and 2, and of version 3.
 pub fn generate_solve_law()
-    ensures { GenerateSolveLaw }
+    ensures plain { GenerateSolveLaw }
+    ensures fast { FastGenerateSolveLaw }
 {}
 
-/// The same of `lean` and `solve`, for designs of versions 1 and 2, and of version 3.
+/// The same of `lean` and `solve`.
 pub fn lean_solve_law()
     ensures plain { LeanSolveLaw }
     ensures fast { FastSolveLaw }

@@ -1,7 +1,7 @@
 -- The names of the files of each command.
 use Rattle.std.proofs.Common.{◌≡◌, ℕ, suc, ◌<◌, ◌≤◌, Bool, true, false, if◌then◌else◌, List, length, sym, arith}
-use Rattle.command_line.specs.Words.{IsStay, IsLean, IsLeanStay}
-use Rattle.command_make.specs.Make.{IsAsked, stay_asked, lean_asked}
+use Rattle.command_line.specs.Words.{IsGenerate, IsStay, IsLean, IsLeanStay}
+use Rattle.command_make.specs.Make.{IsAsked, generate_asked, stay_asked, lean_asked}
 
 -- as many words, or one more with disturbances
 least : (with : Bool) (n low : ℕ) → n ≡ (if with then suc low else low) → low ≤ n
@@ -11,6 +11,18 @@ least false n low is = omega (arith, is)
 more : (with : Bool) (n low : ℕ) → n ≡ (if with then suc low else low) → with ≡ true → low < n
 more true n low is that = omega (arith, is)
 more false n low is that = absurd (let never : ⊥ = cc in never)
+
+pub generate_is : (words : List (List ℕ)) → IsGenerate words → IsAsked words generate_asked
+generate_is words is = record {
+  inputs = omega (arith, is.count);
+  controller = omega (arith, is.count);
+  report = omega (arith, is.count);
+  apart = is.report_controller;
+  faces = λ never. absurd (let no : ⊥ = cc in no);
+  range = λ never. absurd (let no : ⊥ = cc in no);
+  faces_order = omega arith;
+  range_order = omega arith;
+}
 
 pub stay_is : (words : List (List ℕ)) (disturbed : Bool) → IsStay words disturbed → IsAsked words (stay_asked disturbed)
 stay_is words disturbed is = record {

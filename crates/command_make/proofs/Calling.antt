@@ -21,6 +21,7 @@ use Rattle.command_generate.proofs.Engine.CauseLaws.{memory_apart}
 use Rattle.command_generate.proofs.Making.{refused_for, making_telling}
 use Rattle.lean_engine.proofs.CauseLaws as lean
 use Rattle.fast_bounds.proofs.FastCauses.{memory_apart as fast_apart}
+use Rattle.fast_bounds.proofs.FastMargin.{margin_memory_apart}
 use Rattle.command_make.specs.Made.{CauseOf, PassesOf, MakingCallsWith}
 use Rattle.command_make.specs.Excess.{AreStatedExcesses}
 use Rattle.command_make.specs.Stay.{stay_status, FacesCall}
@@ -37,7 +38,8 @@ module _ (d : Design) (t : Targets) (plans : Plans) (reference : Option Plans) (
   no_memory = go reference fast
     where
       go : (other : Option Plans) (by : Bool) → CauseOf d t plans other by refusals.Memory → ⊥
-      go None by = memory_apart d t plans
+      go None false = memory_apart d t plans
+      go None true = margin_memory_apart d t plans
       go (Some references) false = lean.memory_apart d t plans references
       go (Some references) true = fast_apart d t plans references
 
@@ -46,9 +48,9 @@ module _ (d : Design) (t : Targets) (plans : Plans) (reference : Option Plans) (
   stated_passes excess = go reference fast
     where
       go : (other : Option Plans) (by : Bool) → AreStatedExcesses d t plans other by excess → PassesWith (PassesOf d t plans other by)
-      go None by stated = record { margin = stated.margin; exponent = stated.exponent; bits = stated.bits; all = stated.passes }
+      go None false stated = record { margin = stated.margin; exponent = stated.exponent; bits = stated.bits; all = stated.passes }
       go (Some references) false stated = record { margin = stated.margin; exponent = stated.exponent; bits = stated.bits; all = stated.passes }
-      go (Some references) true stated = record { margin = stated.margin; exponent = stated.exponent; bits = stated.bits; all = (stated.steps, stated.exponents, stated.passes) }
+      go other true stated = record { margin = stated.margin; exponent = stated.exponent; bits = stated.bits; all = (stated.steps, stated.exponents, stated.passes) }
 
   refusal : (s : Status) → IsCausedRefusal (CauseOf d t plans reference fast) s → IsRefusal s
   refusal = refused_for (CauseOf d t plans reference fast) (PassesOf d t plans reference fast) no_memory

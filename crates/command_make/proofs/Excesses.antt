@@ -64,7 +64,7 @@ by_printed p plans c b errors built is = is ∙ ap (λ (n : ℕ). pos (stated_co
 pub ceil_mono : (a b k : ℕ) → 1 ≤ k → a ≤ b → ceil_div a k ≤ ceil_div b k
 ceil_mono a b k some h = let e = le-mul-ceil_div b k some in ceil_div-le a k (ceil_div b k) some (omega (arith, e, h))
 
-errors_mono : (e s r k a b : ℕ) → 1 ≤ r → a ≤ b → row_violation_bound e s r k a ≤ row_violation_bound e s r k b
+pub errors_mono : (e s r k a b : ℕ) → 1 ≤ r → a ≤ b → row_violation_bound e s r k a ≤ row_violation_bound e s r k b
 errors_mono e s r k a b some h = let m = ceil_mono a b r some h in omega (arith, m)
 
 -- R and the errors, by the whole numbers that they are

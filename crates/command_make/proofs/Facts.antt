@@ -1,5 +1,5 @@
 -- What is known of a controller of the plain machine that was made, with reference plans or without.
-use Rattle.std.proofs.Common.{◌≡◌, inl, false, ℕ, List, ℤ, pos, Option, Some, None, unsigned_abs, refl}
+use Rattle.std.proofs.Common.{◌≡◌, inl, false, List, ℤ, pos, Option, Some, None, unsigned_abs, refl}
 use Rattle.integer_algebra.specs.Sums.{at}
 use Rattle.mat_int.specs.Matrix.{Matrix, row_of}
 use Rattle.qp_model.specs.problem.Design.{rows}
@@ -8,7 +8,6 @@ use Rattle.qp_model.specs.problem.Policy.{Plans}
 use Rattle.qp_model.specs.problem.Runs.{Holds}
 use Rattle.qp_model.specs.machine.Controller.{Numbers}
 use Rattle.qp_model.specs.bounds.Printed.{Printed}
-use Rattle.qp_model.specs.text.ControllerText.{IsControllerText}
 use Rattle.qp_model.specs.declared.design_parts.DesignParts.{DesignParts}
 use Rattle.qp_model.specs.declared.refusal.Refusal.{Refusal}
 use Rattle.stay_check.specs.FaceForms.{FaceNumbers}
@@ -21,7 +20,7 @@ use Rattle.command_generate.specs.Engine.Targets.{targets_of}
 use Rattle.command_generate.specs.Made.{IsCausedRefusal}
 use Rattle.command_generate.proofs.Making.{refused_for}
 use Rattle.command_generate.proofs.Passing as plain
-use Rattle.command_make.specs.Made.{CauseOf, PassesOf, MakingCallsWith, IsMadeByPlans, IsTextBy}
+use Rattle.command_make.specs.Made.{CauseOf, PassesOf, MakingCallsWith, IsMadeByPlans}
 use Rattle.command_make.specs.Excess.{AreStatedExcesses, made_with}
 use Rattle.command_make.specs.Checking.{AreSmall, IsKeptWith}
 use Rattle.command_make.specs.Stay.{KeepsLoopsOf}
@@ -37,8 +36,7 @@ pub record Facts (p : DesignParts) (plans : Plans) (reference : Option Plans) (c
   pub stated : (xs : List ℤ) → Holds xs c.rows (made_with (targets_of p) reference c b.multiplier errors) → AreStatedExcesses (design_of p) (targets_of p) plans reference false xs
   pub one : (xs : List ℤ) → AreStatedExcesses (design_of p) (targets_of p) plans reference false xs → (other : List ℤ) → AreStatedExcesses (design_of p) (targets_of p) plans reference false other → other ≡ xs
   pub loops : (xs : List ℤ) → Holds xs c.rows (made_with (targets_of p) reference c b.multiplier errors) → (faces : FaceNumbers) (range : Matrix) → IsKeptWith (design_of p) (at xs) faces range →
-      KeepsLoopsOf p reference false c b range
-  pub text : (bytes : List ℕ) → IsControllerText bytes c → IsTextBy reference false bytes c
+      KeepsLoopsOf p false c b range
 
 -- no cause of a refusal comes with `Done`
 none_of : (p : DesignParts) (plans : Plans) (reference : Option Plans) → IsAnswer (MakingCallsWith (design_of p) (targets_of p) plans reference false) Done → (r : Refusal) →
@@ -61,7 +59,6 @@ facts p plans None c b errors made cost making =
       loops = λ xs holds faces range kept start inside shifts turns within.
           loop_under_law p c b (at xs) (at (row_of range 0)) (at (row_of range 1)) made.built.made.design made.built.made.controller made.built.made.made.sizes made.certified
           (covers p plans c b made.built errors cost xs holds) kept.keeps start inside shifts turns within;
-      text = λ bytes is. is;
     }
 facts p plans (Some references) c b errors made cost making =
     let none = none_of p plans (Some references) making in
@@ -75,5 +72,4 @@ facts p plans (Some references) c b errors made cost making =
       loops = λ xs holds faces range kept start inside shifts turns within.
           loop_under_law p c b (at xs) (at (row_of range 0)) (at (row_of range 1)) made.built.made.design made.built.made.controller made.built.made.made.sizes made.certified
           (lean.covers p plans references c b made.built errors cost xs holds) kept.keeps start inside shifts turns within;
-      text = λ bytes is. is;
     }

@@ -2,6 +2,7 @@
 pub mod Calling
 -- ---- a controller that was made, with reference plans or without
 pub mod LeanPassing
+pub mod FastPassing
 pub mod Excesses
 pub mod LeanExcesses
 pub mod FastExcesses

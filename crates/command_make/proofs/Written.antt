@@ -10,7 +10,6 @@ use Rattle.qp_model.specs.problem.Policy.{Plans}
 use Rattle.qp_model.specs.problem.Parts.{design_numbers, design_of}
 use Rattle.qp_model.specs.machine.Controller.{Numbers}
 use Rattle.qp_model.specs.machine.Successor.{state_after}
-use Rattle.qp_model.specs.text.ControllerText.{IsControllerText}
 use Rattle.qp_model.specs.bounds.Printed.{Printed}
 use Rattle.qp_model.specs.declared.design_parts.DesignParts.{DesignParts}
 use Rattle.closed_loop.specs.Looping.{looping_of_fast, state_by}
@@ -22,7 +21,7 @@ use Rattle.stay_check.proofs.CheckFacts.{zeros_are}
 use Rattle.command_line.specs.Words.{word_of}
 use Rattle.command_line.specs.Answers.{Contents, FileHolds}
 use Rattle.command_line.specs.Limit.{file_limit}
-use Rattle.command_line.specs.Script.{Script, ends, reads_where, calls_of, reads_of, leaves_at, leaves_of}
+use Rattle.command_line.specs.Script.{Script, ends, reads_where, calls_of, leaves_at, leaves_of}
 use Rattle.command_line.specs.TwoTexts.{BothStand, Two, LeavesTwo}
 use Rattle.command_line.proofs.Gathering.{IsSound, Sees, sees_next, sees_where, sound_where, whole}
 use Rattle.command_line.proofs.Following.{IsSoundWork, left_told}
@@ -42,15 +41,15 @@ use Rattle.command_design_files.specs.Reading.{policy_kind, asked_numbers}
 use Rattle.command_files.specs.Reading.{faces_kind, range_kind}
 use Rattle.command_design_files.proofs.Stopping.{text_refused}
 use Rattle.command_generate.specs.Engine.Targets.{Targets, targets_of}
-use Rattle.command_generate.specs.Made.{AreTextsBy}
-use Rattle.command_generate.specs.Generate.{IsMadeFrom}
+use Rattle.command_generate.specs.Made.{IsMadeOf, AreTextsBy}
+use Rattle.command_generate.specs.Generate.{HoldsInputs, IsMadeFrom}
 use Rattle.command_generate.proofs.SameDesign.{along}
 use Rattle.command_generate.proofs.Written.{made_and_written, made_and_written_by}
-use Rattle.command_make.specs.Stay.{no_shifts, IsRangeIn, KeepsLoopsBy, KeepsLoops, LoopsStayBy, LoopsStay, IsFastKeptAt, KeepsFastLoops, FastLoopsStay, IsStayed}
+use Rattle.command_make.specs.Stay.{no_shifts, IsRangeIn, KeepsLoopsBy, KeepsLoops, LoopsStayBy, LoopsStay, IsFastKeptAt, KeepsFastLoops, FastLoopsStay}
 use Rattle.command_make.specs.Made.{IsLeanMadeOf, IsFastMadeOf, IsTextBy}
 use Rattle.command_make.specs.Lean.{IsMadeOfFiles}
-use Rattle.command_make.specs.Fast.{IsFastMadeFrom, IsAnyWritten, IsAnyStayed}
-use Rattle.command_make.specs.Make.{IsMadeUnder, Making, under_of, make_act, with_range, with_faces, with_reference, with_policy, after_policy, make_after, make_script, make_work, stay_asked, lean_asked}
+use Rattle.command_make.specs.Fast.{HoldsFastInputs, IsFastGeneratedFrom, IsAnyGenerated, IsAnyGeneratedStayed, IsFastMadeFrom, IsAnyWritten, IsAnyStayed}
+use Rattle.command_make.specs.Make.{IsMadeUnder, Making, under_of, make_act, with_range, with_faces, with_reference, with_policy, after_policy, make_after, make_work, generate_asked, stay_asked, lean_asked}
 use Rattle.command_make.specs.declared.command.Asked.{Asked}
 use Rattle.command_make.proofs.Calling.{telling}
 
@@ -95,27 +94,15 @@ module _ (asked : Asked) (faces_order : 3 < asked.faces) (range_order : asked.fa
   after_sound : (fast : Bool) (p : DesignParts) → IsSound 2 (make_after asked fast p)
   after_sound fast p = (omega arith, text_refused 2, whole (after_policy asked fast p), reference_sound asked faces_order range_order fast (design_of p) (targets_of p) (IsMadeUnder p fast))
 
-  script_sound : (lean : Bool) → IsSound 0 (make_script lean asked)
-  script_sound true = (omega arith, text_refused 1, any_sees asked, λ wanted. after_sound wanted.fast wanted.design)
-  script_sound false = (omega arith, text_refused 1, policy_sees asked false, after_sound false)
-
-first_read : (lean : Bool) (asked : Asked) → reads_of (make_script lean asked) 1
-first_read true asked = inl refl
-first_read false asked = inl refl
-
 pub make_sound : (asked : Asked) → 3 < asked.faces → asked.faces < asked.range → IsSoundWork (make_work asked)
-make_sound asked faces_order range_order = record { sound = script_sound asked faces_order range_order asked.lean; first = first_read asked.lean asked }
+make_sound asked faces_order range_order = record {
+  sound = (omega arith, text_refused 1, any_sees asked, λ wanted. after_sound asked faces_order range_order wanted.fast wanted.design);
+  first = inl refl;
+}
 
 -- it prints nothing
-after_silent : (asked : Asked) (fast : Bool) (p : DesignParts) → IsSilent (make_after asked fast p)
-after_silent asked fast p plans = silent_where asked.lean _ _ _ (λ reference. silent_where asked.faced _ _ _ (λ faces. silent_where asked.disturbed _ _ _ (λ range s old. refl)))
-
-script_silent : (lean : Bool) (asked : Asked) → IsSilent (make_script lean asked)
-script_silent true asked = λ wanted. after_silent asked wanted.fast wanted.design
-script_silent false asked = after_silent asked false
-
 pub make_silent : (asked : Asked) → IsSilent (make_work asked).script
-make_silent asked = script_silent asked.lean asked
+make_silent asked wanted plans = silent_where asked.lean _ _ _ (λ reference. silent_where asked.faced _ _ _ (λ faces. silent_where asked.disturbed _ _ _ (λ range s old. refl)))
 
 -- ---- loops
 -- no shifts lie within the range of none
@@ -161,6 +148,18 @@ plain_text wanted bytes slow = some_weaker (document_of bytes) (IsAskedDocument 
 plain_right : (wanted : Wanted) → wanted.fast ≡ false → (content : Option (List ℕ)) → FileHolds file_limit (AskedRight wanted) content → FileHolds file_limit (DesignRight wanted.design) content
 plain_right wanted slow content h = record { bytes = h.bytes; held = h.held; short = h.short; right = plain_text wanted h.bytes slow h.right }
 
+-- so it has the inputs of the one kind or the other
+module _ (wanted : Wanted) (plans : Plans) (design policy : Option (List ℕ)) (design_right : FileHolds file_limit (AskedRight wanted) design)
+    (policy_right : FileHolds file_limit (PolicyRight (design_of wanted.design) plans) policy) where
+  plain_inputs : wanted.fast ≡ false → HoldsInputs design policy wanted.design plans
+  plain_inputs slow = record { design_right = plain_right wanted slow design design_right; policy_right = policy_right }
+
+  fast_inputs : wanted.fast ≡ true → HoldsFastInputs design policy wanted.design plans
+  fast_inputs fast = record {
+    design_right = subst (λ (f : Bool). FileHolds file_limit (AskedRight (record { design = wanted.design; fast = f })) design) fast design_right;
+    policy_right = policy_right;
+  }
+
 fast_short : (text : List ℕ) (c : Numbers) → IsFastControllerText text c → length text ≤ file_limit
 fast_short text c is = omega (arith, any_length_law text c (inr is))
 
@@ -176,90 +175,130 @@ module _ (words : List (List ℕ)) (s : Status) (files : Files) (now : Option Fi
   abbrev BothBy : (IsText : List ℕ → Numbers → Type 0) → (Made : Numbers → Printed → Type 0) → (first second : ℕ) → Files → Type 0
   BothBy IsText Made first second new = Two (AreTextsBy IsText Made (word_of words second)) (BothStand files new (word_of words first) (word_of words second))
 
-  abbrev Both : (Made : Numbers → Printed → Type 0) → (first second : ℕ) → Files → Type 0
-  Both = BothBy IsControllerText
-
   -- the range that holds, and what is left under it
   under : (asked : Asked) (fast : Bool) (d : Design) (t : Targets) (Made : Making) (plans : Plans) (reference : Option Plans) (faces : FaceNumbers) (disturbed : Bool) →
       Left (reads_where disturbed asked.range (range_kind d.states) (λ range. ends (make_act asked fast d t Made plans reference (under_of d.states (Some faces) range)))) →
       (range : Matrix) × IsRangeIn disturbed asked.range words files d.states range
-      × LeavesTwo (AreTextsBy (IsTextBy reference fast) (Made plans reference (Some (record { faces = faces; range = range }))) (word_of words asked.report)) asked.controller asked.report words s (Some files) now
+      × LeavesTwo (AreTextsBy (IsTextBy fast) (Made plans reference (Some (record { faces = faces; range = range }))) (word_of words asked.report)) asked.controller asked.report words s (Some files) now
   under asked fast d t Made plans reference faces true (inl none) = absurd (none.done is)
   under asked fast d t Made plans reference faces true (inr left) = left
   under asked fast d t Made plans reference faces false left = (no_shifts d.states, refl, left)
 
-  pub stays : (disturbed : Bool) → Left (make_work (stay_asked disturbed)).script → IsSomeAnd now (IsStayed disturbed words files)
-  stays disturbed (inl none) = absurd (none.done is)
-  stays disturbed (inr (p, design, inl none)) = absurd (none.done is)
-  stays disturbed (inr (p, design, inr (plans, policy, inl none))) = absurd (none.done is)
-  stays disturbed (inr (p, design, inr (plans, policy, inr (faces, right, left)))) =
-      let asked = stay_asked disturbed in
-      let found = under asked false (design_of p) (targets_of p) (IsMadeUnder p false) plans None faces disturbed left in
-      some_weaker now (Both (IsMadeUnder p false plans None (Some (record { faces = faces; range = found.0 }))) 3 4) (IsStayed disturbed words files) (λ new two.
-      let made = two.are.made in
-      record {
-        generated = made_and_written _ (IsMadeFrom (contents 1) (contents 2)) 3 4 words files new two
-            (record { p = p; plans = plans; inputs = record { design_right = design; policy_right = policy }; built = made.0.built; certified = made.0.certified; targets = made.0.targets });
-        loops = loops_stay disturbed 6 words files p two.are.controller two.are.bounds found.0 found.1 made.1;
-      }) (found.2.both is)
+  -- ---- of a design and a policy
+  module _ (wanted : Wanted) (design : FileHolds file_limit (AskedRight wanted) (contents 1)) (plans : Plans) (policy : FileHolds file_limit (PolicyRight (design_of wanted.design) plans) (contents 2)) where
+    abbrev p : DesignParts
+    p = wanted.design
 
-  -- ---- of a design of any version with reference plans
-  module _ (wanted : Wanted) (design : FileHolds file_limit (AskedRight wanted) (contents 1)) (plans : Plans) (policy : FileHolds file_limit (PolicyRight (design_of wanted.design) plans) (contents 2))
-      (references : Plans) (reference : FileHolds file_limit (PolicyRight (design_of wanted.design) references) (contents 3)) where
-    -- what is made of the files
-    abbrev from_plain : wanted.fast ≡ false → (c : Numbers) (b : Printed) → IsLeanMadeOf wanted.design plans references c b → IsMadeOfFiles words files c b
-    from_plain slow c b made = record {
-      p = wanted.design;
+    -- ---- alone: what is made of the files
+    abbrev of_two : wanted.fast ≡ false → (c : Numbers) (b : Printed) → IsMadeOf p plans c b → IsMadeFrom (contents 1) (contents 2) c b
+    of_two slow c b made = record {
+      p = p;
       plans = plans;
-      references = references;
-      inputs = record { design_right = plain_right wanted slow (contents 1) design; policy_right = policy };
-      reference_right = reference;
-      made = made;
+      inputs = plain_inputs wanted plans (contents 1) (contents 2) design policy slow;
+      built = made.built;
+      certified = made.certified;
+      targets = made.targets;
     }
 
-    abbrev from_fast : wanted.fast ≡ true → (c : Numbers) (b : Printed) → IsFastMadeOf wanted.design plans references c b → IsFastMadeFrom (contents 1) (contents 2) (contents 3) c b
-    from_fast fast c b made = record {
-      p = wanted.design;
-      plans = plans;
-      references = references;
-      design_right = subst (λ (f : Bool). FileHolds file_limit (AskedRight (record { design = wanted.design; fast = f })) (contents 1)) fast design;
-      policy_right = policy;
-      reference_right = reference;
-      made = made;
-    }
+    abbrev fast_of_two : wanted.fast ≡ true → (c : Numbers) (b : Printed) → IsFastMadeOf p plans None c b → IsFastGeneratedFrom (contents 1) (contents 2) c b
+    fast_of_two fast c b made = record { p = p; plans = plans; inputs = fast_inputs wanted plans (contents 1) (contents 2) design policy fast; made = made }
 
     -- without faces
-    leaned_by : (fast : Bool) → wanted.fast ≡ fast → (new : Files) → BothBy (IsTextBy (Some references) fast) (IsMadeUnder wanted.design fast plans (Some references) None) 4 5 new →
-        IsAnyWritten words files new
-    leaned_by false slow new two = inl (made_and_written _ (IsMadeOfFiles words files) 4 5 words files new two (from_plain slow two.are.controller two.are.bounds two.are.made))
-    leaned_by true fast new two =
-        inr (made_and_written_by IsFastControllerText _ (IsFastMadeFrom (contents 1) (contents 2) (contents 3)) 4 5 words files new fast_short two
-        (from_fast fast two.are.controller two.are.bounds two.are.made))
+    generated_by : (fast : Bool) → wanted.fast ≡ fast → (new : Files) → BothBy (IsTextBy fast) (IsMadeUnder p fast plans None None) 3 4 new → IsAnyGenerated words files new
+    generated_by false slow new two = inl (made_and_written _ (IsMadeFrom (contents 1) (contents 2)) 3 4 words files new two (of_two slow two.are.controller two.are.bounds two.are.made))
+    generated_by true fast new two =
+        inr (made_and_written_by IsFastControllerText _ (IsFastGeneratedFrom (contents 1) (contents 2)) 3 4 words files new fast_short two
+        (fast_of_two fast two.are.controller two.are.bounds two.are.made))
 
     -- with faces
-    module _ (disturbed : Bool) (faces : FaceNumbers) (range : Matrix) (here : IsRangeIn disturbed 7 words files (design_of wanted.design).states range) where
-      stayed_by : (fast : Bool) → wanted.fast ≡ fast → (new : Files) →
-          BothBy (IsTextBy (Some references) fast) (IsMadeUnder wanted.design fast plans (Some references) (Some (record { faces = faces; range = range }))) 4 5 new → IsAnyStayed disturbed words files new
-      stayed_by false slow new two =
+    module _ (disturbed : Bool) (faces : FaceNumbers) (range : Matrix) (here : IsRangeIn disturbed 6 words files (design_of p).states range) where
+      kept_by : (fast : Bool) → wanted.fast ≡ fast → (new : Files) → BothBy (IsTextBy fast) (IsMadeUnder p fast plans None (Some (record { faces = faces; range = range }))) 3 4 new →
+          IsAnyGeneratedStayed disturbed words files new
+      kept_by false slow new two =
           let made = two.are.made in
           inl (record {
-            written = made_and_written _ (IsMadeOfFiles words files) 4 5 words files new two (from_plain slow two.are.controller two.are.bounds made.0);
-            loops = loops_stay disturbed 7 words files wanted.design two.are.controller two.are.bounds range here made.1;
+            generated = made_and_written _ (IsMadeFrom (contents 1) (contents 2)) 3 4 words files new two (of_two slow two.are.controller two.are.bounds made.0);
+            loops = loops_stay disturbed 6 words files p two.are.controller two.are.bounds range here made.1;
           })
-      stayed_by true fast new two =
+      kept_by true fast new two =
           let made = two.are.made in
           inr (record {
-            written = made_and_written_by IsFastControllerText _ (IsFastMadeFrom (contents 1) (contents 2) (contents 3)) 4 5 words files new fast_short two
-                (from_fast fast two.are.controller two.are.bounds made.0);
-            loops = fast_loops_stay disturbed 7 words files wanted.design two.are.controller two.are.bounds range here made.1;
+            generated = made_and_written_by IsFastControllerText _ (IsFastGeneratedFrom (contents 1) (contents 2)) 3 4 words files new fast_short two
+                (fast_of_two fast two.are.controller two.are.bounds made.0);
+            loops = fast_loops_stay disturbed 6 words files p two.are.controller two.are.bounds range here made.1;
           })
+
+    -- ---- with reference plans
+    module _ (references : Plans) (reference : FileHolds file_limit (PolicyRight (design_of p) references) (contents 3)) where
+      abbrev of_three : wanted.fast ≡ false → (c : Numbers) (b : Printed) → IsLeanMadeOf p plans references c b → IsMadeOfFiles words files c b
+      of_three slow c b made = record {
+        p = p;
+        plans = plans;
+        references = references;
+        inputs = plain_inputs wanted plans (contents 1) (contents 2) design policy slow;
+        reference_right = reference;
+        made = made;
+      }
+
+      abbrev fast_of_three : wanted.fast ≡ true → (c : Numbers) (b : Printed) → IsFastMadeOf p plans (Some references) c b → IsFastMadeFrom (contents 1) (contents 2) (contents 3) c b
+      fast_of_three fast c b made = record {
+        p = p;
+        plans = plans;
+        references = references;
+        inputs = fast_inputs wanted plans (contents 1) (contents 2) design policy fast;
+        reference_right = reference;
+        made = made;
+      }
+
+      -- without faces
+      leaned_by : (fast : Bool) → wanted.fast ≡ fast → (new : Files) → BothBy (IsTextBy fast) (IsMadeUnder p fast plans (Some references) None) 4 5 new → IsAnyWritten words files new
+      leaned_by false slow new two = inl (made_and_written _ (IsMadeOfFiles words files) 4 5 words files new two (of_three slow two.are.controller two.are.bounds two.are.made))
+      leaned_by true fast new two =
+          inr (made_and_written_by IsFastControllerText _ (IsFastMadeFrom (contents 1) (contents 2) (contents 3)) 4 5 words files new fast_short two
+          (fast_of_three fast two.are.controller two.are.bounds two.are.made))
+
+      -- with faces
+      module _ (disturbed : Bool) (faces : FaceNumbers) (range : Matrix) (here : IsRangeIn disturbed 7 words files (design_of p).states range) where
+        stayed_by : (fast : Bool) → wanted.fast ≡ fast → (new : Files) →
+            BothBy (IsTextBy fast) (IsMadeUnder p fast plans (Some references) (Some (record { faces = faces; range = range }))) 4 5 new → IsAnyStayed disturbed words files new
+        stayed_by false slow new two =
+            let made = two.are.made in
+            inl (record {
+              written = made_and_written _ (IsMadeOfFiles words files) 4 5 words files new two (of_three slow two.are.controller two.are.bounds made.0);
+              loops = loops_stay disturbed 7 words files p two.are.controller two.are.bounds range here made.1;
+            })
+        stayed_by true fast new two =
+            let made = two.are.made in
+            inr (record {
+              written = made_and_written_by IsFastControllerText _ (IsFastMadeFrom (contents 1) (contents 2) (contents 3)) 4 5 words files new fast_short two
+                  (fast_of_three fast two.are.controller two.are.bounds made.0);
+              loops = fast_loops_stay disturbed 7 words files p two.are.controller two.are.bounds range here made.1;
+            })
+
+  -- ---- by the command
+  pub generated : Left (make_work generate_asked).script → IsSomeAnd now (IsAnyGenerated words files)
+  generated (inl none) = absurd (none.done is)
+  generated (inr (wanted, design, inl none)) = absurd (none.done is)
+  generated (inr (wanted, design, inr (plans, policy, left))) =
+      some_weaker now (BothBy (IsTextBy wanted.fast) (IsMadeUnder wanted.design wanted.fast plans None None) 3 4) (IsAnyGenerated words files)
+      (generated_by wanted design plans policy wanted.fast refl) (left.both is)
+
+  pub stays : (disturbed : Bool) → Left (make_work (stay_asked disturbed)).script → IsSomeAnd now (IsAnyGeneratedStayed disturbed words files)
+  stays disturbed (inl none) = absurd (none.done is)
+  stays disturbed (inr (wanted, design, inl none)) = absurd (none.done is)
+  stays disturbed (inr (wanted, design, inr (plans, policy, inl none))) = absurd (none.done is)
+  stays disturbed (inr (wanted, design, inr (plans, policy, inr (faces, right, left)))) =
+      let p = wanted.design in
+      let found = under (stay_asked disturbed) wanted.fast (design_of p) (targets_of p) (IsMadeUnder p wanted.fast) plans None faces disturbed left in
+      some_weaker now (BothBy (IsTextBy wanted.fast) (IsMadeUnder p wanted.fast plans None (Some (record { faces = faces; range = found.0 }))) 3 4)
+      (IsAnyGeneratedStayed disturbed words files) (kept_by wanted design plans policy disturbed faces found.0 found.1 wanted.fast refl) (found.2.both is)
 
   pub leaned : Left (make_work (lean_asked false false)).script → IsSomeAnd now (IsAnyWritten words files)
   leaned (inl none) = absurd (none.done is)
   leaned (inr (wanted, design, inl none)) = absurd (none.done is)
   leaned (inr (wanted, design, inr (plans, policy, inl none))) = absurd (none.done is)
   leaned (inr (wanted, design, inr (plans, policy, inr (references, reference, left)))) =
-      some_weaker now (BothBy (IsTextBy (Some references) wanted.fast) (IsMadeUnder wanted.design wanted.fast plans (Some references) None) 4 5) (IsAnyWritten words files)
+      some_weaker now (BothBy (IsTextBy wanted.fast) (IsMadeUnder wanted.design wanted.fast plans (Some references) None) 4 5) (IsAnyWritten words files)
       (leaned_by wanted design plans policy references reference wanted.fast refl) (left.both is)
 
   pub lean_stays : (disturbed : Bool) → Left (make_work (lean_asked true disturbed)).script → IsSomeAnd now (IsAnyStayed disturbed words files)
@@ -270,7 +309,7 @@ module _ (words : List (List ℕ)) (s : Status) (files : Files) (now : Option Fi
   lean_stays disturbed (inr (wanted, design, inr (plans, policy, inr (references, reference, inr (faces, right, left))))) =
       let p = wanted.design in
       let found = under (lean_asked true disturbed) wanted.fast (design_of p) (targets_of p) (IsMadeUnder p wanted.fast) plans (Some references) faces disturbed left in
-      some_weaker now (BothBy (IsTextBy (Some references) wanted.fast) (IsMadeUnder p wanted.fast plans (Some references) (Some (record { faces = faces; range = found.0 }))) 4 5)
+      some_weaker now (BothBy (IsTextBy wanted.fast) (IsMadeUnder p wanted.fast plans (Some references) (Some (record { faces = faces; range = found.0 }))) 4 5)
       (IsAnyStayed disturbed words files)
       (stayed_by wanted design plans policy references reference disturbed faces found.0 found.1 wanted.fast refl) (found.2.both is)
 
@@ -280,9 +319,13 @@ by_row : (script : Script) (P : Files → Files → Type 0) (words : List (List 
 by_row script P words s (Some files) now h left = h files (left_told words s files now script left)
 by_row script P words s None now h left = tt
 
+pub generate_left : (words : List (List ℕ)) (s : Status) (held now : Option Files) → s ≡ Done → leaves_of (make_work generate_asked).script words s held now →
+    IfSome held (λ files. IsSomeAnd now (IsAnyGenerated words files))
+generate_left words s held now is = by_row (make_work generate_asked).script (IsAnyGenerated words) words s held now (λ files. generated words s files now is)
+
 pub stay_left : (disturbed : Bool) (words : List (List ℕ)) (s : Status) (held now : Option Files) → s ≡ Done → leaves_of (make_work (stay_asked disturbed)).script words s held now →
-    IfSome held (λ files. IsSomeAnd now (IsStayed disturbed words files))
-stay_left disturbed words s held now is = by_row (make_work (stay_asked disturbed)).script (IsStayed disturbed words) words s held now (λ files. stays words s files now is disturbed)
+    IfSome held (λ files. IsSomeAnd now (IsAnyGeneratedStayed disturbed words files))
+stay_left disturbed words s held now is = by_row (make_work (stay_asked disturbed)).script (IsAnyGeneratedStayed disturbed words) words s held now (λ files. stays words s files now is disturbed)
 
 pub lean_left : (words : List (List ℕ)) (s : Status) (held now : Option Files) → s ≡ Done → leaves_of (make_work (lean_asked false false)).script words s held now → IfSome held (λ files. IsSomeAnd now (IsAnyWritten words files))
 lean_left words s held now is = by_row (make_work (lean_asked false false)).script (IsAnyWritten words) words s held now (λ files. leaned words s files now is)

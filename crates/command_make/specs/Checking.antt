@@ -50,5 +50,5 @@ pub record IsPricedBy (d : Design) (IsText : List ℕ → Numbers → Type 0) (M
 
 abbrev pub IsPricedOf : DesignParts → Plans → (reference : Option Plans) → (fast : Bool) → (report_name : List ℕ) → Priced → Type 0
 IsPricedOf p plans reference fast =
-    IsPricedBy (design_of p) (IsTextBy reference fast) (IsMadeByPlans p plans reference fast) (KeepsLoopsOf p reference fast)
+    IsPricedBy (design_of p) (IsTextBy fast) (IsMadeByPlans p plans reference fast) (KeepsLoopsOf p fast)
     (AreStatedExcesses (design_of p) (targets_of p) plans reference fast)

@@ -9,7 +9,7 @@ use Rattle.command_line.specs.declared.status.Status.{Status}
 use Rattle.command_line.specs.declared.two_texts.Texts.{Texts}
 use Rattle.command_generate.specs.Engine.Targets.{targets_of}
 use Rattle.command_generate.specs.Made.{MakesTexts}
-use Rattle.command_make.specs.Made.{MakingCallsWith, reference_of, IsTextBy}
+use Rattle.command_make.specs.Made.{MakingCallsWith, IsMadeByPlans, reference_of, IsTextBy}
 use Rattle.command_make.specs.Checking.{IsPricedOf}
 use Rattle.command_make.specs.Make.{Under, under_of, CallsUnder, IsMadeUnder, make_act}
 use Rattle.command_make.specs.declared.command.Asked.{Asked}
@@ -29,7 +29,7 @@ under_in i = under_of i.design.states (option_map faces_of i.faces) i.range
 -- both texts of what they call for, with faces or without; or the status that tells why there are none
 abbrev pub MakesTextsOf : Inputs → (under : Option Under) → (report_name : List ℕ) → Result Texts Status → Type 0
 MakesTextsOf i under =
-    MakesTexts (IsTextBy (reference_of i.reference) i.fast)
+    MakesTexts (IsTextBy i.fast)
     (CallsUnder (design_of i.design) (targets_of i.design) (plans_of i.policy) (reference_of i.reference) i.fast under)
     (IsMadeUnder i.design i.fast (plans_of i.policy) (reference_of i.reference) under)
 
@@ -37,9 +37,13 @@ MakesTextsOf i under =
 abbrev pub act_of : Asked → Inputs → Act
 act_of asked i = make_act asked i.fast (design_of i.design) (targets_of i.design) (IsMadeUnder i.design i.fast) (plans_of i.policy) (reference_of i.reference) (under_in i)
 
--- ---- where faces are to be tested: what is called for without them, and what is made with its numbers, by the one machine or the other
+-- ---- by the one machine or the other: what is called for without faces, and both texts of it
 abbrev pub MakingCallsOf : Inputs → (fast : Bool) → Status → Type 0
 MakingCallsOf i fast = MakingCallsWith (design_of i.design) (targets_of i.design) (plans_of i.policy) (reference_of i.reference) fast
 
+abbrev pub MakesFreeTexts : Inputs → (fast : Bool) → (report_name : List ℕ) → Result Texts Status → Type 0
+MakesFreeTexts i fast = MakesTexts (IsTextBy fast) (MakingCallsOf i fast) (IsMadeByPlans i.design (plans_of i.policy) (reference_of i.reference) fast)
+
+-- and where faces are to be tested, what is made with its numbers
 abbrev pub IsPricedFor : Inputs → (fast : Bool) → (report_name : List ℕ) → Priced → Type 0
 IsPricedFor i fast = IsPricedOf i.design (plans_of i.policy) (reference_of i.reference) fast

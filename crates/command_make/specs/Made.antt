@@ -1,5 +1,5 @@
--- What a design with a policy calls for, with reference plans or without, and what is made of them: a controller of the accelerated machine where there are
--- reference plans and the design asks for that machine.
+-- What a design with a policy calls for, with reference plans or without, and what is made of them: a controller of the accelerated machine where the design asks
+-- for that machine.
 use Rattle.std.specs.Prelude.{ℕ, Bool, true, false, List, Option, Some, None, option_map}
 use Rattle.qp_model.specs.problem.Design.{Design}
 use Rattle.qp_model.specs.problem.Policy.{Plans}
@@ -18,27 +18,34 @@ use Rattle.qp_model.specs.text.ControllerText.{IsControllerText}
 use Rattle.controller_text.specs.TextForm.{IsFastControllerText}
 use Rattle.fast_bounds.specs.FastCertified.{IsFastBuilt, IsFastCertified}
 use Rattle.fast_bounds.specs.FastRefusals.{HasFastCause, PassesFast}
+use Rattle.fast_bounds.specs.FastMargin.{HasFastMarginCause, PassesFastMargin, IsFastMarginBuilt}
 use Rattle.command_line.specs.declared.status.Status.{Status}
 use Rattle.command_generate.specs.Engine.Targets.{Targets, targets_of, IsWithinTargets}
 use Rattle.command_generate.specs.Engine.Refusals.{HasCause, PassesAll}
 use Rattle.command_generate.specs.Made.{CallsFor, IsMadeOf}
 
 -- ---- the answer
--- of the accelerated machine: with some steps and exponents of the rows every test is passed
-abbrev pub PassesFastWith : Design → Targets → (plans references : Plans) → Margin → (s f : ℕ) → Type 0
-PassesFastWith d t plans references m s f = (k : ℕ) × (exponents : List ℕ) × PassesFast d t plans references m s k exponents f
+-- of the accelerated machine: every test is passed with these
+abbrev pub PassesFastBy : Design → Targets → Plans → (reference : Option Plans) → Margin → (s k : ℕ) → (exponents : List ℕ) → (f : ℕ) → Type 0
+PassesFastBy d t plans None = PassesFastMargin d t plans
+PassesFastBy d t plans (Some references) = PassesFast d t plans references
+
+-- with some steps and exponents of the rows
+abbrev pub PassesFastWith : Design → Targets → Plans → (reference : Option Plans) → Margin → (s f : ℕ) → Type 0
+PassesFastWith d t plans reference m s f = (k : ℕ) × (exponents : List ℕ) × PassesFastBy d t plans reference m s k exponents f
 
 -- why they are refused: as in `generate`, or with reference plans as in `lean`, by the machine
 abbrev pub CauseOf : Design → Targets → Plans → (reference : Option Plans) → (fast : Bool) → (Refusal → Type 0)
-CauseOf d t plans None fast = HasCause d t plans
+CauseOf d t plans None false = HasCause d t plans
+CauseOf d t plans None true = HasFastMarginCause d t plans
 CauseOf d t plans (Some references) false = HasLeanCause d t plans references
 CauseOf d t plans (Some references) true = HasFastCause d t plans references
 
 -- they pass every test
 abbrev pub PassesOf : Design → Targets → Plans → (reference : Option Plans) → (fast : Bool) → (Margin → (s f : ℕ) → Type 0)
-PassesOf d t plans None fast = PassesAll d t plans
+PassesOf d t plans None false = PassesAll d t plans
 PassesOf d t plans (Some references) false = PassesLean d t plans references
-PassesOf d t plans (Some references) true = PassesFastWith d t plans references
+PassesOf d t plans reference true = PassesFastWith d t plans reference
 
 abbrev pub MakingCallsWith : Design → Targets → Plans → (reference : Option Plans) → (fast : Bool) → Status → Type 0
 MakingCallsWith d t plans reference fast s = CallsFor (CauseOf d t plans reference fast) (PassesOf d t plans reference fast) s
@@ -54,19 +61,22 @@ pub record IsLeanMadeOf (p : DesignParts) (plans references : Plans) (c : Number
   pub certified : IsCertified (design_of p) c b
   pub targets : IsWithinTargets (targets_of p) b
 
--- the same of the accelerated machine
-pub record IsFastMadeOf (p : DesignParts) (plans references : Plans) (c : Numbers) (b : Printed) : Type 0 where
-  pub built : IsFastBuilt p plans references c b
+-- the same of the accelerated machine, leanly where there are reference plans
+abbrev pub IsFastBuiltBy : DesignParts → Plans → (reference : Option Plans) → Numbers → Printed → Type 0
+IsFastBuiltBy p plans None = IsFastMarginBuilt p plans
+IsFastBuiltBy p plans (Some references) = IsFastBuilt p plans references
+
+pub record IsFastMadeOf (p : DesignParts) (plans : Plans) (reference : Option Plans) (c : Numbers) (b : Printed) : Type 0 where
+  pub built : IsFastBuiltBy p plans reference c b
   pub certified : IsFastCertified (design_of p) c b
   pub targets : IsWithinTargets (targets_of p) b
 
 abbrev pub IsMadeByPlans : DesignParts → Plans → (reference : Option Plans) → (fast : Bool) → (Numbers → Printed → Type 0)
-IsMadeByPlans p plans None fast = IsMadeOf p plans
+IsMadeByPlans p plans None false = IsMadeOf p plans
 IsMadeByPlans p plans (Some references) false = IsLeanMadeOf p plans references
-IsMadeByPlans p plans (Some references) true = IsFastMadeOf p plans references
+IsMadeByPlans p plans reference true = IsFastMadeOf p plans reference
 
 -- its text, as the machine's texts are
-abbrev pub IsTextBy : (reference : Option Plans) → (fast : Bool) → (List ℕ → Numbers → Type 0)
-IsTextBy None fast = IsControllerText
-IsTextBy (Some references) false = IsControllerText
-IsTextBy (Some references) true = IsFastControllerText
+abbrev pub IsTextBy : (fast : Bool) → (List ℕ → Numbers → Type 0)
+IsTextBy false = IsControllerText
+IsTextBy true = IsFastControllerText

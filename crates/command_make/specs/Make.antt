@@ -14,7 +14,7 @@ use Rattle.command_line.specs.Deeds.{Deeds}
 use Rattle.command_line.specs.Script.{Act, Script, ends, reads, reads_where, Work, deeds_of_work}
 use Rattle.command_line.specs.TwoTexts.{two_texts, two_work}
 use Rattle.command_line.specs.declared.status.Status.{Status}
-use Rattle.command_design_files.specs.Reading.{design_kind, asked_kind, policy_kind}
+use Rattle.command_design_files.specs.Reading.{asked_kind, policy_kind}
 use Rattle.command_files.specs.Reading.{faces_kind, range_kind}
 use Rattle.command_generate.specs.Engine.Targets.{Targets, targets_of}
 use Rattle.command_generate.specs.Made.{IsCausedRefusal, AreTextsBy}
@@ -43,7 +43,7 @@ CallsUnder d t plans reference fast (Some u) = FacedCalls (IsCausedRefusal (Caus
 -- a controller and its bounds; with faces its loops stay in the box
 abbrev pub IsMadeUnder : DesignParts → (fast : Bool) → Plans → (reference : Option Plans) → (under : Option Under) → Numbers → Printed → Type 0
 IsMadeUnder p fast plans reference None c b = IsMadeByPlans p plans reference fast c b
-IsMadeUnder p fast plans reference (Some u) c b = IsMadeByPlans p plans reference fast c b × KeepsLoopsOf p reference fast c b u.range
+IsMadeUnder p fast plans reference (Some u) c b = IsMadeByPlans p plans reference fast c b × KeepsLoopsOf p fast c b u.range
 
 -- ---- the script of a command, by what it asks for, the positions of its files, and whether the design asks for the accelerated machine
 -- what is made, by all that was read
@@ -53,7 +53,7 @@ Making = Plans → (reference : Option Plans) → (under : Option Under) → Num
 module _ (asked : Asked) (fast : Bool) (d : Design) (t : Targets) (Made : Making) where
   abbrev pub make_act : Plans → (reference : Option Plans) → (under : Option Under) → Act
   make_act plans reference under =
-      two_texts (CallsUnder d t plans reference fast under) (λ words. AreTextsBy (IsTextBy reference fast) (Made plans reference under) (word_of words asked.report))
+      two_texts (CallsUnder d t plans reference fast under) (λ words. AreTextsBy (IsTextBy fast) (Made plans reference under) (word_of words asked.report))
       asked.controller asked.report
 
   -- the range, where there are disturbances
@@ -77,13 +77,11 @@ after_policy asked fast p = with_reference asked fast (design_of p) (targets_of 
 abbrev pub make_after : Asked → (fast : Bool) → DesignParts → Script
 make_after asked fast p = with_policy asked fast (design_of p) (targets_of p) (IsMadeUnder p fast)
 
--- with reference plans goes a design of any version, and else one of version 1 or 2
-abbrev pub make_script : (lean : Bool) → Asked → Script
-make_script true asked = reads 1 asked_kind (λ wanted. make_after asked wanted.fast wanted.design)
-make_script false asked = reads 1 design_kind (make_after asked false)
+abbrev pub make_script : Asked → Script
+make_script asked = reads 1 asked_kind (λ wanted. make_after asked wanted.fast wanted.design)
 
 abbrev pub make_work : Asked → Work
-make_work asked = two_work (make_script asked.lean asked) asked.controller asked.report
+make_work asked = two_work (make_script asked) asked.controller asked.report
 
 abbrev pub make_deeds : Asked → Deeds
 make_deeds asked = deeds_of_work (make_work asked)
@@ -105,6 +103,10 @@ abbrev pub asked_of : (lean faced disturbed : Bool) → Asked
 asked_of true faced disturbed = record { lean = true; faced = faced; disturbed = disturbed; controller = 4; report = 5; faces = 6; range = 7 }
 asked_of false faced disturbed = record { lean = false; faced = faced; disturbed = disturbed; controller = 3; report = 4; faces = 5; range = 6 }
 
+-- `generate`: of a design and a policy
+abbrev pub generate_asked : Asked
+generate_asked = asked_of false false false
+
 -- `stay`: with the texts of faces and of the range behind the four names of `generate`
 abbrev pub stay_asked : (disturbed : Bool) → Asked
 stay_asked = asked_of false true
@@ -112,6 +114,9 @@ stay_asked = asked_of false true
 -- `lean`: with reference plans behind the policy, without faces or with them
 abbrev pub lean_asked : (faced disturbed : Bool) → Asked
 lean_asked = asked_of true
+
+abbrev pub generate_deeds : Deeds
+generate_deeds = make_deeds generate_asked
 
 abbrev pub stay_deeds : (disturbed : Bool) → Deeds
 stay_deeds disturbed = make_deeds (stay_asked disturbed)

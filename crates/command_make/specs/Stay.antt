@@ -1,11 +1,10 @@
 -- Faces by which closed loops are known to stay in the box, what they call for, and what `stay` leaves in the store.
-use Rattle.std.specs.Prelude.{◌≡◌, ◌⊎◌, ℕ, Bool, true, false, ℤ, List, Option, Some, None}
+use Rattle.std.specs.Prelude.{◌≡◌, ◌⊎◌, ℕ, Bool, true, false, ℤ, List}
 use Rattle.io_edge.specs.Faults.{Files}
 use Rattle.integer_algebra.specs.Sums.{at}
 use Rattle.mat_int.specs.Matrix.{Matrix, row_of, zero_matrix}
 use Rattle.qp_model.specs.problem.Design.{Design}
 use Rattle.qp_model.specs.problem.Parts.{design_of}
-use Rattle.qp_model.specs.problem.Policy.{Plans}
 use Rattle.qp_model.specs.machine.Controller.{Numbers}
 use Rattle.qp_model.specs.machine.Machine.{IsAdmissible}
 use Rattle.qp_model.specs.machine.Successor.{state_after}
@@ -91,10 +90,9 @@ FastLoopsStay disturbed file words files p c b =
     LoopsStayBy disturbed file words files p c (state_by (design_of p) (looping_of_fast c)) (unshifted_by (design_of p) (looping_of_fast c)) (IsFastKeptAt (design_of p) c b)
 
 -- ---- by the machine of what is made
-abbrev pub KeepsLoopsOf : DesignParts → (reference : Option Plans) → (fast : Bool) → Numbers → Printed → (range : Matrix) → Type 0
-KeepsLoopsOf p None fast = KeepsLoops p
-KeepsLoopsOf p (Some references) false = KeepsLoops p
-KeepsLoopsOf p (Some references) true = KeepsFastLoops p
+abbrev pub KeepsLoopsOf : DesignParts → (fast : Bool) → Numbers → Printed → (range : Matrix) → Type 0
+KeepsLoopsOf p false = KeepsLoops p
+KeepsLoopsOf p true = KeepsFastLoops p
 
 -- The third name holds the text of a controller and the fourth the report of its bounds, as `generate` leaves them: made of the design and the policy in
 -- the first two, and certified. And its closed loop stays in the box.

@@ -1,13 +1,13 @@
 // The commands with their arguments.
 ghost use Rattle.std.specs.Prelude.{◌≡◌};
-ghost use Rattle.command_line.specs.Words.{IsStay, IsLean, IsLeanStay};
+ghost use Rattle.command_line.specs.Words.{IsGenerate, IsStay, IsLean, IsLeanStay};
 ghost use Rattle.command_line.specs.Does.{DoesInStore};
 ghost use Rattle.command_line.specs.Running.{RunsInStore};
-ghost use Rattle.command_make.specs.Make.{make_after, make_deeds, IsAsked, stay_deeds, lean_deeds, lean_stay_deeds, asked_of};
+ghost use Rattle.command_make.specs.Make.{make_after, make_deeds, IsAsked, generate_deeds, stay_deeds, lean_deeds, lean_stay_deeds, asked_of};
 
 use crate::inputs::read_inputs;
 use crate::texts::texts_of;
-use command_design_files::{Wanted, read_asked_file, read_design_file};
+use command_design_files::{Wanted, read_asked_file};
 use command_line::{Status, write_texts};
 use io_edge::{Store, Words};
 use std::alloc::Global;
@@ -15,7 +15,7 @@ use std::alloc::Global;
 /// What a command asks for, and at which positions its files stand.
 #[derive(Drop)]
 pub struct Asked {
-    /// Reference plans, with which goes a design of any version: one of version 3 asks for the accelerated machine.
+    /// Reference plans.
     pub lean: bool,
     pub faced: bool,
     pub disturbed: bool,
@@ -26,8 +26,18 @@ pub struct Asked {
 }
 
 /// Makes a controller of the design in the first file with the policy in the second, and writes its text to the third and the report of its bounds to the
-/// fourth, as `generate` does, where the faces in the fifth show that its closed loop stays in the box, under all disturbances of the range in the sixth
-/// where there is one. Nothing is written before both texts are there and the faces were tested.
+/// fourth: as JSON where that name ends in `.json`, and else as lines. Nothing is written before both texts are there. A design of version 3 has a controller
+/// of the accelerated machine.
+pub fn generate<S: Store>(alloc: Global, words: &Words, store: &mut S) -> Status
+    requires { IsGenerate words.now }
+    ensures { DoesInStore S.Store words.now generate_deeds store.old store.new result }
+{
+    make_asked(alloc, words, &asked_of(false, false, false), store)
+}
+
+/// Does what `generate` does, where the faces in the fifth file show that the controller's closed loop stays in the box, under all disturbances of the range in
+/// the sixth where there is one. Nothing is written before both texts are there and the faces were tested. A design of version 3 has a controller of the
+/// accelerated machine, by which its loop runs.
 pub fn stay<S: Store>(alloc: Global, words: &Words, disturbed: bool, store: &mut S) -> Status
     requires { IsStay words.now disturbed }
     ensures { DoesInStore S.Store words.now (stay_deeds disturbed) store.old store.new result }
@@ -76,22 +86,9 @@ fn make_asked<S: Store>(alloc: Global, words: &Words, asked: &Asked, store: &mut
     requires { IsAsked words.now asked.now }
     ensures { DoesInStore S.Store words.now (make_deeds asked.now) store.old store.new result }
 {
-    if asked.lean {
-        match read_asked_file(alloc, 1, words.at(1), store) {
-            Ok(wanted) => make_of(alloc, words, asked, wanted, store),
-            Err(status) => status,
-        }
-    } else {
-        match read_design_file(alloc, 1, words.at(1), store) {
-            Ok(design) => {
-                let wanted = Wanted {
-                    design,
-                    fast: false,
-                };
-                make_of(alloc, words, asked, wanted, store)
-            }
-            Err(status) => status,
-        }
+    match read_asked_file(alloc, 1, words.at(1), store) {
+        Ok(wanted) => make_of(alloc, words, asked, wanted, store),
+        Err(status) => status,
     }
 }
 

@@ -1,9 +1,9 @@
 // By how much the plans of a controller exceed the rows.
-ghost use Rattle.std.specs.Prelude.{◌≤ℤ◌, pos, ◌^◌, IfOk};
+ghost use Rattle.std.specs.Prelude.{◌≡◌, ◌≤ℤ◌, pos, ◌^◌, IfOk};
 ghost use Rattle.qp_model.specs.problem.Runs.{Holds};
 ghost use Rattle.command_generate.specs.Engine.Targets.{targets_of, violation_target};
 ghost use Rattle.command_make.specs.Checking.{AreSmall};
-ghost use Rattle.command_make.specs.Excess.{made_excess, made_lean_excess, made_fast_excess, made_with};
+ghost use Rattle.command_make.specs.Excess.{made_excess, made_lean_excess, made_fast_excess, made_with, target_by};
 ghost use Rattle.command_make.specs.Made.{reference_of};
 
 use command_generate::{Made, row_violations};
@@ -63,12 +63,27 @@ pub fn row_excess(
     }
 }
 
+// The violation that a repair is known for, where that isn't known for all.
+fn known_target(design: &Design, reference: &Option<Policy>) -> Option<i128>
+    ensures { result ≡ target_by (targets_of design.now) (reference_of reference.now) }
+{
+    match reference {
+        Some(_) => Some(violation_target(design.parts())),
+        None => None,
+    }
+}
+
 /// That of a controller of the accelerated machine.
-pub fn fast_excess(alloc: Global, design: &Design, made: &FastMade) -> Result<Vec<i128>, AllocError>
+pub fn fast_excess(
+    alloc: Global,
+    design: &Design,
+    reference: &Option<Policy>,
+    made: &FastMade,
+) -> Result<Vec<i128>, AllocError>
     requires small { AreSmall made.now.bounds.multiplier made.now.eps }
     requires narrow { made.now.bounds.multiplier ≤ℤ pos (2 ^ 42) }
     ensures { IfOk result (λ v. Holds v.items made.now.controller.rows
-        (made_fast_excess made.now.controller made.now.bounds.multiplier made.now.eps (violation_target (targets_of design.now)))) }
+        (made_fast_excess (target_by (targets_of design.now) (reference_of reference.now)) made.now.controller made.now.bounds.multiplier made.now.eps)) }
 {
     let c = made.controller.parts();
     let run = Run {
@@ -76,7 +91,7 @@ pub fn fast_excess(alloc: Global, design: &Design, made: &FastMade) -> Result<Ve
         r: made.bounds.multiplier,
         k: c.steps,
         eps: made.eps,
-        target: Some(violation_target(design.parts())),
+        target: known_target(design, reference),
     };
     fast_violations_after(alloc, &c.exps, run)
 }

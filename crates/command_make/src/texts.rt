@@ -1,25 +1,19 @@
 // The texts that are written, of what was read.
 ghost use Rattle.std.specs.Prelude.{Some, None, true, false};
 ghost use Rattle.qp_model.specs.problem.Parts.{design_of};
-ghost use Rattle.qp_model.specs.problem.Policy.{plans_of, IsPolicyFor};
-ghost use Rattle.qp_model.specs.text.ControllerText.{IsControllerText};
 ghost use Rattle.stay_check.specs.FaceForms.{faces_of, AreFacesFor};
 ghost use Rattle.state_files.specs.RangeText.{IsShiftRange};
-ghost use Rattle.command_generate.specs.Engine.Targets.{targets_of};
-ghost use Rattle.command_generate.specs.Made.{Makes, MakesTexts};
-ghost use Rattle.command_make.specs.Made.{MakingCallsWith, IsMadeByPlans, reference_of};
-ghost use Rattle.command_make.specs.Checking.{IsPricedOf};
-ghost use Rattle.command_make.specs.Inputs.{AreInputs, under_in, MakesTextsOf, MakingCallsOf, IsPricedFor};
+ghost use Rattle.command_generate.specs.Made.{Makes};
+ghost use Rattle.command_make.specs.Inputs.{AreInputs, under_in, MakesTextsOf, MakesFreeTexts, MakingCallsOf, IsPricedFor};
 
 use crate::check::check_under;
 use crate::excess::{fast_excess, row_excess};
-use crate::fast::{fast_texts, made_fast, texts_of_fast};
+use crate::fast::{make_fast, texts_of_fast};
 use crate::inputs::Inputs;
 use crate::made::make;
 use command_generate::texts_made;
 use command_line::{Status, Texts};
 use mat_int::Mat;
-use qp_model::{Design, Policy};
 use stay_check::Faces;
 use std::alloc::Global;
 
@@ -45,33 +39,29 @@ fn free_texts(alloc: Global, inputs: &Inputs, report_name: &str) -> Result<Texts
     requires { AreInputs inputs.now }
     ensures { MakesTextsOf inputs.now None report_name.now result }
 {
-    match &inputs.reference {
-        None => plain_texts(alloc, inputs, report_name),
-        Some(reference) => {
-            if inputs.fast {
-                fast_texts(
-                    alloc,
-                    &inputs.design,
-                    &inputs.policy,
-                    reference,
-                    report_name,
-                )
-            } else {
-                plain_texts(alloc, inputs, report_name)
-            }
-        }
+    if inputs.fast {
+        fast_texts(alloc, inputs, report_name)
+    } else {
+        plain_texts(alloc, inputs, report_name)
     }
 }
 
 // By the plain machine.
 fn plain_texts(alloc: Global, inputs: &Inputs, report_name: &str) -> Result<Texts, Status>
     requires { AreInputs inputs.now }
-    ensures { MakesTexts IsControllerText
-        (MakingCallsWith (design_of inputs.now.design) (targets_of inputs.now.design) (plans_of inputs.now.policy) (reference_of inputs.now.reference) false)
-        (IsMadeByPlans inputs.now.design (plans_of inputs.now.policy) (reference_of inputs.now.reference) false) report_name.now result }
+    ensures { MakesFreeTexts inputs.now false report_name.now result }
 {
     let made = make(alloc, &inputs.design, &inputs.policy, &inputs.reference)?;
     texts_made(alloc, &made, report_name)
+}
+
+// By the accelerated machine.
+fn fast_texts(alloc: Global, inputs: &Inputs, report_name: &str) -> Result<Texts, Status>
+    requires { AreInputs inputs.now }
+    ensures { MakesFreeTexts inputs.now true report_name.now result }
+{
+    let made = make_fast(alloc, &inputs.design, &inputs.policy, &inputs.reference)?;
+    texts_of_fast(alloc, &made, report_name)
 }
 
 // The texts where the faces show that the loop stays in the box under shifts of this range.
@@ -104,21 +94,10 @@ fn price(alloc: Global, inputs: &Inputs, report_name: &str) -> Result<Priced, St
     requires { AreInputs inputs.now }
     ensures { Makes (MakingCallsOf inputs.now inputs.now.fast) (IsPricedFor inputs.now inputs.now.fast report_name.now) result }
 {
-    match &inputs.reference {
-        None => price_plain(alloc, inputs, report_name),
-        Some(reference) => {
-            if inputs.fast {
-                price_fast(
-                    alloc,
-                    &inputs.design,
-                    &inputs.policy,
-                    reference,
-                    report_name,
-                )
-            } else {
-                price_plain(alloc, inputs, report_name)
-            }
-        }
+    if inputs.fast {
+        price_fast(alloc, inputs, report_name)
+    } else {
+        price_plain(alloc, inputs, report_name)
     }
 }
 
@@ -134,20 +113,12 @@ fn price_plain(alloc: Global, inputs: &Inputs, report_name: &str) -> Result<Pric
 }
 
 // By the accelerated machine.
-fn price_fast(
-    alloc: Global,
-    design: &Design,
-    policy: &Policy,
-    reference: &Policy,
-    report_name: &str,
-) -> Result<Priced, Status>
-    requires plans { IsPolicyFor (design_of design.now) (plans_of policy.now) }
-    requires references { IsPolicyFor (design_of design.now) (plans_of reference.now) }
-    ensures { Makes (MakingCallsWith (design_of design.now) (targets_of design.now) (plans_of policy.now) (reference_of (Some reference.now)) true)
-        (IsPricedOf design.now (plans_of policy.now) (reference_of (Some reference.now)) true report_name.now) result }
+fn price_fast(alloc: Global, inputs: &Inputs, report_name: &str) -> Result<Priced, Status>
+    requires { AreInputs inputs.now }
+    ensures { Makes (MakingCallsOf inputs.now true) (IsPricedFor inputs.now true report_name.now) result }
 {
-    let made = made_fast(alloc, design, policy, reference)?;
-    let excess = fast_excess(alloc, design, &made)?;
+    let made = make_fast(alloc, &inputs.design, &inputs.policy, &inputs.reference)?;
+    let excess = fast_excess(alloc, &inputs.design, &inputs.reference, &made)?;
     let texts = texts_of_fast(alloc, &made, report_name)?;
     Ok(Priced { texts, excess })
 }

@@ -2,12 +2,11 @@
 use Rattle.command_line.specs.Deeds.{Deeds}
 use Rattle.command_line.specs.declared.words.Command.{Command}
 use Rattle.command_line.specs.declared.words.Command.TheVariants.{Generate, Solve, Loop, Demo, List, Stay, Play, Lean, LeanStay, Split, Serve, C, Settle}
-use Rattle.command_generate.specs.Generate.{generate_deeds}
 use Rattle.command_solve.specs.Deeds.{solve_deeds}
 use Rattle.command_loop.specs.Deeds.{loop_deeds}
 use Rattle.command_demo.specs.Deeds.{demo_deeds}
 use Rattle.command_list.specs.Deeds.{list_deeds}
-use Rattle.command_make.specs.Make.{stay_deeds, lean_deeds, lean_stay_deeds}
+use Rattle.command_make.specs.Make.{generate_deeds, stay_deeds, lean_deeds, lean_stay_deeds}
 use Rattle.command_play.specs.Deeds.{play_deeds}
 use Rattle.command_split.specs.Split.{split_deeds}
 use Rattle.command_serve.specs.Deeds.{serve_deeds}

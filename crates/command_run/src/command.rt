@@ -8,10 +8,8 @@ ghost use Rattle.command_line.specs.Commands.{AreOf, IsUsage};
 ghost use Rattle.command_line.specs.Answers.{ForContents, IsAnswer, IsCaused};
 ghost use Rattle.command_line.specs.Does.{Does};
 ghost use Rattle.command_line.specs.Deeds.{IsCalledFor, UsesNoFile, IsUnwritten, IsUnprinted, WriteFailed, NoneRises};
-ghost use Rattle.command_generate.specs.Generate.{IsGenerated};
-ghost use Rattle.command_make.specs.Stay.{IsStayed};
 ghost use Rattle.command_play.specs.AsSolved.{PlaysAsSolved};
-ghost use Rattle.command_make.specs.Fast.{IsAnyWritten, IsAnyStayed};
+ghost use Rattle.command_make.specs.Fast.{IsAnyGenerated, IsAnyGeneratedStayed, IsAnyWritten, IsAnyStayed};
 ghost use Rattle.command_split.specs.Split.{IsSplitWritten};
 ghost use Rattle.command_serve.specs.Held.{ServesHeld};
 ghost use Rattle.command_c.specs.Compiled.{IsCompiled};
@@ -20,11 +18,10 @@ ghost use Rattle.command_run.specs.Table.{deeds_of};
 
 use command_c::write_c;
 use command_demo::demo;
-use command_generate::generate;
 use command_line::{Command, Status, command_of};
 use command_list::list;
 use command_loop::run_loops;
-use command_make::{lean, lean_stay, stay};
+use command_make::{generate, lean, lean_stay, stay};
 use command_play::play;
 use command_serve::serve;
 use command_settle::settle;
@@ -82,13 +79,15 @@ pub fn run<S: Store, O: Sink>(alloc: Global, words: &Words, store: &mut S, out: 
     // built of the design and the policy in the files. Run from any grid state of the box, the controller keeps every product and partial sum
     // within the printed width and makes exactly the printed steps; its averaged plan exceeds each constraint by at most the printed violation and
     // costs at most the printed gap more than any feasible plan, and some feasible plan costs at most the printed undercut more than it.
-    // The printed violation and gap are at most the design's targets.
+    // The printed violation and gap are at most the design's targets. Of a design of version 3 it is a controller of the accelerated machine, and the promise
+    // is of that machine's run.
     ensures generated { IsGenerate words.now → result ≡ Status.Done
-        → IfSome (S.held store.old) (λ files. IsSomeAnd (S.held store.new) (IsGenerated words.now files)) }
+        → IfSome (S.held store.old) (λ files. IsSomeAnd (S.held store.new) (IsAnyGenerated words.now files)) }
     // So it does where `stay` answers `Done`, and the closed loop from any grid state of the box stays in the box for every number of turns, under every list
-    // of disturbances within the range in the sixth file, and without disturbances where there is no such file.
+    // of disturbances within the range in the sixth file, and without disturbances where there is no such file. Of a design of version 3 it is the loop by the
+    // accelerated machine.
     ensures stayed { (disturbed : Bool) → IsStay words.now disturbed → result ≡ Status.Done
-        → IfSome (S.held store.old) (λ files. IsSomeAnd (S.held store.new) (IsStayed disturbed words.now files)) }
+        → IfSome (S.held store.old) (λ files. IsSomeAnd (S.held store.new) (IsAnyGeneratedStayed disturbed words.now files)) }
     // And where `lean` answers `Done`, its two files hold the text of one controller and the report of its bounds, made leanly of the design, the policy and
     // the reference plans in the files, whatever these plans are: with the same promise, and within the same targets. Of a design of version 3 it is a controller
     // of the accelerated machine, and the promise is of that machine's run.

@@ -1,4 +1,4 @@
-//! `generate` alone, of fewer crates than the whole program: controllers made from files.
+//! `generate` alone, of fewer crates than the whole program: controllers made from files, of designs of versions 1 and 2.
 #![tactic(auto)]
 
 use command_generate::generate;

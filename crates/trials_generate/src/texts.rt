@@ -1,6 +1,6 @@
 // `generate`: what it refuses, what it writes, and calls that fail.
-use command_generate::generate;
 use command_line::{Command, Status, command_of};
+use command_make::generate;
 use io_edge::Words;
 use std::alloc::{AllocError, Global};
 use std::test::Fail;
@@ -118,8 +118,12 @@ fn is_made(alloc: Global, case: &Made) -> Result<bool, Fail> {
     )
 }
 
+// The first worked design with version 3 and targets that take many steps.
+const LONG_RUN: &str =
+    "version = 3\nstates = 1\ninputs = 1\nstages = 1\n[plant]\nden = 1\na = [[1]]\nb = [[1]]\n[cost]\nden = 1\nrow_den = 1\ninput = [1]\nstage = [[1, 0, 1]]\nfinal = []\n[limits]\nden = 4\nstage = [[0, 4, 4], [0, -4, 4]]\nfinal = [[4, 1]]\n[box]\ngrid = 0\nlo = [0]\nhi = [1]\n[targets]\nden = 65536\nviolation = 1\ngap = 1048576\n";
+
 // Designs and policies with a fault, and designs that no controller is made of; nothing is written.
-static REFUSALS: [Refused; 18] = [
+static REFUSALS: [Refused; 19] = [
     Refused {
         design: ("[limits]\nden = 4\n", "[limits]\n"),
         policy: "1,0\n8,-7\n",
@@ -219,6 +223,12 @@ static REFUSALS: [Refused; 18] = [
         policy: "1,0\n65536,-65535\n",
         line: "error 9 too-fine 151000321\n",
     },
+    // By the accelerated machine, where it takes more steps than that has.
+    Refused {
+        design: (DESIGN, LONG_RUN),
+        policy: "1,0\n2048,-2047\n",
+        line: "error 8 too-many-steps 65535\n",
+    },
 ];
 
 #[test]
@@ -302,9 +312,16 @@ fn changed_designs(rt: HostRuntime) -> Result<(), Fail> {
 }
 
 // Designs, policies, and both texts.
-static WORKED: [(&str, &str, &str, &str); 4] = [
+static WORKED: [(&str, &str, &str, &str); 5] = [
     // The first worked design, byte by byte.
     (DESIGN, POLICY, CONTROLLER, REPORT),
+    // The same with version 3: a controller of the accelerated machine, byte by byte from the model.
+    (
+        "version = 3\nstates = 1\ninputs = 1\nstages = 1\n[plant]\nden = 1\na = [[1]]\nb = [[1]]\n[cost]\nden = 1\nrow_den = 1\ninput = [1]\nstage = [[1, 0, 1]]\nfinal = []\n[limits]\nden = 4\nstage = [[0, 4, 4], [0, -4, 4]]\nfinal = [[4, 1]]\n[box]\ngrid = 0\nlo = [0]\nhi = [1]\n[targets]\nden = 1\nviolation = 16\ngap = 1\n",
+        POLICY,
+        "mpc-controller 3\nsize 1 1 1 3\nbits 10 0 1 26\nsteps 3\nclamp 32768\nwords 12\nexps 0 1 1\nlo 0\nhi 1\nP 512\nT 0\nW 256 -256 256\nG 1024\nG -1024\nG 1024\nE 0\nE 0\nE 1024\nb 1024 1024 256\nend\n",
+        "mpc-report 3\nmargin 8192 65536\ncost 1\nmultiplier 8\nstep 1\nsteps 3\nbits 10\nwidth 26\nwords 12\nviolation 1 5918827566422 1099511627776\nviolation 2 7873514904690 1099511627776\nviolation 3 7873514904690 1099511627776\ngap 438124412928 1099511627776\nundercut 62988119237520 1099511627776\nend\n",
+    ),
     // Two inputs and two states: both texts byte by byte, from the model in exact fractions. Its matrix is diagonal, so one gain alone is good.
     (
         "version = 1\nstates = 2\ninputs = 2\nstages = 1\n[plant]\nden = 2\na = [[2, 1], [0, 2]]\nb = [[2, 0], [0, 2]]\n[cost]\nden = 1\nrow_den = 1\ninput = [1, 3]\nstage = [[1, 0, 0, 1], [0, 1, 1, 2]]\nfinal = []\n[limits]\nden = 2\nstage = [[0, 0, 2, 0, 2], [0, 0, -2, 0, 2], [0, 0, 0, 2, 2], [0, 0, 0, -2, 2]]\nfinal = [[2, 0, 8], [-2, 0, 8]]\n[box]\ngrid = 1\nlo = [-2, -2]\nhi = [2, 2]\n[targets]\nden = 1\nviolation = 1\ngap = 2\n",

@@ -5,7 +5,7 @@ use io_edge::Words;
 use std::alloc::Global;
 use std::test::Fail;
 use trials_memory_edge::{MemSink, MemStore};
-use trials_stores::{Fails, NONE, Program, ends_with, has_lines, store_of, two_sided};
+use trials_stores::{Fails, NONE, Program, changed, ends_with, has_lines, store_of, two_sided};
 use trials_worked_designs::POLICY;
 
 // `stay` alone.
@@ -39,7 +39,42 @@ fn is_run(
     report: &str,
 ) -> Result<bool, Fail> {
     let design = two_sided(alloc)?;
-    let mut store = store_of(alloc, &design, POLICY, faces, shifts)?;
+    is_run_of(
+        alloc,
+        arguments,
+        &design,
+        (faces, shifts),
+        fails,
+        line,
+        report,
+    )
+}
+
+// The same over a design of version 3.
+fn is_fast_run(alloc: Global, shifts: &str, line: &str, report: &str) -> Result<bool, Fail> {
+    let design = changed(alloc, &two_sided(alloc)?, "version = 1", "version = 3")?;
+    is_run_of(
+        alloc,
+        STAY_UNDER,
+        &design,
+        (FACES, shifts),
+        &NONE,
+        line,
+        report,
+    )
+}
+
+// The same over a design.
+fn is_run_of(
+    alloc: Global,
+    arguments: &str,
+    design: &str,
+    texts: (&str, &str),
+    fails: &Fails,
+    line: &str,
+    report: &str,
+) -> Result<bool, Fail> {
+    let mut store = store_of(alloc, design, POLICY, texts.0, texts.1)?;
     Ok(
         ends_with::<Staying>(alloc, arguments, &mut store, fails, line, "")?
             && has_lines(alloc, &mut store, "r", report)?,
@@ -121,6 +156,16 @@ fn runs(rt: HostRuntime) -> Result<(), Fail> {
     for &(arguments, faces, shifts, line, report) in &RUNS {
         assert!(rt; is_run(rt.alloc(), arguments, faces, shifts, &NONE, line, report)?);
     }
+    Ok(())
+}
+
+// The accelerated machine: disturbances that the faces leave room for, and others.
+#[test]
+fn fast_runs(rt: HostRuntime) -> Result<(), Fail> {
+    let report =
+        "multiplier 8\nstep 1\nsteps 50\nbits 12\nwidth 31\nwords 15\nviolation 1 75659718684 1099511627776\n";
+    assert!(rt; is_fast_run(rt.alloc(), "0\n1\n", "", report)?);
+    assert!(rt; is_fast_run(rt.alloc(), "0\n2\n", "error 17 no-stay 1 2\n", "")?);
     Ok(())
 }
 

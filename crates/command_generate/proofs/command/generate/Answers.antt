@@ -2,7 +2,7 @@ use Rattle.std.proofs.Common.{arith}
 use Rattle.command_line.specs.Does.{DoesInStore}
 use Rattle.command_line.proofs.Following.{stopped, went_on, acted, follows}
 use Rattle.command_line.proofs.TwoTexts.{two_done}
-use Rattle.command_generate.specs.Generate.{generate_work, generate_deeds}
+use Rattle.command_generate.specs.Generate.{plain_work, plain_deeds}
 use Rattle.command_generate.proofs.Written.{generate_sound, generated}
 use Rattle.command_generate.proofs.command.generate.Goals as goal
 
@@ -11,8 +11,8 @@ pub returns-in-Err : goal.returns-in-Err
 returns-in-Err g c =
     let words = c.args.words.now in
     let is = rw c.at.ensures at c.in-Err.ensures in
-    let does : DoesInStore g.S.Store words generate_deeds c.args.store.now c.read_design_file.new.store c.in-Err.ended =
-    follows generate_work generate_sound (stopped is.passes is.ends) in
+    let does : DoesInStore g.S.Store words plain_deeds c.args.store.now c.read_design_file.new.store c.in-Err.ended =
+    follows plain_work generate_sound (stopped is.passes is.ends) in
     record { generated = λ done. generated words _ _ _ done does.leaves; does = does }
 
 -- the policy's does
@@ -21,8 +21,8 @@ returns g c =
     let words = c.args.words.now in
     let first = rw c.at.ensures at c.in-Ok.ensures in
     let is = rw c.at-2.ensures at c.in-Err-read_policy_file.ensures.read in
-    let does : DoesInStore g.S.Store words generate_deeds c.args.store.now c.read_policy_file.new.store c.in-Err-read_policy_file.status =
-    follows generate_work generate_sound
+    let does : DoesInStore g.S.Store words plain_deeds c.args.store.now c.read_policy_file.new.store c.in-Err-read_policy_file.status =
+    follows plain_work generate_sound
     (went_on first.passes first.right (stopped is.passes is.ends)) in
     record { generated = λ done. generated words _ _ _ done does.leaves; does = does }
 
@@ -33,8 +33,8 @@ returns-in-Ok-read_policy_file g c =
     let first = rw c.at.ensures at c.in-Ok.ensures in
     let is = rw c.at-2.ensures at c.in-Ok-read_policy_file.ensures.read in
     let made = rw c.at-in-Ok-read_policy_file.ensures at c.texts_of-made.ensures in
-    let does : DoesInStore g.S.Store words generate_deeds c.args.store.now c.write_texts.new.store c.write_texts.result =
-    follows generate_work generate_sound
+    let does : DoesInStore g.S.Store words plain_deeds c.args.store.now c.write_texts.new.store c.write_texts.result =
+    follows plain_work generate_sound
     (went_on first.passes first.right
     (went_on is.passes is.right
     (acted (two_done (λ file one. one) c.texts_of-made.result (λ t. t.first.items) (λ t. t.second.items) made.made made.called made.unmade c.write_texts.ensures.written c.write_texts.ensures.unmade)))) in

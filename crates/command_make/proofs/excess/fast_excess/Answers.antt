@@ -1,22 +1,24 @@
-use Rattle.std.proofs.Common.{ℕ, ◌+◌, ◌<◌, ◌≤◌, ℤ, pos, ◌≤ℤ◌, length, unsigned_abs, rules, ap, refl, sym, subst, ◌∙◌}
+use Rattle.std.proofs.Common.{ℕ, ◌+◌, ◌<◌, ◌≤◌, pos, Option, Some, None, length, unsigned_abs, rules, arith, ap, refl, sym, subst, ◌∙◌}
 use Rattle.std.specs.Int.{w128}
-use Rattle.std.proofs.lemmas.Int.{to_z-of_z}
+use Rattle.std.proofs.lemmas.Int.{ints, to_z-of_z}
 use Rattle.std.proofs.lemmas.Result.{IfOk-weaker}
 use mir.Val.{SFits}
-use Rattle.qp_model.specs.bounds.Choices.{lean_row_violation}
+use Rattle.qp_model.specs.problem.Policy.{Plans}
 use Rattle.qp_model.specs.machine.Controller.{Numbers}
 use Rattle.qp_model.specs.machine.Machine.{exponent_of}
-use Rattle.qp_model.specs.declared.design_parts.DesignParts.{DesignParts}
 use Rattle.dual_bounds.specs.FastSteps.{quarter_steps}
 use Rattle.overflow_check.specs.FastController.{IsFastController}
 use Rattle.command_generate.specs.Engine.RowExponents.{exponent_in}
-use Rattle.command_generate.specs.Engine.Targets.{targets_of, violation_target}
-use Rattle.command_generate.proofs.Engine.GenerationFacts.{whole_least}
+use Rattle.command_generate.specs.Engine.Targets.{Targets, targets_of}
+use Rattle.command_generate.specs.Engine.Terms.{row_bound, IsTarget}
 use Rattle.fast_bounds.proofs.FastPrinted.{below, listed, run_of}
+use Rattle.command_make.specs.Made.{reference_of}
+use Rattle.command_make.specs.Excess.{target_by}
 use Rattle.command_make.proofs.excess.fast_excess.Goals as goal
 
-pub violation_target-requires : goal.violation_target-requires
-violation_target-requires c = c.parts.ensures.sound
+is_target : (t : Targets) (reference : Option Plans) → IsTarget (target_by t reference)
+is_target t None = tt
+is_target t (Some references) = omega (arith, ints)
 
 pub fast_violations_after-requires-clause-run : goal.fast_violations_after-requires-clause-run
 fast_violations_after-requires-clause-run c =
@@ -24,10 +26,9 @@ fast_violations_after-requires-clause-run c =
     let sound : IsFastController n = search rules in
     let r : SFits w128 c.args.made.now.bounds.multiplier = search rules in
     let e : SFits w128 c.args.made.now.eps = search rules in
-    let t : SFits w128 c.violation_target.result = search rules in
-    rw (to_z-of_z w128 _ r, to_z-of_z w128 _ e, to_z-of_z w128 _ t)
+    rw (to_z-of_z w128 _ r, to_z-of_z w128 _ e)
     (run_of n _ _ sound c.parts-c.ensures.value refl refl c.requires.small.some c.requires.narrow c.requires.small.errors_low c.requires.small.errors_high
-    (subst (λ (z : ℤ). pos 0 ≤ℤ z) (to_z-of_z w128 _ t) (whole_least c.violation_target.result _ t c.violation_target.ensures)))
+    (subst IsTarget (sym c.known_target.ensures) (is_target (targets_of c.args.design.now) (reference_of c.args.reference.now))))
 
 pub fast_violations_after-requires-clause-rows : goal.fast_violations_after-requires-clause-rows
 fast_violations_after-requires-clause-rows c =
@@ -42,17 +43,16 @@ returns c =
     let sound : IsFastController n = search rules in
     let r : SFits w128 c.args.made.now.bounds.multiplier = search rules in
     let e : SFits w128 c.args.made.now.eps = search rules in
-    let t : SFits w128 c.violation_target.result = search rules in
     let parts = c.parts-c.ensures.value in
-    let target = ap unsigned_abs (c.violation_target.ensures ∙ ap (λ (p : DesignParts). pos (violation_target (targets_of p))) c.parts.ensures.value) in
+    let target = c.known_target.ensures in
     IfOk-weaker c.fast_violations_after.result _ _
     (λ out holds.
     let rows = listed n out.items c.deref.result.now
-    (λ (s : ℕ). pos (lean_row_violation (s + 2) (unsigned_abs c.args.made.now.bounds.multiplier) (quarter_steps c.parts-c.result.now.steps) (unsigned_abs c.args.made.now.eps) (unsigned_abs c.violation_target.result)))
+    (λ (s : ℕ). pos (row_bound c.known_target.result (s + 2) (c.parts-c.result.now.s + 2) (unsigned_abs c.args.made.now.bounds.multiplier) (quarter_steps c.parts-c.result.now.steps) (unsigned_abs c.args.made.now.eps)))
     sound (c.deref.ensures.value ∙ ap (λ (x : Numbers). x.exponents) parts) holds in
     record {
       long = rows.long;
       is = λ i l. rows.is i l ∙
-          (λ j. pos (lean_row_violation (exponent_of n i + 2) (unsigned_abs c.args.made.now.bounds.multiplier) (quarter_steps (parts j).steps) (unsigned_abs c.args.made.now.eps) (target j)));
+          (λ j. pos (row_bound (target j) (exponent_of n i + 2) ((parts j).step_exponent + 2) (unsigned_abs c.args.made.now.bounds.multiplier) (quarter_steps (parts j).steps) (unsigned_abs c.args.made.now.eps)));
     })
-    (rw (to_z-of_z w128 _ r, to_z-of_z w128 _ e, to_z-of_z w128 _ t) at c.fast_violations_after.ensures)
+    (rw (to_z-of_z w128 _ r, to_z-of_z w128 _ e) at c.fast_violations_after.ensures)

@@ -1,9 +1,10 @@
-use Rattle.std.proofs.Common.{refl, ◌∙◌}
+use Rattle.std.proofs.Common.{refl}
 use Rattle.qp_model.specs.problem.Policy.{plans_of}
 use Rattle.qp_model.specs.bounds.Printed.{printed}
 use Rattle.command_line.proofs.Results.{err_same}
 use Rattle.command_line.proofs.TwoTexts.{unmade_memory}
 use Rattle.command_generate.proofs.Making.{none_made}
+use Rattle.command_make.specs.Made.{reference_of}
 use Rattle.command_make.proofs.FastExcesses as fast
 use Rattle.command_make.proofs.texts.price_fast.Goals as goal
 
@@ -14,12 +15,12 @@ pub fast_excess-requires : goal.fast_excess-requires
 fast_excess-requires c =
     let m = c.in_ok-made.made in
     let is = c.in_ok-made.ensures in
-    let p = c.args.design.now in
-    let plans = plans_of c.args.policy.now in
-    let references = plans_of c.args.reference.now in
+    let p = c.args.inputs.now.design in
+    let plans = plans_of c.args.inputs.now.policy in
+    let reference = reference_of c.args.inputs.now.reference in
     record {
-      small = fast.small p plans references m.controller (printed m.bounds) is.made.made m.eps is.errors is.made.called;
-      narrow = fast.narrow p plans references m.controller (printed m.bounds) is.made.made m.eps is.errors is.made.called;
+      small = fast.small p plans reference m.controller (printed m.bounds) is.made.made m.eps is.errors is.made.called;
+      narrow = fast.narrow p plans reference m.controller (printed m.bounds) is.made.made m.eps is.errors is.made.called;
     }
 
 pub returns-in_err-excess : goal.returns-in_err-excess
@@ -30,28 +31,29 @@ returns-in_err-texts c = rw (err_same c.from_residual-in_err-texts.result _ c.fr
 
 pub returns : goal.returns
 returns c =
-    let p = c.args.design.now in
-    let plans = plans_of c.args.policy.now in
-    let references = plans_of c.args.reference.now in
+    let p = c.args.inputs.now.design in
+    let plans = plans_of c.args.inputs.now.policy in
+    let reference = reference_of c.args.inputs.now.reference in
     let m = c.in_ok-made.made in
     let b = printed m.bounds in
     let is = c.in_ok-made.ensures in
     let xs = c.in_ok-excess.excess.items in
     let holds = c.in_ok-excess.ensures in
-    let own = fast.stated_excess p plans references m.controller b is.made.made m.eps is.errors is.made.called xs holds in
+    let own = fast.stated_excess p plans reference m.controller b is.made.made m.eps is.errors is.made.called xs holds in
     let are = c.in_ok-texts.ensures.texts in
     record {
       made = record {
         texts = record {
           controller = m.controller;
           bounds = b;
-          made = (is.made.made, fast.loops p plans references m.controller b is.made.made m.eps is.errors is.made.called xs holds);
+          made = (is.made.made, fast.loops p plans reference m.controller b is.made.made m.eps is.errors is.made.called xs holds);
           is_text = are.0;
           is_report = are.1;
         };
-        long = holds.long ∙ is.made.made.built.made.made.sizes.rows;
+        long = own.holds.long;
         stated = own;
-        one = λ other stated. fast.one_fast_excess p plans references is.made.made.built.made.design is.made.made.built.policy other xs stated own;
+        one = λ other stated. fast.one_fast_excess p plans reference (fast.design p plans reference m.controller b is.made.made m.eps is.errors)
+            (fast.policy p plans reference m.controller b is.made.made m.eps is.errors) other xs stated own;
       };
       called = is.made.called;
       unmade = tt;

@@ -37,7 +37,7 @@ returns c =
     let are = c.in_ok-texts.ensures.texts in
     record {
       made = record {
-        texts = record { controller = m.controller; bounds = printed m.bounds; made = (is.made.made, f.loops xs holds); is_text = f.text _ are.0; is_report = are.1 };
+        texts = record { controller = m.controller; bounds = printed m.bounds; made = (is.made.made, f.loops xs holds); is_text = are.0; is_report = are.1 };
         long = holds.long ∙ f.rows;
         stated = own;
         one = f.one xs own;

@@ -4,12 +4,11 @@ use Rattle.command_line.specs.declared.status.Status.TheVariants.{Done}
 use Rattle.command_line.proofs.Composing.{some_contents}
 use Rattle.command_line.proofs.Beside.{beside}
 use Rattle.command_line.proofs.Doing.{printing, shown_anyhow, none_falls}
-use Rattle.command_generate.specs.Generate.{generate_work}
 use Rattle.command_demo.specs.Demo.{DemoCalls, DemoPrints}
 use Rattle.command_demo.specs.Deeds.{demo_deeds}
 use Rattle.command_demo.proofs.Row.{demo_row}
 use Rattle.command_list.specs.Deeds.{list_work}
-use Rattle.command_make.specs.Make.{make_work, stay_asked, lean_asked}
+use Rattle.command_make.specs.Make.{make_work, generate_asked, stay_asked, lean_asked}
 use Rattle.command_make.proofs.Written.{make_silent}
 use Rattle.command_split.specs.Split.{split_work}
 use Rattle.command_c.specs.Compiled.{compile_work}
@@ -19,7 +18,7 @@ use Rattle.command_run.proofs.command.answer.Goals as goal
 pub returns-in-Generate : goal.returns-in-Generate
 returns-in-Generate g c =
     rw c.in-Generate.is
-    (beside g.S.Store g.O.Sink c.args.words.now generate_work (λ never. never) (λ p plans s old. refl) c.args.store.now c.generate.new.store c.args.out.now c.generate.result c.generate.ensures.does)
+    (beside g.S.Store g.O.Sink c.args.words.now (make_work generate_asked) (λ never. never) (make_silent generate_asked) c.args.store.now c.generate.new.store c.args.out.now c.generate.result c.generate.ensures)
 
 pub returns-in-List : goal.returns-in-List
 returns-in-List g c =

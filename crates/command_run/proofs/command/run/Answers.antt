@@ -5,8 +5,7 @@ use Rattle.command_line.specs.declared.words.Command.TheVariants.{Generate, Stay
 use Rattle.command_line.proofs.OneCommand.{for_each}
 use Rattle.command_line.proofs.Doing.{none_falls}
 use Rattle.command_c.proofs.Written.{compiled}
-use Rattle.command_generate.proofs.Written.{generated}
-use Rattle.command_make.proofs.Written.{stay_left, lean_left, lean_stay_left}
+use Rattle.command_make.proofs.Written.{generate_left, stay_left, lean_left, lean_stay_left}
 use Rattle.command_play.proofs.Solved.{plays_as_solved}
 use Rattle.command_serve.proofs.Held.{serves_held}
 use Rattle.command_settle.proofs.Settled.{settled}
@@ -28,7 +27,7 @@ returns-in-Some g c =
     let does = c.answer.ensures in
     let each = for_each words command is (λ d. Does g.S.Store g.O.Sink words (deeds_of d) c.args.store.now c.answer.new.store c.args.out.now c.answer.new.out s) does in
     record {
-      generated = λ that is. generated words s held left is (each Generate that).leaves;
+      generated = λ that is. generate_left words s held left is (each Generate that).leaves;
       stayed = λ disturbed that is. stay_left disturbed words s held left is (each (Stay disturbed) that).leaves;
       leaned = λ that is. lean_left words s held left is (each Lean that).leaves;
       kept = λ disturbed that is. lean_stay_left disturbed words s held left is (each (LeanStay disturbed) that).leaves;

@@ -1,7 +1,7 @@
 use Rattle.qp_model.specs.bounds.Printed.{printed}
 use Rattle.command_line.proofs.Results.{err_same}
 use Rattle.command_generate.proofs.Making.{texts_of_made, none_made}
-use Rattle.command_make.proofs.fast.fast_texts.Goals as goal
+use Rattle.command_make.proofs.texts.fast_texts.Goals as goal
 
 pub returns-in_err-made : goal.returns-in_err-made
 returns-in_err-made c = rw (err_same _ _ c.from_residual.ensures.1) (none_made c.in_err-made.ensures.made.unmade)
