@@ -9,7 +9,6 @@ import sys
 import tempfile
 
 from checks.fuzz import compiled, control
-from checks.fuzz.machines import ALL_VERSIONS
 from scripts.common.c_costs import Costs
 from scripts.common.straight_costs import MOST_WIDTH, AcceleratedCosts, StraightCosts
 from scripts.common.texts import Controller
@@ -72,7 +71,7 @@ def straight_ratios(controller):
     """The same of its straight C, and of RAM."""
     said = (AcceleratedCosts if controller.version == 3 else StraightCosts)(controller)
     with tempfile.TemporaryDirectory() as folder:
-        source, header = compiled.texts_of("mpc", control.read_controller(text_of(controller).encode(), ALL_VERSIONS))
+        source, header = compiled.texts_of("mpc", control.read_controller(text_of(controller).encode()))
         for name, text in (("mpc.c", source), ("mpc.h", header)):
             board.write(folder, name, text.decode())
         board.solve(folder, controller, [controller.hi], "m4", straight=True)

@@ -123,7 +123,7 @@ gap = {v["gap"]}
 
 def random_sizes(pick):
     """The version, the states, the inputs and the stages: mostly few, now and then as many as the version has."""
-    version = pick.choice([1, 2])
+    version = pick.choice(VERSIONS)
     if pick.random() < 0.02:
         return version, pick.choice([1, 2]), 1, model.STAGES[version] - pick.choice([0, 0, 1])
     return version, pick.choice([1, 1, 2, 2, 3, 4] if version == 1 else [1, 1, 2, 2, 3, 4, 5, 6]), pick.choice([1, 1, 2, 3]), pick.choice([1, 1, 2, 3, 4])
@@ -161,7 +161,7 @@ def large_design(pick):
     den, limit_den, grid = power(20), power(20), pick.choice([0, 0, 0, 0, 3, 24])
     plant = pick.choice([den, den, min(top, power(30))])
     number = lambda reach: pick.choice([-1, 1, 1]) * min(top, max(1, reach))
-    v = {"version": pick.choice([1, 2]), "n": n, "p": p, "stages": stages, "den": den, "a": [[number(plant) if i == j else 0 for j in range(n)] for i in range(n)],
+    v = {"version": pick.choice(VERSIONS), "n": n, "p": p, "stages": stages, "den": den, "a": [[number(plant) if i == j else 0 for j in range(n)] for i in range(n)],
          "b": [[number(pick.choice([plant, 1, power(30)])) for _ in range(p)] for _ in range(n)], "cost_den": power(20), "row_den": power(20),
          "input": [min(top, power(31)) for _ in range(p)], "final_cost": []}
     side = pick.choice([0, 0, 1]) << grid
@@ -176,7 +176,7 @@ def large_design(pick):
 
 def greatest_design(pick):
     """A design of the greatest sizes of its version, or nearly so: a chain of states that doesn't grow, in either class. It takes the model a minute."""
-    version, den = pick.choice([1, 2]), pick.choice([1, 4])
+    version, den = pick.choice(VERSIONS), pick.choice([1, 4])
     n, stages = model.STATES[version], model.STAGES[version]
     unit = lambda at: [int(i == at) for i in range(n)]
     v = {"version": version, "n": n, "p": 3, "stages": stages, "den": den, "a": [[den // 2 * a + b for a, b in zip(unit(i), unit(i + 1))] for i in range(n)],
@@ -240,7 +240,7 @@ class Border:
     """Something that a design and its policy are within or not, and what is brought to where it changes. How much more than it needs a row's bound may be: a long one
     makes the numbers of the rows long."""
 
-    def __init__(self, share, lengths, knobs, is_within, versions=(1, 2), spare=(0, 0, 0, 1)):
+    def __init__(self, share, lengths, knobs, is_within, versions=VERSIONS, spare=(0, 0, 0, 1)):
         self.share, self.lengths, self.knobs, self.is_within, self.versions, self.spare = share, lengths, knobs, is_within, versions, spare
 
 
@@ -264,8 +264,8 @@ BORDERS = [
     Border(4, LONG, ["reach", "growth", "limit_den"], within_corners(at_corners.fine_sizes, "corner_slack")),
     Border(8, LONG, ["reach", "growth", "row_den", "cost_den"], within_corners(at_corners.fine_sizes, "corner_cost")),
     # whether exponents may be lowered
-    Border(15, SHORT, ["limit_den", "limit_den", "cost_den", "row_den", "den"], within_form(forms.exact_form, 16), [2], [0, 100, 10000, 10**6]),
-    Border(15, LONG, ["limit_den", "limit_den", "cost_den", "row_den"], within_form(forms.fine_form, 16), [2], [0, 100, 10000, 10**6]),
+    Border(15, SHORT, ["limit_den", "limit_den", "cost_den", "row_den", "den"], within_form(forms.exact_form, 16), [2, 3], [0, 100, 10000, 10**6]),
+    Border(15, LONG, ["limit_den", "limit_den", "cost_den", "row_den"], within_form(forms.fine_form, 16), [2, 3], [0, 100, 10000, 10**6]),
 ]
 # the greatest value of what is brought to a border
 MOST = {"den": 2**20, "limit_den": 2**20, "cost_den": 2**20, "row_den": 2**20, "grid": 24, "plan_den": 2**40, "growth": 2**31, "reach": 2**63}
@@ -311,18 +311,18 @@ def examples():
 
 
 def size_changed(pick, data):
-    """The version or one of the sizes is made another, near the greatest of either version."""
-    key, numbers = pick.choice([(b"version", [0, 1, 2, 2, 2, 3]), (b"states", [4, 5, 6, 7]), (b"stages", [20, 21, 30, 31]), (b"inputs", [3, 4])])
+    """The version or one of the sizes is made another, near the greatest of each version."""
+    key, numbers = pick.choice([(b"version", [0, 1, 2, 2, 2, 3, 3, 4]), (b"states", [4, 5, 6, 7]), (b"stages", [20, 21, 30, 31]), (b"inputs", [3, 4])])
     return re.sub(rb"(?m)^" + key + rb" = [0-9]+$", key + b" = %d" % pick.choice(numbers), data)
 
 
 def example(pick, base):
-    """One of the examples, which are of the first version but for the largest; half of the others are made of the second, mostly with a step exponent that is 4 more."""
+    """One of the examples, which are of the first version but for the largest; half of the others are made of the second or third, mostly with a step exponent that is 4 more."""
     design, policy = pick.choices(base, [1 if len(policy) < LONG_POLICY else 0.02 for _, policy in base])[0]
     if len(policy) >= LONG_POLICY or pick.random() < 0.5:
         return design, policy
-    second = in_version(2, design)
-    return lighter(second, 16) if pick.random() < 0.7 else second, policy
+    other = in_version(pick.choice([2, 3]), design)
+    return lighter(other, 16) if pick.random() < 0.7 else other, policy
 
 
 def in_version(version, design):
@@ -342,7 +342,7 @@ def design_and_policy(pick, base):
         design, policy = example(pick, base)
     elif how < 0.55:
         design, policy, _ = program.make(pick.randrange(2**32), pick.choice([1, 1, 2]))
-        design = in_version(pick.choice([1, 2]), design)
+        design = in_version(pick.choice(VERSIONS), design)
     elif how < 0.7:
         return large_design(pick)
     else:
@@ -408,7 +408,7 @@ def references(pick, design, policy):
 
 
 def small_controllers(base):
-    """Controllers of designs whose targets are so coarse that a run has few steps: of both versions, and with other exponents."""
+    """Controllers of designs whose targets are so coarse that a run has few steps: of each version, and with other exponents."""
     for design, policy in [*(it for it in base if len(it[1]) < LONG_POLICY), *(program.make(number, stages)[:2] for number, stages in ((1, 1), (7, 2), (9, 1)))]:
         coarse = re.sub(rb"violation = [0-9]+\ngap = [0-9]+", b"violation = 2147483647\ngap = 2147483647", re.sub(rb"(targets\]\nden = )[0-9]+", rb"\g<1>1", design))
         for text in (design, coarse):
@@ -418,12 +418,13 @@ def small_controllers(base):
             except model.Refused:
                 continue
             if choice.report["steps"] <= 64:
-                for version in (1, 2):
+                for version in VERSIONS:
                     d = model.read_design(in_version(version, text))
                     c = program.generate(d, model.read_policy(policy, d), model.exact_gains)[0]
                     yield in_version(version, text), control.text_of(c)
-                c.exps = [max(0, c.s - i % 5) for i in range(c.m)]
-                yield in_version(2, text), control.text_of(c)
+                    if version == 2:
+                        c.exps = [max(0, c.s - i % 5) for i in range(c.m)]
+                        yield in_version(version, text), control.text_of(c)
                 break
 
 
@@ -447,7 +448,7 @@ def accelerated_part(pick, text):
 def random_controller(pick, like=None, versions=VERSIONS):
     """A controller in form whose width is near the least one, of one of these versions. Some have sums near 2^126, some entries of any size that are only ever multiplied by 0. With another
     one that it must be like, its sizes but for the rows, and its grid, are those."""
-    version = pick.choice(versions) if like is None or like.n <= 4 else max(versions)
+    version = pick.choice([it for it in versions if like is None or like.n <= model.STATES[it]])
     n, p, stages, m = pick.choice([1, 1, 2, 3, model.STATES[version]]), pick.choice([1, 1, 2, 3]), pick.choice([1, 1, 2, 3]), pick.choice([1, 1, 2, 3, 5, 8])
     g = pick.choice([0, 0, 2, 4, 24])
     if like is not None:

@@ -1,5 +1,6 @@
 """Accumulator listings for run.py: of controllers, with less width than they need or a line changed, and of no controller."""
 from . import cases, control, listing, model
+from .machines import LISTED, VERSIONS
 
 
 def random_instruction(pick, words, room):
@@ -55,12 +56,12 @@ def needed_word(l, states):
     return least
 
 
-def controller(pick, texts):
-    """A controller that is accepted: one of the texts, or a random one."""
+def controller(pick, texts, versions=VERSIONS):
+    """A controller of one of these versions that is accepted: one of the texts, or a random one."""
     while True:
-        text = pick.choice(texts) if pick.random() < 0.5 else control.text_of(cases.random_controller(pick)[1])
+        text = pick.choice(texts) if pick.random() < 0.5 else control.text_of(cases.random_controller(pick, versions=versions)[1])
         try:
-            return control.read_controller(text), text
+            return control.read_controller(text, versions), text
         except model.Refused:
             continue
 
@@ -72,7 +73,7 @@ def listing_texts(pick, texts, most):
         l = random_listing(pick)
         text, states = listing.text_of(l), cases.states_text(pick, l)
         return (cases.changed(pick, text) if how < 0.05 else text), states, None
-    c, of = controller(pick, texts)
+    c, of = controller(pick, texts, LISTED)
     l = listing.listing_of(c)
     states = cases.states_text(pick, c)
     if how < 0.55:

@@ -139,11 +139,6 @@ class Accelerated:
 
 
 MACHINES = {1: Plain, 2: Plain, 3: Accelerated}
-# those that every command of the program takes
-VERSIONS = (1, 2)
-ALL_VERSIONS = tuple(MACHINES)
-
-
-def versions_of(words):
-    """Those of the designs and controllers that a command takes: of all `lean`, `solve`, `loop`, `settle` and `c`."""
-    return ALL_VERSIONS if words[:1] in (["lean"], ["solve"], ["loop"], ["settle"], ["c"]) else VERSIONS
+VERSIONS = tuple(MACHINES)
+# those of which listings are made
+LISTED = (1, 2)

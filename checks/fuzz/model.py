@@ -54,8 +54,8 @@ def is_table(v, low, high, width):
     return isinstance(v, list) and low <= len(v) <= high and all(is_list(r, width) for r in v)
 
 
-def read_design(data, versions=VERSIONS):
-    """The design, of one of these versions, or the status 5 with the first fault."""
+def read_design(data):
+    """The design, or the status 5 with the first fault."""
     try:
         text = data.decode("utf-8").removeprefix("\ufeff")
         top = tomllib.loads(text)
@@ -97,7 +97,7 @@ def read_design(data, versions=VERSIONS):
     def numerators(place, rows):
         need(all(abs(v) <= NUMERATOR for r in rows for v in r), "range", place)
 
-    version = number(1, 1, max(versions))
+    version = number(1, 1, max(VERSIONS))
     n, p = number(2, 1, STATES[version]), number(3, 1, 3)
     number(4, 1, STAGES[version])
     number(5, 1, 2**20)

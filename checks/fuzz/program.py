@@ -1,6 +1,6 @@
 """An independent model of the whole program: what each command answers with, to the byte.
 
-    python3 -m checks.fuzz.program [--all-versions] COMMAND ..    runs the command as the program does, in the present folder; or with texts of version 3 where it takes none yet, too
+    python3 -m checks.fuzz.program COMMAND ..    runs the command as the program does, in the present folder
 
 The one thing that isn't determined is which good solutions a design's gains are. So `answer` is told them by `gains`, a function of the choice; run as a
 program, it takes its own. Everything else is exact: the status, its line on standard error, standard output, and what each file holds.
@@ -12,7 +12,7 @@ from dataclasses import dataclass, field
 
 from . import compiled, control, held_boxes, listing, model, settling, split_boxes
 from .command_table import COUNTS, OUTPUTS
-from .machines import ALL_VERSIONS, versions_of
+from .machines import LISTED
 from .model import LIMIT, Refused
 
 NAMES = {1: "memory", 2: "usage", 3: "read-fault", 4: "write-fault", 5: "text", 6: "no-margin", 7: "curvature", 8: "too-many-steps", 9: "too-fine", 10: "too-wide",
@@ -122,14 +122,14 @@ class Gains:
     """Of controllers that were written, for a choice each: those of one text, or of the cells of one, in their order. `text` gives the bytes, or None where none were
     written; then the model's own are as good. ValueError where they aren't good ones."""
 
-    def __init__(self, text, versions=ALL_VERSIONS):
-        self.text, self.versions, self.found, self.count = text, versions, None, 0
+    def __init__(self, text):
+        self.text, self.found, self.count = text, None, 0
 
     def read(self):
         text = self.text()
         if text is not None and self.found is None:
             try:
-                self.found = split_boxes.read_cells(text, self.versions) if text.startswith(b"mpc-cells ") else [control.read_controller(text, self.versions)]
+                self.found = split_boxes.read_cells(text) if text.startswith(b"mpc-cells ") else [control.read_controller(text)]
             except Refused as refused:
                 raise ValueError(f"the controller that was written is none: {refused}") from None
         return self.found
@@ -154,11 +154,10 @@ class Gains:
 
 class Program:
     """The words are texts, the first of them the command; `read` gives a name's bytes, or None where it can't be read; `write` tells whether a name could be
-    written. `run` gives a controller's sums from a state, `played` a listing's words; designs and controllers are of these versions, but those that `list` reads, or of those that the
-    command takes."""
+    written. `run` gives a controller's sums from a state, `played` a listing's words."""
 
-    def __init__(self, words, read, write, gains, run=control.run, played=listing.played, put=None, versions=None):
-        self.words, self.read, self.write, self.gains, self.run, self.played, self.versions = words, read, write, gains, run, played, versions or versions_of(words)
+    def __init__(self, words, read, write, gains, run=control.run, played=listing.played, put=None):
+        self.words, self.read, self.write, self.gains, self.run, self.played = words, read, write, gains, run, played
         self.answer = Answer()
         self.put = put or self.answer.out.append
         # the controller that was made of a design, or those of cells
@@ -177,10 +176,10 @@ class Program:
             raise Refused(refused.args[0], file, *refused.args[1:]) from None
 
     def design(self):
-        return self.text(1, lambda data: model.read_design(data, self.versions))
+        return self.text(1, model.read_design)
 
     def controller(self, file):
-        return self.text(file, lambda data: control.read_controller(data, self.versions))
+        return self.text(file, control.read_controller)
 
     def usage(self):
         words = self.words
@@ -280,7 +279,7 @@ class Program:
         self.write_texts((4, split_boxes.text_of(self.cells)), (5, b"".join(map(report_text, bounds))))
 
     def serve(self):
-        self.cells = cells = self.text(1, lambda data: split_boxes.read_cells(data, self.versions), split_boxes.EVERY_CELLS)
+        self.cells = cells = self.text(1, split_boxes.read_cells, split_boxes.EVERY_CELLS)
         rows = self.text(2, lambda data: model.read_records(data, cells[0].n))
         serving = [split_boxes.find(cells, row) for row in rows]
         if None in serving:
@@ -296,7 +295,7 @@ class Program:
         self.write_texts(*zip(OUTPUTS["c"], compiled.texts_of(self.words[2], c)))
 
     def list(self):
-        c = self.text(1, control.read_controller)
+        c = self.text(1, lambda data: control.read_controller(data, LISTED))
         self.write_texts((2, listing.text_of(listing.listing_of(c))))
 
     def play(self):
@@ -344,8 +343,8 @@ class Program:
             self.put(control.plan_line(c, row, self.run))
 
 
-def answer(words, read, write, gains, run=control.run, versions=None):
-    return Program(words, read, write, gains, run, versions=versions).go()
+def answer(words, read, write, gains, run=control.run):
+    return Program(words, read, write, gains, run).go()
 
 
 def main():
@@ -359,9 +358,7 @@ def main():
     def write(name):
         return name != "" and os.path.isdir(os.path.dirname(name) or ".") and not os.path.isdir(name)
 
-    words = sys.argv[1:]
-    has_all = words[:1] == ["--all-versions"]
-    said = answer(words[has_all:], read, write, model.gains, versions=ALL_VERSIONS if has_all else None)
+    said = answer(sys.argv[1:], read, write, model.gains)
     for name, data in said.written.items():
         with open(name, "wb") as file:
             file.write(data)

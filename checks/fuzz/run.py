@@ -8,8 +8,8 @@ determined: they are taken from the controller that the program wrote, once they
 product and partial sum traced, and all must fit its width; but a run of many steps of a controller that isn't of the kind `controller` only has its sums compared.
 
 A case is made of the seed and its number alone. --case runs one again and shows it; --kind makes all cases of that kind: generate, lean, border, stay, lean_stay, solve,
-controller, loop, settle, list, play, split, serve, demo, usage; or accelerated: these on texts of version 3. Of the kinds `stay` and `lean_stay` the first are the worked rows of `stay` that are accepted. Half of the designs are of
-version 2; how many of these were accepted, and how many of them have a row with a smaller exponent, the last line says. With --table, faces, disturbances, cuts, policies (those of
+controller, loop, settle, list, play, split, serve, demo, usage; or accelerated: these on texts of version 3. Of the kinds `stay` and `lean_stay` the first are the worked rows of `stay` that are accepted. Designs are of
+all versions; how many of version 2 were accepted, and how many of them have a row with a smaller exponent, the last line says. With --table, faces, disturbances, cuts, policies (those of
 cells), cells or listings, the cases are worked texts of that kind, each cut after every one of its bytes, and with every byte replaced by a space, `-`, `0` and `9`. A border
 design's exact numbers, its enclosures, the corners of its policy in either class, or what its rows come to where they count 16 times, pass the limit by little or stay
 below it by little. Of each, the model's exact numbers must be the simulated plant's, its enclosures must hold them, no corner may have less slack or a greater cost than
@@ -34,14 +34,14 @@ import sys
 import tempfile
 
 from . import at_corners, cases, control, forms, held_boxes, listing, listing_cases, model, program, settle_cases, settling, split_boxes, split_cases, stay_cases, tables
-from .machines import ALL_VERSIONS
+from .machines import LISTED
 
 KINDS = ["generate"] * 22 + ["lean"] * 12 + ["border"] * 4 + ["stay"] * 14 + ["lean_stay"] * 6 + ["solve"] * 26 + ["controller"] * 18 + ["loop"] * 22 + ["list"] * 6 + ["play"] * 16
 KINDS += ["split"] * 12 + ["serve"] * 16 + ["c"] * 8 + ["usage"] * 4
 KINDS += ["settle"] * 14 + ["accelerated"] * 12
-# those whose texts are of version 3 then, which `lean`, `solve`, `loop`, `settle` and `c` alone take
-ACCELERATED = ["lean"] * 10 + ["lean_stay"] * 8 + ["solve"] * 4 + ["accelerated_controller"] * 6 + ["loop"] * 6 + ["settle"] * 6 + ["c"] * 4
-ACCELERATED += ["generate", "border", "stay", "list", "split", "serve"]
+# those whose texts are of version 3 then
+ACCELERATED = ["generate"] * 8 + ["border"] * 2 + ["lean"] * 8 + ["stay"] * 8 + ["lean_stay"] * 6 + ["solve"] * 4 + ["accelerated_controller"] * 6 + ["loop"] * 6 + ["settle"] * 6
+ACCELERATED += ["split"] * 6 + ["serve"] * 6 + ["c"] * 4 + ["list"]
 DEMO_EVERY = 2500
 # the most products that the model makes in a case, and the most in a run whose every value it traces
 MOST_PRODUCTS, MOST_TRACED = 3_000_000, 60_000
@@ -192,7 +192,7 @@ class Maker:
         return Case("settle", ["settle", *files], files)
 
     def list(self, pick):
-        text = listing_cases.controller(pick, self.texts)[1]
+        text = listing_cases.controller(pick, self.texts, LISTED)[1]
         files = {"c": cases.changed(pick, text) if pick.random() < 0.4 else text}
         if pick.random() < 0.3:
             files["l"] = b"an old listing\n" * pick.choice([1, 1000])
@@ -242,15 +242,6 @@ class Maker:
         c = control.read_controller(text)
         l, e = listing.text_of(listing.listing_of(c)), split_boxes.text_of([c, c])
         return Case("usage", words, {"d": design, "p": policy, "p2": policy, "c": text, "s": b"0\n", "f": b"4,0,0,1\n4,0,0,0\n", "w": b"0\n", "l": l, "t": b"1,0\n", "b": 2 * policy, "e": e})
-
-
-def read_design(data):
-    """One that was read before, of whatever version it is."""
-    return model.read_design(data, ALL_VERSIONS)
-
-
-def read_controller(data):
-    return control.read_controller(data, ALL_VERSIONS)
 
 
 def products(c):
@@ -314,7 +305,7 @@ class Runner:
             wrong, more = self.check_settled(case)
             notes = [*notes, *more]
         if case.kind == "border":
-            d = read_design(case.files["d"])
+            d = model.read_design(case.files["d"])
             plans = model.read_policy(case.files["p"], d)
             wrong = "; ".join(filter(None, [wrong, forms.fault(d), at_corners.fault(d, plans)])) or None
             told, form = lambda is_fine: "fine" if is_fine else "exact", model.form_of(d)
@@ -338,7 +329,7 @@ class Runner:
         found = self.left()
         if ran.returncode or {name: found.get(name) for name in made} != made:
             return f"{plain[0]} writes otherwise", []
-        d, c = read_design(case.files["d"]), read_controller(made[controller])
+        d, c = model.read_design(case.files["d"]), control.read_controller(made[controller])
         starts = stay_cases.starts(pick, d)[: MOST_OF_PROGRAM // (TURNS * products(c))]
         files = {**case.files, "c": made[controller], "s": stay_cases.records_text(starts)}
         words = ["loop", "d", "c", "s", str(TURNS)]
@@ -361,7 +352,7 @@ class Runner:
     def check_split(self, case, left):
         """Of a box in cells: `generate` writes the same of one of the cells' designs, and `serve` puts the lines of the states' cells."""
         pick, (made, report) = random.Random(repr(case.files)), (left[name] for name in case.words[4:6])
-        cells, d = split_boxes.read_cells(made), read_design(case.files["d"])
+        cells, d = split_boxes.read_cells(made), model.read_design(case.files["d"])
         boxes = split_boxes.cells_of(d, split_boxes.read_cuts(case.files["l"], d))
         policies, reports = split_boxes.read_policies(case.files["p"], d, len(boxes)), report.split(b"end\n")
         covered = [i for i, plans in enumerate(policies) if plans]
@@ -384,12 +375,12 @@ class Runner:
         words = ["serve", "c", "s"]
         wrong, status, notes = self.compare(Case("served", words, files), self.started(words), self.left(), files.get, None, None)
         told = f"a box in {'1 cell' if len(cells) == 1 else '2 to 9 cells' if len(cells) < 10 else '10 to 63 cells' if len(cells) < 64 else '64 cells'}"
-        kinds = [told, *(["a box in cells, some without a controller"] if len(cells) < len(boxes) else []), *(["a box in cells, of version 2"] if d.version == 2 else []), *(["a box in cells, with other multipliers"] if len({cell.clamp for cell in cells}) > 1 else [])]
+        kinds = [told, *(["a box in cells, some without a controller"] if len(cells) < len(boxes) else []), *([f"a box in cells, of version {d.version}"] if d.version > 1 else []), *(["a box in cells, with other multipliers"] if len({cell.clamp for cell in cells}) > 1 else [])]
         return wrong and f"serve: {wrong}", kinds + [f"its states: {note}" for note in notes if note == "too long for the model"]
 
     def check_settled(self, case):
         """Of a certificate that is accepted: loops from its start box lie where it says, at each turn."""
-        pick, d, c = random.Random(repr(case.files)), read_design(case.files["d"]), read_controller(case.files["c"])
+        pick, d, c = random.Random(repr(case.files)), model.read_design(case.files["d"]), control.read_controller(case.files["c"])
         s = settling.read_certificate(case.files["s"], settling.Box(c.lo, c.hi))
         shifts = held_boxes.read_shift_box(case.files["w"], d.states) if "w" in case.files else [[0] * d.states] * 2
         (box, costs), starts = settling.check(d, c, s, settling.Box(*shifts)), settle_cases.starts(pick, s.start)
@@ -447,7 +438,7 @@ class Runner:
         if told.made and told.made.version == 2:
             notes += [SECOND, LOWERED] if min(told.made.exps) < told.made.s else [SECOND]
         if case.kind == "serve" and said.status in (0, 12):
-            notes.append("cells of both versions" if len({cell.version for cell in told.cells}) > 1 else "cells of one version")
+            notes.append(f"cells of {'both machines' if len({cell.machine for cell in told.cells}) > 1 else 'one machine'}")
         if said.line.endswith(b"not-toml\n") and not ran.stderr.endswith(b"not-toml\n"):
             well = ran.returncode in (0, 3, 5, 6, 7, 8, 9, 10, 11, 12, 13, 14, 16, 17, 18, 23, 24, 25)
             return None if well else f"status {ran.returncode}", ran.returncode, ["read by TOML 1.1 alone"]

@@ -9,7 +9,6 @@ from itertools import product
 
 from . import control
 from .control import Controller, Reader
-from .machines import VERSIONS
 from .model import Design, Refused, is_of_plan, number_field, numbers_of, records
 
 MOST_CUTS, MOST_CELLS = 63, 64
@@ -96,13 +95,13 @@ def text_of(cells: list[Controller]) -> bytes:
     return b"mpc-cells %d\n" % len(cells) + b"".join(map(control.text_of, cells)) + b"end\n"
 
 
-def read_cells(data: bytes, versions: tuple[int, ...] = VERSIONS) -> list[Controller]:
-    """The controllers, of these versions, or the status 11 with the first line that no text of cells has there, or unsafe."""
+def read_cells(data: bytes) -> list[Controller]:
+    """The controllers, or the status 11 with the first line that no text of cells has there, or unsafe."""
     text = Reader(data)
     (count,) = text.take(b"mpc-cells", 1, lambda v: 1 <= v[0] <= MOST_CELLS)
     cells: list[Controller] = []
     for _ in range(count):
-        cells.append(control.controller_in(text, cells[0] if cells else None, versions))
+        cells.append(control.controller_in(text, cells[0] if cells else None))
     text.take(b"end", 0)
     text.finish()
     for cell in cells:

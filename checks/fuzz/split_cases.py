@@ -9,6 +9,7 @@ from math import lcm, prod
 
 from . import at_corners, cases, control, listing_cases, model, program, split_boxes, stay_cases
 from .control import Controller
+from .machines import VERSIONS
 from .model import Design
 
 # an example whose policy is no longer than this has a model in milliseconds
@@ -35,10 +36,10 @@ def whole_design(pick: random.Random, base: list[tuple[bytes, bytes]]) -> tuple[
         how = pick.random()
         if how < 0.25:
             design, policy = pick.choice([it for it in base if len(it[1]) <= SHORT_POLICY])
-            design = cases.in_version(pick.choice([1, 2]), design)
+            design = cases.in_version(pick.choice(VERSIONS), design)
         elif how < 0.4:
             design, policy, _ = program.make(pick.randrange(2**32), pick.choice([1, 1, 2]))
-            design = cases.in_version(pick.choice([1, 2]), design)
+            design = cases.in_version(pick.choice(VERSIONS), design)
         elif how < 0.7:
             design, policy = stay_cases.held_design(pick)
         else:
@@ -234,7 +235,7 @@ def safe(pick: random.Random, like: Controller | None) -> Controller:
 
 
 def foreign(pick: random.Random, texts: list[bytes]) -> list[Controller]:
-    """Controllers alike in their sizes, of both versions, whose boxes have nothing to do with one another."""
+    """Controllers alike in their sizes, of any versions, whose boxes have nothing to do with one another."""
     first = listing_cases.controller(pick, texts)[0] if pick.random() < 0.5 else safe(pick, None)
     cells = [first]
     for _ in range(pick.choice([0, 1, 1, 2, 2, 3])):
@@ -269,12 +270,12 @@ def unlike(pick: random.Random, cells: list[Controller]) -> bytes:
         lines = split_boxes.text_of(cells).split(b"\n")
         heads = [i for i, line in enumerate(lines) if line.startswith((b"mpc-controller", b"size", b"bits", b"end"))]
         at = pick.choice(heads)
-        lines[at] = pick.choice([b"mpc-controller %d" % pick.choice([1, 2, 3]), cases.number_changed(pick, lines[at]), cases.number_changed(pick, lines[at]), b"end"])
+        lines[at] = pick.choice([b"mpc-controller %d" % pick.choice([1, 2, 3, 4]), cases.number_changed(pick, lines[at]), cases.number_changed(pick, lines[at]), b"end"])
         return b"\n".join(lines)
     if how == 6:
         return split_boxes.text_of(cells * pick.choice([2, 3, 64 // len(cells), 64 // len(cells) + 1]))
     six = copy.copy(cells[0])
-    six.version, six.exps = 2, [six.s] * six.m
+    six.version, six.exps = pick.choice([2, 3]), [six.s] * six.m
     return split_boxes.text_of([six, *cells])
 
 

@@ -4,6 +4,7 @@ from math import gcd
 
 from ..rows import stay_rows
 from . import cases, held_boxes, model
+from .machines import VERSIONS
 
 MOST = 2**31 - 1
 
@@ -14,7 +15,7 @@ def records_text(rows):
 
 def held_design(pick):
     """A plant that doesn't grow, in a box about 0, with limits on its inputs and mostly on its states, a little wider than the box: what coasts is strictly within."""
-    version, n, p, stages = pick.choice([1, 2]), pick.choice([1, 1, 2, 2, 3]), pick.choice([1, 1, 2]), pick.choice([1, 1, 2, 2, 3])
+    version, n, p, stages = pick.choice(VERSIONS), pick.choice([1, 1, 2, 2, 3]), pick.choice([1, 1, 2]), pick.choice([1, 1, 2, 2, 3])
     den, limit_den, grid = pick.choice([1, 4, 10, 1000, 2**20]), pick.choice([4, 100, 1024, 2**20]), pick.choice([0, 0, 0, 1, 2, 4])
     if den == 2**20 and stages > 1:
         limit_den = pick.choice([4, 100, 1024])
@@ -27,7 +28,7 @@ def held_design(pick):
     unit = lambda at, v: [v if i == at else 0 for i in range(n)]
     bound = lambda at: int(limit_den * (side + beyond) / 2**grid)
     inputs = [[*[0] * n, *[sign * limit_den if k == l else 0 for k in range(p)], limit_den * pick.choice([1, 1, 2])] for l in range(p) for sign in (1, -1)]
-    if version == 2 and pick.random() < 0.6:
+    if version > 1 and pick.random() < 0.6:
         # a steep row, which leaves the others smaller exponents
         inputs.insert(pick.randrange(len(inputs) + 1), [*[0] * n, limit_den * pick.choice([3, 8, 16, -8]), *[0] * (p - 1), 40 * limit_den])
     on_states = [[*unit(i, sign * limit_den), bound(i)] for i in range(n) for sign in (1, -1) if pick.random() < 0.9]
@@ -123,7 +124,7 @@ def large_faces(pick):
     """A design that is accepted, with numbers and faces so large that the size of the faces is near its limit now and then."""
     power = lambda most: max(1, min(MOST, (1 << pick.randrange(most + 1)) + pick.choice([0, 0, -1, 1])))
     top, sign = power(30), lambda: pick.choice([-1, 1])
-    v = {"version": pick.choice([1, 2]), "n": 2, "p": 1, "stages": 1, "den": min(2**20, power(20)), "a": [[0, 0], [sign() * power(31), pick.choice([0, 0, 1])]],
+    v = {"version": pick.choice(VERSIONS), "n": 2, "p": 1, "stages": 1, "den": min(2**20, power(20)), "a": [[0, 0], [sign() * power(31), pick.choice([0, 0, 1])]],
          "b": [[0], [pick.choice([0, 1, power(30)])]], "cost_den": 1, "row_den": 1, "input": [1], "cost": [], "final_cost": [], "limit_den": min(2**20, power(20)), "grid": pick.choice([0, 0, 3, 24]),
          "rows": [[sign() * power(31), 0, 0, power(31)], [0, 0, 0, power(31)]], "final_rows": [], "lo": [0, pick.choice([0, -top])], "hi": [0, top], "target_den": 1, "violation": MOST, "gap": MOST}
     rows = [[power(31), *[pick.choice([0, 0, power(31)]) for _ in range(2)]] for _ in range(4)]

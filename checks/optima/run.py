@@ -22,7 +22,7 @@ from dataclasses import dataclass
 from fractions import Fraction
 
 from ..fuzz import at_corners, cases, control, forms, model, program
-from ..fuzz.machines import ALL_VERSIONS
+from ..fuzz.machines import VERSIONS
 from .quadratic import Program, dot
 
 # the most products of a run, and the most of two fractions' bits that the optimum takes in time
@@ -31,10 +31,6 @@ OVER = 2**40
 
 
 # ---- designs
-
-
-def read_design(text):
-    return model.read_design(text, ALL_VERSIONS)
 
 
 def random_numbers(pick, version):
@@ -88,7 +84,7 @@ def rounded(pick, plan, dens):
 def drawn(pick, version):
     """A design, a policy and references as texts, or None where nothing came of these numbers."""
     v = random_numbers(pick, version)
-    d = read_design(cases.design_text(v))
+    d = model.read_design(cases.design_text(v))
     if not d.rows or not any(any(row[:-1]) for row in d.stage_rows + d.final_rows):
         return None
     free = Exact(d)
@@ -101,7 +97,7 @@ def drawn(pick, version):
         own = range(i, count * d.stages, count) if i < count else [count * (d.stages - 1) + i]
         low, high = (max(of[k] for k in own for of in some) for some in (kept, whole))
         row[-1] = -((-(low + max(share * (high - low), Fraction(1, 8))) * d.limit_den) // 1)
-    d = read_design(cases.design_text(v))
+    d = model.read_design(cases.design_text(v))
     over = max(max(d.residuals(x, plan)) for x, plan in zip(states_of(d), best))
     if over <= 0:
         return None
@@ -110,7 +106,7 @@ def drawn(pick, version):
     v["violation"] = max(1, round(v["target_den"] * over * pick.choice([Fraction(1, 50), Fraction(1, 10), Fraction(1, 3), Fraction(9, 10), Fraction(11, 10), 2, 4, 8])))
     v["gap"] = max(1, round(v["target_den"] * pick.choice([Fraction(1, 100), Fraction(1, 10), 1, 10])))
     text = cases.design_text(v)
-    d = read_design(text)
+    d = model.read_design(text)
     exact = Exact(d)
     most = min(min(-r for r in d.residuals(x, [part * u for u in plan])) for x, plan in zip(states_of(d), best))
     slack = most * pick.choice([Fraction(1, 50), Fraction(1, 5), Fraction(1, 2), Fraction(9, 10)])
@@ -150,7 +146,7 @@ def numbers_of(report, rows):
 def made(options, words, files, folder):
     """What the command makes of these files: a controller with its bounds; or None where it refuses, or where a run of it is too long."""
     if options.program is None:
-        said = program.answer(words, files.get, lambda name: True, model.exact_gains, versions=ALL_VERSIONS)
+        said = program.answer(words, files.get, lambda name: True, model.exact_gains)
         status, left = said.status, said.written
     else:
         for name, data in files.items():
@@ -160,7 +156,7 @@ def made(options, words, files, folder):
         left = {name: open(os.path.join(folder, name), "rb").read() for name in ("c", "r")} if status == 0 else {}
     if status == 2:
         sys.exit(f"there is no command {words[0]}")
-    c = control.read_controller(left["c"], ALL_VERSIONS) if status == 0 else None
+    c = control.read_controller(left["c"]) if status == 0 else None
     return status, c, left.get("r"), c is not None and products(c) <= MOST_PRODUCTS
 
 
@@ -229,7 +225,7 @@ def main():
     parser = argparse.ArgumentParser(description=__doc__, formatter_class=argparse.RawDescriptionHelpFormatter)
     parser.add_argument("program", nargs="?")
     parser.add_argument("--command", choices=["lean", "generate"], default="lean")
-    parser.add_argument("--version", type=int, choices=ALL_VERSIONS)
+    parser.add_argument("--version", type=int, choices=VERSIONS)
     for name, value in (("--count", 300), ("--states", 10), ("--seed", 1), ("--jobs", os.cpu_count())):
         parser.add_argument(name, type=int, default=value)
     options = parser.parse_args()

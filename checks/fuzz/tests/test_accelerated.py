@@ -6,7 +6,7 @@ from types import SimpleNamespace
 
 from checks.fuzz import control, model, program
 from checks.fuzz.forms import Enclosure
-from checks.fuzz.machines import ALL_VERSIONS, Accelerated
+from checks.fuzz.machines import Accelerated
 from checks.rows.lean_rows import LEAN
 from checks.rows.worked_texts import DESIGN, LEAN_CONTROLLER, POLICY, REFERENCE
 
@@ -29,12 +29,12 @@ def third(design):
     return design.replace("version = 1", "version = 3")
 
 
-def answer(words, versions=ALL_VERSIONS, **files):
-    return program.answer(words, {name: text.encode() for name, text in files.items()}.get, lambda name: True, model.exact_gains, versions=versions)
+def answer(words, **files):
+    return program.answer(words, {name: text.encode() for name, text in files.items()}.get, lambda name: True, model.exact_gains)
 
 
 def choice(design, policy, reference=None):
-    d = model.read_design(third(design).encode(), ALL_VERSIONS)
+    d = model.read_design(third(design).encode())
     plans = [text and model.read_policy(text.encode(), d) for text in (policy, reference)]
     return model.choose(d, *plans)
 
@@ -84,7 +84,7 @@ class Made(unittest.TestCase):
         self.assertIn("\nclamp 2048\n", text)
         self.errors(COARSE, POLICY, REFERENCE, 2, [22], 242, 66454552576, bits=9)
         self.puts(text, "1: 4608 -2480")
-        c, made = control.read_controller(text.encode(), ALL_VERSIONS), []
+        c, made = control.read_controller(text.encode()), []
         control.traced(c, [1], lambda *how: Accelerated.after(*how, lambda *step: made.append(step)))
         third_row = lambda means, plan, multipliers, reached: (means[2], *plan, multipliers[2], reached[2], means[:2] + multipliers[:2] + reached[:2])
         self.assertEqual([third_row(*step) for step in made], [(0, -256, 256, 512, [0] * 6), (128, -272, 592, 2288, [0] * 6), (258, -288, 976, 6192, [0] * 6)])
@@ -127,11 +127,13 @@ class Made(unittest.TestCase):
             self.assertAlmostEqual(bounds["gap"] / gap, 1, delta=1e-4)
 
 
-class Refused(unittest.TestCase):
-    def refused(self, words, line, versions=ALL_VERSIONS, **files):
-        said = answer(words, versions, **files)
+class Answers(unittest.TestCase):
+    def refused(self, words, line, **files):
+        said = answer(words, **files)
         self.assertEqual((said.status, said.line.decode(), said.written), (int(line.split()[0]), f"error {line}\n", {}))
 
+
+class Refused(Answers):
     def test_too_many_steps(self):
         design = third(DESIGN.replace("den = 1\nviolation = 16\ngap = 1\n", "den = 1048576\nviolation = 1\ngap = 1048576\n"))
         self.refused(LEAN, "8 too-many-steps 110231", d=design, p=POLICY, q=FAR)
@@ -159,21 +161,19 @@ class Refused(unittest.TestCase):
         self.assertEqual(answer(["solve", "c", "s"], c=text.replace("steps 1\n", "steps 9\n"), s="1\n").status, 0)
 
     def test_versions(self):
-        """`lean`, `solve`, `loop`, `settle` and `c` alone take such texts; and no listing is made of one."""
-        made = answer(LEAN, None, d=third(DESIGN), p=POLICY, q=REFERENCE)
+        """All but `list` take such texts."""
+        made = answer(LEAN, d=third(DESIGN), p=POLICY, q=REFERENCE)
         text = made.written["c"].decode()
         self.assertEqual((made.status, text.split("\n")[0]), (0, "mpc-controller 3"))
-        self.assertEqual(answer(["solve", "c", "s"], None, c=text, s="1\n").out, [b"128 -64\n"])
-        self.refused(GENERATE, "5 text 1 range 1", None, d=third(DESIGN), p=POLICY)
-        self.refused(["stay", "d", "p", "c", "r", "f"], "5 text 1 range 1", None, d=third(HELD.decode()), p=POLICY, f=FACES.decode())
-        self.assertEqual(answer(["loop", "d", "c", "s", "1"], None, d=DESIGN, c=text, s="1\n").out, [b"1 1 1 128 -64\n"])
-        self.refused(["settle", "d", "c", "t"], "5 text 3 count 0", None, d=third(DESIGN), c=text, t="")
+        self.assertEqual(answer(["solve", "c", "s"], c=text, s="1\n").out, [b"128 -64\n"])
+        self.assertEqual(answer(["loop", "d", "c", "s", "1"], d=DESIGN, c=text, s="1\n").out, [b"1 1 1 128 -64\n"])
+        self.refused(["settle", "d", "c", "t"], "5 text 3 count 0", d=third(DESIGN), c=text, t="")
         self.refused(["list", "c", "l"], "11 controller 1 line 1", c=text)
-        self.assertEqual(answer(["c", "c", "mpc", "t", "h"], None, c=text).status, 0)
+        self.assertEqual(answer(["c", "c", "mpc", "t", "h"], c=text).status, 0)
         self.refused(LEAN, "5 text 1 range 1", d=DESIGN.replace("version = 1", "version = 4"), p=POLICY, q=REFERENCE)
 
 
-class Commands(unittest.TestCase):
+class Commands(Answers):
     """The other commands that make controllers, or run them."""
 
     def test_stay(self):
@@ -199,31 +199,46 @@ class Commands(unittest.TestCase):
 
     def test_lean_stay(self):
         design = third(HELD.decode())
-        said = answer([*LEAN, "f"], None, d=design, p=POLICY, q=REFERENCE, f=FACES.decode())
-        self.assertEqual((said.status, said.written), (0, answer(LEAN, None, d=design, p=POLICY, q=REFERENCE).written))
+        said = answer([*LEAN, "f"], d=design, p=POLICY, q=REFERENCE, f=FACES.decode())
+        self.assertEqual((said.status, said.written), (0, answer(LEAN, d=design, p=POLICY, q=REFERENCE).written))
         made = choice(HELD.decode(), POLICY, REFERENCE)
         r, k = (made.report[key] for key in ("multiplier", "steps"))
         cost, target = made.errors.epsilon(made.report["bits"]), model.target_of(made.design, 2**40)
         rest = -(-target // 2) - -cost // (2 * r)
         self.assertEqual(made.stated_violations, [min(target, rest - -(2 ** (exponent + 42) * r) // (k * (k + 3))) for exponent in made.exponents])
-        shifted = lambda most: answer([*LEAN, "f", "w"], None, d=design, p=POLICY, q=REFERENCE, f=FACES.decode(), w=f"0\n{most}\n")
+        shifted = lambda most: answer([*LEAN, "f", "w"], d=design, p=POLICY, q=REFERENCE, f=FACES.decode(), w=f"0\n{most}\n")
         self.assertEqual([(it.status, it.line) for it in map(shifted, (1, 2))], [(0, b""), (17, b"error 17 no-stay 1 2\n")])
 
     def test_loop(self):
         made = answer(LEAN, d=third(COARSE), p=POLICY, q=REFERENCE).written["c"].decode()
         said = answer(["loop", "d", "c", "s", "2"], d=third(COARSE), c=made, s="1\n")
-        c = control.read_controller(made.encode(), ALL_VERSIONS)
+        c = control.read_controller(made.encode())
         self.assertEqual(said.out[0], b"1 1 1 4608 -2480\n")
         # of 1 - 2480 / 4608 the nearest is 0
         self.assertEqual(said.out[1], b"1 2 0 4608 %d\n" % control.run(c, [0])[0])
         self.assertEqual(control.turn_size(model.read_design(COARSE.encode()), c), 2 * (4608 + 9 * control.greatest_entry(c)) + 4608)
 
     def test_split(self):
-        said = answer(["split", "d", "l", "p", "c", "r"], d=third(DESIGN), l="1,0\n", p="1,0\n1,0\n8,-7\n8,-7\n")
+        split = lambda policies: answer(["split", "d", "l", "p", "c", "r"], d=third(DESIGN), l="1,0\n", p=policies)
+        said = split("1,0\n1,0\n8,-7\n8,-7\n")
         self.assertEqual(said.status, 0)
         text = said.written["c"].decode()
         self.assertEqual((text.count("mpc-controller 3\n"), said.written["r"].decode().count("mpc-report 3\n")), (2, 2))
         self.assertEqual(answer(["serve", "c", "s"], c=text, s="1\n").out, [b"9216 -4960\n"])
+        last = split("none\n8,-7\n8,-7\n").written["c"].decode()
+        self.assertEqual(last, "mpc-cells 1\n" + text[text.rindex("mpc-controller") :])
+        self.refused(["serve", "c", "s"], "12 outside-box 1 0 1", c=last, s="0\n")
+
+    def test_cells_of_both_machines(self):
+        fast, plain = (answer(LEAN, d=design, p=POLICY, q=REFERENCE).written["c"].decode() for design in (third(DESIGN), DESIGN))
+        low, high = fast.replace("\nhi 1\n", "\nhi 0\n"), plain.replace("\nlo 0\n", "\nlo 1\n")
+        serve = lambda *cells: answer(["serve", "c", "s"], c=f"mpc-cells {len(cells)}\n{''.join(cells)}end\n", s="1\n0\n").out
+        for cells in ((low, high), (high, low)):
+            self.assertEqual(serve(*cells), [b"64 -32\n", b"128 0\n"])
+        self.assertEqual(serve(fast, plain), [b"128 -64\n", b"128 0\n"])
+        # the words of the other machine, and a line more
+        for cells, line in ((low + high.replace("words 6", "words 12"), low.count("\n") + 7), (low.replace("exps 0 1 1\n", "") + high, 8)):
+            self.refused(["serve", "c", "s"], f"11 controller 1 line {line}", c=f"mpc-cells 2\n{cells}end\n", s="1\n")
 
 
 class Parts(unittest.TestCase):
@@ -242,7 +257,7 @@ class Parts(unittest.TestCase):
 
     def test_absolute_sums(self):
         self.assertEqual(Accelerated.multiplier_sums(100, 3, [7, 0]), [200 + 4 * 7, 200, 200 * 9])
-        c = control.read_controller(answer(LEAN, d=third(COARSE), p=POLICY, q=REFERENCE).written["c"], ALL_VERSIONS)
+        c = control.read_controller(answer(LEAN, d=third(COARSE), p=POLICY, q=REFERENCE).written["c"])
         _, _, plan, rows, multipliers, sums = control.absolute_sums(c)
         self.assertEqual(multipliers, [4096 - 4 * (-v // 512) for v in rows] + [4096 * 9])
         self.assertEqual(sums, [9 * v for v in plan])

@@ -3,6 +3,7 @@ import random
 import unittest
 
 from checks.fuzz import cases, control, listing, model
+from checks.fuzz.machines import LISTED
 from checks.rows.texts import sub
 
 from .worked import CONTROLLER, DESIGN, told
@@ -106,7 +107,7 @@ class Machine(unittest.TestCase):
         """The words of a controller's listing are those of its run, and it has the instructions that the sizes say."""
         pick, tried = random.Random(3), 0
         while tried < 150:
-            c = cases.random_controller(pick)[1]
+            c = cases.random_controller(pick, versions=LISTED)[1]
             try:
                 control.read_controller(control.text_of(c))
             except model.Refused:
