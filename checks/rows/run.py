@@ -3,8 +3,8 @@
     python3 -m checks.rows.run PROGRAM [--valgrind] [--only COMMAND] [--limits]
 
 With --only these are the rows of one command alone, as for a program that has no other: a row whose words are of another is asked, too, and must be refused as no
-command's. With --valgrind each runs under valgrind's memory checker, which must have nothing to report: no invalid read or write, no branch on what was never written, no
-block that is lost. With --limits also those at the limits. The rows of fine designs, whose exact numbers pass 2^126, of fine corners, of other faces than the worked ones and of
+command's; and a design of version 3 as none of its. With --valgrind each runs under valgrind's memory checker, which must have nothing to report: no invalid read or write, no branch on
+what was never written, no block that is lost. With --limits also those at the limits. The rows of fine designs, whose exact numbers pass 2^126, of fine corners, of other faces than the worked ones and of
 the examples' listings have the numbers of the model in ../fuzz.
 """
 import contextlib
@@ -15,7 +15,7 @@ import sys
 import tempfile
 
 from ..fuzz.command_table import OUTPUTS
-from . import c_rows, lean_rows, limit_rows, listing_rows, settle_rows, split_rows, stay_rows
+from . import c_rows, lean_rows, limit_rows, listing_rows, settle_rows, split_rows, stay_rows, third_rows
 from .texts import GENERATE, LIMITS, SOLVE, costs, in_second, limits, plant_over, put, refused, steep, sub, targets, violations, written
 from .worked_texts import AXIS, AXIS_POLICY, CONTROLLER, DESIGN, JSON, LISTING, POLICY, REPORT
 
@@ -181,7 +181,7 @@ def second_rows():
     lasts = lambda version, stages: sub(DESIGN, ("version = 1", f"version = {version}"), ("stages = 1\n", f"stages = {stages}\n"))
     has = lambda version, states: sub(DESIGN, ("version = 1", f"version = {version}"), ("states = 1", f"states = {states}"))
     for what, design, fault in (
-        ("version 0", has(0, 1), "1 range 1"), ("version 3", has(3, 9), "1 range 1"), ("version 2.0", has("2.0", 1), "1 shape 1"), ("version 2 as a word", has('"2"', 1), "1 shape 1"),
+        ("version 0", has(0, 1), "1 range 1"), ("version 4", has(4, 9), "1 range 1"), ("version 2.0", has("2.0", 1), "1 shape 1"), ("version 2 as a word", has('"2"', 1), "1 shape 1"),
         ("5 states, version 1", has(1, 5), "1 range 2"), ("5 states, version 2", has(2, 5), "1 shape 6"), ("7 states, version 2", has(2, 7), "1 range 2"), ("no state, version 2", has(2, 0), "1 range 2"),
         # the policy is no longer of the design's size
         ("21 stages, version 1", lasts(1, 21), "1 range 4"), ("21 stages, version 2", lasts(2, 21), "2 fields 1"), ("30 stages, version 2", lasts(2, 30), "2 fields 1"),
@@ -345,12 +345,14 @@ def wrong(words, files, status, out, line, whole, lines, output=None):
 def main():
     failed = count = 0
     own = itertools.chain(rows(), fine_rows(), corner_rows(), version_rows(), second_rows(), lean_rows.rows(), stay_rows.rows(), settle_rows.rows(), listing_rows.rows(), split_rows.rows(),
-                          c_rows.rows(), limit_rows.rows() if AT_LIMITS else ())
+                          third_rows.rows(), c_rows.rows(), limit_rows.rows() if AT_LIMITS else ())
     for name, row, output in itertools.chain(((name, row, None) for name, row in own), full_rows(), split_rows.full_rows()):
         words, files = row[0], row[1]
         if ONLY and words[:1] != [ONLY]:
             # (another command's words, which this program hasn't)
             name, row, output = f"{name}, of another command", (words, files, 2, "", "error 2 usage\n", {}, {}), None
+        elif ONLY and files.get("d", "").startswith("version = 3\n"):
+            row = refused(words, files, 5, "text 1 range 1")
         count += 1
         found = wrong(*row, output=output)
         if found:

@@ -198,7 +198,7 @@ def text_rows() -> Iterator[tuple[str, Row]]:
         ("other stages", 22, cells(LOW, sub(HIGH, ("size 1 1 1 3", "size 1 1 2 3")))), ("another grid", 23, cells(LOW, sub(HIGH, ("bits 10 0", "bits 10 1")))),
         ("other rows, and words for the first's", 26, cells(LOW, sub(HIGH, ("size 1 1 1 3", "size 1 1 1 2")))), ("a third of another grid", 42, cells(LOW, HIGH, sub(HIGH, ("bits 10 0", "bits 10 1")))),
         ("a box upside down", 28, cells(LOW, sub(HIGH, ("lo 1\nhi 1", "lo 2\nhi 1")))), ("exponents of version 1", 27, cells(LOW, sub(HIGH, ("words 6\n", "words 6\nexps 0 1 1\n")))),
-        ("an exponent above the greatest", 27, cells(LOW, second(HIGH, "0 1 2"))), ("version 3", 21, cells(LOW, sub(HIGH, ("mpc-controller 1", "mpc-controller 3")))),
+        ("an exponent above the greatest", 27, cells(LOW, second(HIGH, "0 1 2"))), ("version 4", 21, cells(LOW, sub(HIGH, ("mpc-controller 1", "mpc-controller 4")))),
         ("a line in the first before one in the second", 4, cells(sub(LOW, ("bits 5 0", "bits 5 6")), sub(HIGH, ("size 1", "size 9")))),
     ):
         yield f"cells: {what}", at(line, text)
