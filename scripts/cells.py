@@ -22,7 +22,8 @@ import io
 import math
 import os
 import subprocess
-from dataclasses import dataclass
+from collections.abc import Callable
+from dataclasses import dataclass, replace
 from typing import Protocol
 
 from .common.libraries import Refusal, need, run, say
@@ -36,7 +37,7 @@ from .common.condensed import condense, curvature
 from .common.corners import corners_of, margin_of, multiplier_of, steps_of
 from .common.design_text import Design, plain, read_design, text_of
 from .common.launcher import LAUNCHER
-from .common.machines import machine_of, refuse_accelerated
+from .common.machines import machine_of
 from .common.programs import Programs
 from .common.texts import loop_lines_of, read_text, records_text, report_of
 from .policy import find
@@ -46,8 +47,6 @@ MOST_CELLS, MOST_CUTS = 64, 63
 PLACES = ((0.5,), (0.25,), (0.75,), (0.25, 0.75), (0.125, 0.875), (0.375, 0.625))
 # slacks at which plans are tried, by the greatest that all corners of the box have
 TIMES = tuple(2 ** (k / 2) for k in range(-6, 5))
-# the greatest K that `generate` takes
-MOST_STEPS = machine_of(1).most_steps
 # what is no gain
 NOTHING = 0.99
 
@@ -58,6 +57,12 @@ def step_of(design: Design) -> int:
     while 2**step < steep:
         step += 1
     return step
+
+
+def about_steps(design: Design) -> Callable[[float], float]:
+    """About K, by what a corner's plan costs over its slack at most."""
+    factor, machine = float(steps_of(replace(design, version=2), step_of(design), 1)), machine_of(design.version)
+    return lambda cost: machine.about(factor * max(1.0, cost))
 
 
 # ---- cuts
@@ -134,7 +139,7 @@ class Guesses:
     """About what K a box takes, by the costs of its corners' plans with one slack of a few; each corner is looked at once."""
 
     def __init__(self, design: Design) -> None:
-        self.programs, self.factor = Programs(design), float(steps_of(design, step_of(design), 1))
+        self.programs, self.about = Programs(design), about_steps(design)
         most = min(self.programs.most_slack(as_floats(design.corner(number)))[0] for number in range(1, 2**design.states + 1))
         self.slacks = [(most if math.isfinite(most) and most > 0 else 1.0) * times for times in TIMES]
         self.known: dict[tuple, list[float]] = {}
@@ -151,7 +156,7 @@ class Guesses:
 
     def steps(self, design: Design) -> float:
         costs = [self.costs(tuple(design.corner(number))) for number in range(1, 2**design.states + 1)]
-        return self.factor * max(1.0, min(max(column) / slack for slack, column in zip(self.slacks, zip(*costs))))
+        return self.about(min(max(column) / slack for slack, column in zip(self.slacks, zip(*costs))))
 
     def worth(self, design: Design, cuts: list[list[int]]) -> tuple[float, ...]:
         """How much of the box has no policy; the greatest K of a cell, and the mean over the grid states that have one."""
@@ -175,7 +180,7 @@ def made(design: Design, step: int) -> Cell | None:
         policy = find(design)
     bound = multiplier_of(*margin_of(corners_of(design, policy))) if policy else None
     steps = steps_of(design, step, bound) if bound else math.inf
-    return Cell(design, policy, bound, steps) if steps <= MOST_STEPS else None
+    return Cell(design, policy, bound, steps) if steps <= machine_of(design.version).most_steps else None
 
 
 # ---- the search
@@ -302,13 +307,12 @@ def main() -> int:
     inputs = {"DESIGN": given.design} | {word: path for word, path in (("--cuts", given.cuts), ("--lines", given.lines)) if path}
     files.keep_apart(inputs, {"CUTS": given.cuts_file, "POLICIES": given.policies} | ({"--picture": given.picture} if given.picture else {}))
     design = read_design(given.design)
-    refuse_accelerated(design.version, "cells are of designs of")
     with Budget(given.seconds) as budget:
         cuts = cuts_in(given.cuts, design) if given.cuts else search(design, given.cells, Guesses(design), budget)
         tried = each_made(design, cuts, budget)
     lacking, cells = [number for number, cell in enumerate(tried, 1) if not cell], [cell for cell in tried if cell]
     if lacking and not (given.leave_out and cells):
-        say(f"cell {lacking[0]} has no policy, or none with a K of at most {MOST_STEPS}: ./mpc policy says where, of the design with its box")
+        say(f"cell {lacking[0]} has no policy, or none with a K of at most {machine_of(design.version).most_steps}: ./mpc policy says where, of the design with its box")
         return 6
     if lacking:
         say(f"without a controller: cell {', '.join(map(str, lacking))} of {len(tried)}; those below are counted without them")

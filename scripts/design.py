@@ -1,6 +1,6 @@
 """From a model to a controller that is judged: each step shown as the command that it runs, so that you can go on by hand where you like.
 
-    ./mpc design MODEL FOLDER [--as-it-is | --stay] [--same-cost] [--generate | --accelerated | --plain] [--gap PART] [--turns N] [--seconds S] [--corners N] [--random N] [--states N] [--seed N]
+    ./mpc design MODEL FOLDER [--as-it-is | --stay] [--same-cost] [--generate] [--accelerated | --plain] [--gap PART] [--turns N] [--seconds S] [--corners N] [--random N] [--states N] [--seed N]
 
 In FOLDER, which is made where it isn't there, stand then
 
@@ -26,7 +26,7 @@ and where the model's `[box]` has `disturbed`, range.csv is the range of it unde
 
     --generate    makes the controller that keeps far from its limits, by `generate` or `stay`: of more steps, mostly far more, and with real violations far below the printed ones
     --accelerated makes the controller for the accelerated machine, of version 3 (./mpc draft --accelerated): of far fewer steps where a run takes many
-    --plain       keeps the plain machine, of version 2. With neither, version 3 is taken where its C, of at most 64 bits, takes less than four fifths of the cycles, and that is said
+    --plain       keeps the plain machine, of version 2. With none of these three version 3 is taken where its C, of at most 64 bits, takes less than four fifths of the cycles, and that is said
     --as-it-is    takes the model's own coordinates and box, whatever its loops do
     --stay        searches limits on the next state, coordinates and a box for which faces hold
     --same-cost   keeps the model's cost and stages where no loop is to leave the box and a run would take longer than a stage, in place of trying others
@@ -58,7 +58,7 @@ from .common.arguments import Parser, count, positive, turns
 from .common.c_costs import saves
 from .common.design_text import read_design
 from .common.launcher import LAUNCHER
-from .common.machines import is_accelerated, refuse_accelerated
+from .common.machines import is_accelerated
 from .common.models import Model, grid_disturbances, read_model
 from .common.straight_costs import MOST_WIDTH
 from .common.texts import Controller, controller_of, records_text
@@ -160,7 +160,7 @@ def covering(steps: Steps, model: str, given: Namespace) -> str:
 def make(steps: Steps, model: str, given: Namespace, stays: bool) -> None:
     """The design, its policy, its faces where no loop is to leave the box, and its controller: a lean one, but where the other is asked for, of the machine that is asked for, or that takes less."""
     if given.generate or given.accelerated:
-        make_with(steps, model, given, stays, [] if given.generate else ["--accelerated"])
+        make_with(steps, model, given, stays, ["--accelerated"] * given.accelerated)
         return
     make_with(steps, model, given, stays, ["--lean"])
     if not given.plain and takes_less(steps):
@@ -307,8 +307,8 @@ def main() -> int:
     either.add_argument("--as-it-is", action="store_true")
     either.add_argument("--stay", action="store_true")
     parser.add_argument("--same-cost", action="store_true")
+    parser.add_argument("--generate", action="store_true")
     machine = parser.add_mutually_exclusive_group()
-    machine.add_argument("--generate", action="store_true")
     machine.add_argument("--accelerated", action="store_true")
     machine.add_argument("--plain", action="store_true")
     parser.add_argument("--gap", type=positive, default=0.1, metavar="PART")
@@ -322,8 +322,6 @@ def main() -> int:
     files.keep_apart({"MODEL": given.model}, {name: steps.path(name) for name in [*MADE, *STAYS, *SETTLES, RANGE, COVERED]})
     files.read_bytes(given.model)
     began, stays = time.monotonic(), given.stay or says(given.model, lambda found: any(found.stay))
-    if given.generate and says(given.model, lambda found: is_accelerated(found.version)):
-        refuse_accelerated(3, "`generate` makes controllers of")
     os.makedirs(given.folder, exist_ok=True)
     steps.must("outlook", given.model)
     model = fitted(steps, covering(steps, given.model, given), given, stays)

@@ -494,7 +494,7 @@ def main() -> int:
     given = parser.parse_args()
     files.keep_apart({"MODEL": given.model}, {"DESIGN": given.design or files.STANDARD_OUTPUT})
     model = accelerated(read_model(given.model)) if given.accelerated else read_model(given.model)
-    # no other command makes a controller of that machine
+    # most controllers of that machine are lean
     made = told(model, given.gap, given.keep_weights, given.lean or is_accelerated(model.version))
     for words in made.said:
         say(words)

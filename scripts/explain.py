@@ -238,10 +238,10 @@ def step_words(design: Design, report: dict | None, bound: int, lean: bool) -> I
 
 
 def other_words(design: Design | None, report: dict | None, controller: Controller | None) -> Iterator[str]:
-    """What the other machine would take: the plain one in place of the accelerated; and that in place of the plain one of a lean controller, where it takes many steps or would take fewer cycles."""
-    made = report or {"version": controller.version, "steps": controller.steps, "lean": True}
+    """What the other machine would take: the plain one in place of the accelerated; and that in place of the plain one, where it takes many steps or would take fewer cycles."""
+    made = report or {"version": controller.version, "steps": controller.steps}
     fast = is_accelerated(made["version"])
-    if not fast and not (made["lean"] and (made["steps"] > MANY or controller and saves(controller))):
+    if not fast and not (made["steps"] > MANY or controller and saves(controller)):
         return
     if design and report:
         other = steps_of(replace(design, version=2 if fast else 3), report["step"], report["multiplier"], report["lean"])
@@ -250,7 +250,7 @@ def other_words(design: Design | None, report: dict | None, controller: Controll
         other = plain_steps(made["steps"]) if fast else accelerated_steps(made["steps"])
         told = f"at most {other} steps"
     cycles = other_cycle_words(controller, other) if controller else ""
-    yield f"{'version 2' if fast else 'version 3 (`lean`)'} would take {told}{cycles}" + ("" if fast else " (docs/SPEED.md)")
+    yield f"version {2 if fast else 3} would take {told}{cycles}" + ("" if fast else " (docs/SPEED.md)")
 
 
 def whole_words(design: Design, report: dict | None, margin: int, excess: int) -> Iterator[str]:

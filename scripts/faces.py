@@ -9,7 +9,7 @@ these texts alone: with a controller of `stay` by half the violation target, and
 
 The faces go to FACES, or are printed; how far each coordinate can go, and the greatest disturbance that the box bears in each, go to standard error.
 
-    --lean REFERENCE      of the controller that `lean` makes with these reference plans, not of that of `stay`; a design of version 3 has no other
+    --lean REFERENCE      of the controller that `lean` makes with these reference plans, not of that of `stay`
     --disturbances FILE   two records, a number for each coordinate over `2^grid`: the least and the greatest that is added to a next state
     --bears FILE          writes two such records: the greatest disturbances that the faces bear
 
@@ -33,7 +33,7 @@ from .common.corners import corners_of, cost_limit, lean_multiplier_of, margin_o
 from .common.design_text import plain, read_design
 from .common.disturbances import box_in
 from .common.excess import excesses_of
-from .common.machines import is_accelerated, refuse_accelerated
+from .common.machines import is_accelerated
 from .common.texts import read_text, records_of, records_text
 from .common.trajectories import dot
 
@@ -397,8 +397,6 @@ def main():
     inputs = {"DESIGN": given.design, "POLICY": given.policy} | {word: path for word, path in optional.items() if path}
     files.keep_apart(inputs, {"FACES": given.faces or files.STANDARD_OUTPUT} | ({"--bears": given.bears} if given.bears else {}))
     design = read_design(given.design)
-    if not given.lean:
-        refuse_accelerated(design.version, "without --lean faces are of designs of")
     low, high = box_in(given.disturbances, design) if given.disturbances else ([0] * design.states, [0] * design.states)
     plans = {"POLICY": given.policy} | ({"REFERENCE": given.lean} if given.lean else {})
     records = [records_of(read_text(path)) for path in plans.values()]

@@ -114,20 +114,19 @@ BOXES = (
     "turns from 0 to 4096, and a box that is part of the controller's",
     "turns from 1 to 4096",
 )
-# what K is made of, and which policy makes it less
+# what K is made of by each machine, and which policy makes it less: of a lean controller, and else
 STEPS = {
-    "generate": ("K = 2^(s+2) R / target", "a larger margin or a smaller cost"),
-    "lean": ("K = 2^(s+1) R over 15/16 of the target", "a smaller excess, as ./mpc policy --lean finds it"),
-    "fast": ("K (K + 3) = 2^(s+3) R over 15/16 of the target", "a smaller excess, as ./mpc policy --lean finds it"),
+    False: ("K = 2^(s+2) R / target", "K (K + 3) = 2^(s+4) R / target", "a larger margin or a smaller cost"),
+    True: ("K = 2^(s+1) R over 15/16 of the target", "K (K + 3) = 2^(s+3) R over 15/16 of the target", "a smaller excess, as ./mpc policy --lean finds it"),
 }
 
 DENOMINATOR, NUMERATOR = "a denominator, 1 to 1048576", "-2147483647 to 2147483647"
 # key, shape, range: by the place in a design text
 PLACES = [
-    ("version", "an integer", "1 or 2, for `lean`, `loop` and `settle` 3, too"),
-    ("states", "an integer", "1 to 4, in version 2 up to 6"),
+    ("version", "an integer", "1 to 3"),
+    ("states", "an integer", "1 to 4, from version 2 on up to 6"),
     ("inputs", "an integer", "1 to 3"),
-    ("stages", "an integer", "1 to 20, in version 2 up to 30"),
+    ("stages", "an integer", "1 to 20, from version 2 on up to 30"),
     ("plant.den", "an integer", DENOMINATOR),
     ("plant.a", "{n} lists of {n} integers", NUMERATOR),
     ("plant.b", "{n} lists of {p} integers", NUMERATOR),
@@ -498,8 +497,8 @@ def too_many_steps(call: Call, steps: int) -> str:
     most = machine_of(design.version if design else 1).most_steps
     times = Fraction(steps * (steps + 3), most * (most + 3)) if fast else Fraction(steps, most)
     hint = f" (at least {plain(times * Fraction(design.violation, design.target_den))})" if design else ""
-    formula, better = STEPS["fast" if fast else "lean" if call.command == "lean" else "generate"]
-    return TEXTS["too-many-steps"].format(steps=steps, most=most, formula=formula, hint=hint, better=better)
+    *formulas, better = STEPS[call.command == "lean"]
+    return TEXTS["too-many-steps"].format(steps=steps, most=most, formula=formulas[fast], hint=hint, better=better)
 
 
 def too_fine(call: Call, epsilon: int) -> str:
@@ -543,7 +542,7 @@ def too_wide(call: Call, name: str) -> str:
     return TEXTS["too-wide"].format(name=name, what=what, size=size, help=helps)
 
 
-def controller_lines(text: str, latest: int = 2) -> list[str]:
+def controller_lines(text: str, latest: int = 3) -> list[str]:
     """What should stand in each line, as far as the first two lines tell the version, up to the latest that is read, and the sizes."""
     version = next((it for it in range(2, latest + 1) if text.startswith(f"mpc-controller {it}\n")), 1)
     head = [
@@ -601,7 +600,7 @@ def controller_fault(call: Call, file: int, fault: str, numbers: list[int]) -> s
         text = read_text(call.path(call.kind(file)))
     except (OSError, TypeError):
         text = ""
-    lines = cells_lines(text) if is_cells else controller_lines(text, 3 if call.command in ("solve", "loop", "settle") else 2)
+    lines = cells_lines(text) if is_cells else controller_lines(text, 2 if call.command == "list" else 3)
     found, wanted = text.split("\n"), "another"
     if numbers[0] <= len(lines):
         wanted = lines[numbers[0] - 1]

@@ -22,14 +22,13 @@ import numpy
 import scipy.optimize
 import scipy.spatial
 
-from .cells import MOST_CELLS, MOST_STEPS, Cell, cuts_text, each_made, policies_text, search, states_in, step_of, words_of
+from .cells import MOST_CELLS, Cell, about_steps, cuts_text, each_made, policies_text, search, states_in, words_of
 from .common import files
 from .common.arguments import Parser, positive
 from .common.budget import Budget
 from .common.cell_boxes import cells_of
-from .common.corners import steps_of
 from .common.design_text import Design, plain, text_of
-from .common.machines import refuse_accelerated
+from .common.machines import machine_of
 from .common.model_text import model_text
 from .common.models import Model, read_model, split_name
 from .common.programs import Programs
@@ -189,7 +188,7 @@ class Lacking:
 
     def __init__(self, region: Region, box: Box, design: Design) -> None:
         self.region, self.box, self.programs = region, box, Programs(design)
-        self.unit, self.factor = box.made.state_units / 2**design.grid, float(steps_of(design, step_of(design), 1))
+        self.unit, self.about, self.most = box.made.state_units / 2**design.grid, about_steps(design), machine_of(design.version).most_steps
         self.corners: dict[tuple, tuple[float, list[float]]] = {}
         self.met: dict[tuple, bool] = {}
 
@@ -209,7 +208,7 @@ class Lacking:
         """The least slack of a cell's corners, and a K with a part of that, which costs no more than this part of each one's own."""
         slacks, costs = zip(*(self.corner(corner, cell.grid) for corner in itertools.product(*zip(cell.lo, cell.hi))))
         least = min(slacks)
-        return least, self.factor * max(1.0, min(max(of) / (part * least) for part, of in zip(PARTS, zip(*costs)))) if least > SOME else math.inf
+        return least, self.about(min(max(of) / (part * least) for part, of in zip(PARTS, zip(*costs)))) if least > SOME else math.inf
 
     def is_met(self, cell: Design) -> bool:
         key = (*cell.lo, *cell.hi)
@@ -219,7 +218,7 @@ class Lacking:
 
     def cells(self, design: Design, cuts: list[list[int]]) -> list[Design]:
         # a policy is rounded
-        return [cell for cell in cells_of(design, cuts) if 1.05 * self.found(cell)[1] > MOST_STEPS and self.is_met(cell)]
+        return [cell for cell in cells_of(design, cuts) if 1.05 * self.found(cell)[1] > self.most and self.is_met(cell)]
 
     def worth(self, design: Design, cuts: list[list[int]]) -> tuple[float, ...]:
         return (sum(map(states_in, self.cells(design, cuts))) / states_in(design),)
@@ -280,7 +279,7 @@ def in_cells(region: Region, budget: Budget) -> tuple[Cover, list[Cell | None]]:
     lacking = [(cover.lacking.found(cell), number) for number, cell in enumerate(cells) if not kept[number] and cover.lacking.is_met(cell)]
     if lacking:
         (least, steps), number = min(lacking)
-        short = f"a corner is {plain(-least)} tolerances short" if least <= SOME else f"K would be about {plain(steps)}, and at most {MOST_STEPS} are made"
+        short = f"a corner is {plain(-least)} tolerances short" if least <= SOME else f"K would be about {plain(steps)}, and at most {cover.lacking.most} are made"
         raise Refusal(f"{region.words}: {region.worst(*cover.lacking.part(cells[number]))[1]} is one, and lies in no cell with a policy: of the cell that was cut about it {short}", 6)
     return cover, kept
 
@@ -302,8 +301,6 @@ def main() -> int:
     given = parser.parse_args()
     files.keep_apart({"MODEL": given.model}, {"NEW_MODEL": given.new or files.STANDARD_OUTPUT} | dict(zip(("DESIGN", "CUTS", "POLICIES"), given.cells or [])))
     asked = read_model(given.model)
-    if given.cells:
-        refuse_accelerated(asked.version, "cells are of models of")
     made, texts = asked, []
     if asked.text.get("region"):
         with Budget(given.seconds) as budget:

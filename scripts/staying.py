@@ -18,7 +18,6 @@ import contextlib
 import io
 import math
 from dataclasses import dataclass, field, replace
-from fractions import Fraction
 
 from .common.libraries import Refusal, need, run, say
 
@@ -34,7 +33,7 @@ from .common.c_costs import about_means, about_step
 from .common.design_text import Design, plain
 from .common.kept_boxes import Plant, covered, largest, short_of
 from .common.lean_plans import LeanPlans
-from .common.machines import Accelerated, is_accelerated, refuse_accelerated
+from .common.machines import is_accelerated, machine_of
 from .common.model_text import TIMELY, model_text
 from .common.models import Model, grid_disturbances, neat, read_model
 from .common.programs import Programs
@@ -179,11 +178,12 @@ def steps_of(design: Design, generate: bool) -> float:
     steep = scipy.linalg.eigh(programs.rows.T @ programs.rows, programs.hess / 2, eigvals_only=True)[-1]
     if generate:
         bound = min(plans_with(programs, slack * part)[1] for part in SLACKS) if math.isfinite(slack) else 1 / steep
-        return 4 * max(1.0, bound * steep)
-    lean = LeanPlans(programs)
-    bound = min(lean.bound(lean.plans(part)) for part in (LEAST / 2, *(min(slack, FAR) * part for part in SLACKS[:2])))
-    steps = 32 / 15 * max(1.0, bound * steep)
-    return float(Accelerated.steps(Fraction(steps))) if is_accelerated(design.version) and math.isfinite(steps) else steps
+        steps = 4 * max(1.0, bound * steep)
+    else:
+        lean = LeanPlans(programs)
+        bound = min(lean.bound(lean.plans(part)) for part in (LEAST / 2, *(min(slack, FAR) * part for part in SLACKS[:2])))
+        steps = 32 / 15 * max(1.0, bound * steep)
+    return machine_of(design.version).about(steps)
 
 
 def share_of(design: Design, steps: float, period: float, clock: float) -> float:
@@ -511,8 +511,6 @@ def main() -> int:
     given = parser.parse_args()
     files.keep_apart({"MODEL": given.model}, {"NEW_MODEL": given.new or files.STANDARD_OUTPUT})
     model = read_model(given.model)
-    if given.generate:
-        refuse_accelerated(model.version, "`stay` makes controllers of")
     found, holds = search(model, given.steps, given.seconds, given.generate, given.clock, given.same_cost)
     if not holds:
         say("no coordinates, no limits and no box were found for which faces hold, and the best that was seen is kept: stronger inputs, a smaller box or a smaller `disturbed` (docs/BOXES.md)")

@@ -3,9 +3,7 @@
 An accelerated run of K steps is off by what a plain one of K (K + 3) / 4 would be; its plans count by weights, 2 at the first step and one more at each.
 """
 from fractions import Fraction
-from math import ceil, isqrt
-
-from .libraries import Refusal
+from math import ceil, isqrt, sqrt
 
 
 class Plain:
@@ -20,6 +18,11 @@ class Plain:
     def steps(times: Fraction) -> int:
         """K: the fewest steps, where a plain run would need so many before they are a whole number."""
         return ceil(times)
+
+    @staticmethod
+    def about(times: float) -> float:
+        """About K, by so many steps of a plain run."""
+        return times
 
     @staticmethod
     def total(steps: int) -> int:
@@ -53,6 +56,10 @@ class Accelerated:
         # (2 K + 3)^2 is at least 4 least + 9
         least = ceil(4 * times)
         return max(1, (isqrt(4 * least + 8) - 3) // 2 + 1)
+
+    @staticmethod
+    def about(times: float) -> float:
+        return max(1.0, sqrt(4 * times + 2.25) - 1.5)
 
     @staticmethod
     def total(steps: int) -> int:
@@ -90,9 +97,3 @@ def accelerated_steps(plain: int) -> int:
 def plain_steps(accelerated: int) -> int:
     """The most steps that version 2 takes where version 3 takes so many."""
     return ceil(Fraction(accelerated * (accelerated + 3), 4))
-
-
-def refuse_accelerated(version: int, what: str) -> None:
-    """Ends where this takes no design and no controller of version 3."""
-    if is_accelerated(version):
-        raise Refusal(f"{what} versions 1 and 2, and not of version 3, the accelerated machine's")

@@ -3,7 +3,7 @@ import json
 import re
 
 from .libraries import Refusal
-from .machines import machine_of, refuse_accelerated
+from .machines import machine_of
 from .texts import REPORT_LINES, SCALE, Controller, controller_of
 
 NUMBER = re.compile(r"0|-?[1-9][0-9]*")
@@ -53,7 +53,7 @@ def strict_controller(text, last=2):
     """The controller of a text in form, of a version up to the last; Refusal with the first line that no controller text has there."""
     lines = Lines(text)
     if last < 3 and text.startswith("mpc-controller 3\n"):
-        refuse_accelerated(3, "this takes controllers of")
+        raise Refusal("this takes controllers of versions 1 and 2, and not of version 3, the accelerated machine's")
     (version,) = lines.take("mpc-controller", 1, f"mpc-controller and the version, from 1 to {last},", within((1, last)))
     sizes, machine = SIZES[version], machine_of(version)
     n, p, stages, m = lines.take("size", 4, f"size, states up to {sizes[0]}, inputs up to 3, stages up to {sizes[2]} and rows up to {sizes[3]}", within(*[(1, most) for most in sizes]))

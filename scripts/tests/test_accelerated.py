@@ -1,6 +1,9 @@
 """Designs, reports and controllers of version 3, of the accelerated machine: their numbers against worked rows of another program, what is said of them, and what doesn't take them. Their texts are
 made by the independent model of the program."""
+import contextlib
 import functools
+import io
+import itertools
 import os
 import re
 import subprocess
@@ -13,19 +16,20 @@ from fractions import Fraction
 from checks.fuzz import model, program
 from scripts.common import c_costs, matching, sizes
 from scripts.common.corners import cost_limit, steps_of
-from scripts.common.design_text import design_of, read_design
+from scripts.common.design_text import design_of, read_design, text_of
 from scripts.common.libraries import PACKAGES, Refusal, missing
 from scripts.common.machines import Accelerated, Plain, accelerated_steps, plain_steps
 from scripts.common.straight_costs import AcceleratedCosts
 from scripts.common.strict_texts import strict_controller
-from scripts.common.texts import controller_of, records_of, report_of
+from scripts.common.texts import controller_of, records_of, report_of, reports_of
 from scripts.explain import explain
 
 from .worked import EXAMPLES, FIRST, FIRST_LEAN_CONTROLLER, FIRST_POLICY, FIRST_REFERENCE, FIRST_TIGHT, LONG, TOP, as_command, folder_with
 
 LACKING = missing(*PACKAGES)
 if not LACKING:
-    from scripts import design, draft, faces, judge, staying
+    from scripts import cells, design, draft, faces, judge, staying
+    from scripts.common.budget import Budget
     from scripts.common.models import Model
     from scripts.common.programs import Programs
 
@@ -58,10 +62,11 @@ def third(text: str) -> str:
 
 
 @functools.cache
-def made(text: str) -> tuple[str, str, str]:
-    """A design of version 3, its controller and its report, by the model."""
+def made(text: str, lean: bool = True) -> tuple[str, str, str]:
+    """A design of version 3, its controller, a lean one or one of `generate`, and its report, by the model."""
     texts = {"d": third(text), "p": FIRST_POLICY, "q": FIRST_REFERENCE}
-    said = program.answer(["lean", "d", "p", "q", "c", "r"], lambda name: texts[name].encode(), lambda _: True, model.exact_gains)
+    words = ["lean", "d", "p", "q", "c", "r"] if lean else ["generate", "d", "p", "c", "r"]
+    said = program.answer(words, lambda name: texts[name].encode(), lambda _: True, model.exact_gains)
     return texts["d"], said.written["c"].decode(), said.written["r"].decode()
 
 
@@ -133,11 +138,11 @@ class Numbers(unittest.TestCase):
 
 class Texts(unittest.TestCase):
     def test_its_own(self):
-        for text in (FIRST, COARSE, FIRST_TIGHT):
-            found, controller, report = (reader(one) for reader, one in zip((design_of, controller_of, report_of), made(text)))
-            self.assertEqual((found.version, controller.version, report["version"], len(report["violations"]), report["lean"]), (3, 3, 3, 3, True))
+        for text, lean in itertools.product((FIRST, COARSE, FIRST_TIGHT), (True, False)):
+            found, controller, report = (reader(one) for reader, one in zip((design_of, controller_of, report_of), made(text, lean)))
+            self.assertEqual((found.version, controller.version, report["version"], len(report["violations"]), report["lean"]), (3, 3, 3, 3, lean))
             self.assertIsNone(matching.report_difference(report, found))
-            self.assertIsNone(matching.policy_difference(report, found, records_of(FIRST_POLICY), records_of(FIRST_REFERENCE)))
+            self.assertIsNone(matching.policy_difference(report, found, records_of(FIRST_POLICY), records_of(FIRST_REFERENCE) if lean else None))
             self.assertIsNone(matching.controller_difference(controller, found))
             self.assertIsNone(matching.made_difference(controller, report))
 
@@ -168,6 +173,8 @@ class Explained(unittest.TestCase):
         ):
             self.assertIn(words, told)
         self.assertIn("the plans count by the weight 2, over which", "\n".join(self.told(report=made(FIRST)[2])))
+        words = self.told(report=made(FIRST, False)[2], design=found.replace("violation = 1\n", "violation = 16\n"), policy=FIRST_POLICY)
+        self.assertIn("K = 3, the least with K (K + 3) at least 2^(s+4) R / target = 32 * 8 / 16 = 16; in version 2 K = 4", words)
 
     def test_controller(self):
         controller = made(COARSE)[1]
@@ -206,20 +213,20 @@ class Explained(unittest.TestCase):
         self.assertTrue(pays > ratio * accelerated_steps(pays) and pays - 1 <= ratio * accelerated_steps(pays - 1))
 
     def test_what_the_accelerated_machine_would_take(self):
-        """Of a lean controller of many steps; of one of few, or one that `generate` made, nothing is said."""
+        """Of a controller of many steps; of one of few nothing is said."""
         report = lambda text, steps: text.replace("steps 1\n", f"steps {steps}\n").replace("steps 4\n", f"steps {steps}\n")
         lean = "mpc-report 1\nmargin 8192 65536\nexcess 18432 65536\nmultiplier 1\nstep 1\nsteps 1\nbits 6\nwidth 16\nwords 6\nviolation 1 1099511627776\ngap 1 1099511627776\nundercut 1 1099511627776\nend\n"
         told = lambda text: [line for line in self.told(report=text) if line.startswith("version ")]
-        self.assertEqual(told(report(lean, 340)), ["version 3 (`lean`) would take at most 36 steps (docs/SPEED.md)"])
-        self.assertEqual((told(report(lean, 100)), told(report(lean.replace("excess 18432 65536", "cost 1"), 340))), ([], []))
+        for own in (lean, lean.replace("excess 18432 65536", "cost 1")):
+            self.assertEqual((told(report(own, 340)), told(report(own, 100))), (["version 3 would take at most 36 steps (docs/SPEED.md)"], []))
         # R 377 of the tight design, whose K is 16086, and of version 3 exactly
         tight = report(lean, 16086).replace("multiplier 1\n", "multiplier 377\n")
         words = self.told(report=tight, design=FIRST_TIGHT)
-        self.assertIn(f"version 3 (`lean`) would take K = {steps_of(design_of(third(FIRST_TIGHT)), 1, 377, True)} (docs/SPEED.md)", words)
+        self.assertIn(f"version 3 would take K = {steps_of(design_of(third(FIRST_TIGHT)), 1, 377, True)} (docs/SPEED.md)", words)
         # of a controller beside it, cycles
         controller = FIRST_LEAN_CONTROLLER.replace("steps 1\n", "steps 20000\n").replace("bits 6 0 1 16", "bits 6 0 1 30")
         (line,) = [line for line in self.told(controller=controller) if line.startswith("version ")]
-        self.assertRegex(line, r"^version 3 \(`lean`\) would take at most 282 steps, about [0-9,]+ cycles by an estimate; version 3 takes less from K = \d+ of version 2 on")
+        self.assertRegex(line, r"^version 3 would take at most 282 steps, about [0-9,]+ cycles by an estimate; version 3 takes less from K = \d+ of version 2 on")
         # of few steps where it takes fewer cycles
         few = controller.replace("steps 20000\n", "steps 50\n")
         saved = lambda told: any(line.startswith("version 3") for line in told)
@@ -257,22 +264,41 @@ class Made(unittest.TestCase):
     def test_faces(self):
         """They are found by no less than what the program tests them with, and it takes them."""
         text = third(HELD)
-        found, texts = design_of(text), {"d": text, "p": FIRST_POLICY, "q": FIRST_REFERENCE}
-        excess = faces.excesses(found, records_of(FIRST_POLICY), records_of(FIRST_REFERENCE))
-        read = model.read_design(text.encode(), (1, 2, 3))
-        stated = model.choose(read, *(model.read_policy(texts[name].encode(), read) for name in "pq")).stated_violations
-        for least, most in zip(stated, excess):
-            self.assertTrue(0.9 * most < least <= most, (least, most))
-        texts["f"] = faces.records_text(faces.find(found, excess, [0], [0]))
-        said = program.answer(["lean", "d", "p", "q", "c", "r", "f"], lambda name: texts[name].encode(), lambda _: True, model.exact_gains)
-        self.assertEqual((said.status, said.written["c"][:17]), (0, b"mpc-controller 3\n"))
+        found, texts, read = design_of(text), {"d": text, "p": FIRST_POLICY, "q": FIRST_REFERENCE}, model.read_design(text.encode())
+        for words in (["lean", "d", "p", "q", "c", "r", "f"], ["stay", "d", "p", "c", "r", "f"]):
+            plans = [name for name in words if name in "pq"]
+            excess = faces.excesses(found, *(records_of(texts[name]) for name in plans))
+            stated = model.choose(read, *(model.read_policy(texts[name].encode(), read) for name in plans)).stated_violations
+            for least, most in zip(stated, excess):
+                self.assertTrue(0.9 * most < least <= most, (words, least, most))
+            texts["f"] = faces.records_text(faces.find(found, excess, [0], [0]))
+            said = program.answer(words, lambda name: texts[name].encode(), lambda _: True, model.exact_gains)
+            self.assertEqual((said.status, said.written["c"][:17]), (0, b"mpc-controller 3\n"))
 
     def test_about_how_many_steps(self):
-        plain, fast = (staying.steps_of(replace(example("antenna"), version=version), False) for version in (2, 3))
-        self.assertEqual(fast, Accelerated.steps(Fraction(plain)))
+        for generate in (False, True):
+            plain, fast = (staying.steps_of(replace(example("antenna"), version=version), generate) for version in (2, 3))
+            self.assertTrue(0 <= Accelerated.steps(Fraction(plain)) - fast < 1)
         share = lambda version: staying.share_of(replace(example("motor"), version=version), 10, 0.005, 100)
         # eight rows
         self.assertAlmostEqual(share(3) - share(2), 10 * c_costs.about_means(8) / (0.005 * 100e6))
+
+    def test_cells(self):
+        """The K of each cell's policy is the one that `split` prints, and about the root of the plain machine's is guessed."""
+        found, cuts = example("motor"), [[0], []]
+        with contextlib.redirect_stderr(io.StringIO()):
+            tried = cells.each_made(found, cuts, Budget(60.0))
+        texts = {"d": text_of(found), "l": cells.cuts_text(cuts), "p": cells.policies_text(tried)}
+        said = program.answer(["split", "d", "l", "p", "c", "r"], lambda name: texts[name].encode(), lambda _: True, model.exact_gains)
+        self.assertEqual((said.status, said.written["c"].count(b"mpc-controller 3\n")), (0, 2))
+        self.assertEqual([report_of(report)["steps"] for report in reports_of(said.written["r"].decode())], [cell.steps for cell in tried])
+        self.assertEqual(Plain.about(340.0), 340.0)
+        for times in (0.0, 1.0, 340.0, 1e9):
+            self.assertTrue(0 <= Accelerated.steps(Fraction(times)) - Accelerated.about(times) < 1)
+        plain, fast = (cells.Guesses(replace(found, version=version)).worth(found, cuts)[1] for version in (2, 3))
+        self.assertEqual(fast, Accelerated.about(plain))
+        told = list(explain({"cells": said.written["c"].decode(), "report": said.written["r"].decode(), "design": texts["d"]}))
+        self.assertEqual(len([line for line in told if line.startswith("the machine is accelerated (version 3)")]), 2)
 
     def test_judged(self):
         """By the denominators of `solve`'s lines: 4608 is 9 times 2^9."""
@@ -292,25 +318,16 @@ class Refused(unittest.TestCase):
     """What takes versions 1 and 2 alone says so."""
 
     def test_commands(self):
-        found, controller, _ = made(FIRST)
-        _, paths = folder_with(self, d=found, c=controller, p=FIRST_POLICY, m="version = 3\n" + MASS, n=MASS)
-        out = paths["d"] + "-out"
-        for told, *words in (
-            ("cells are of designs of", "cells", paths["d"], out, out + "-p"),
-            ("cells are of models of", "regions", paths["m"], out, "--cells", out + "-d", out + "-c", out + "-p"),
-            ("without --lean faces are of designs of", "faces", paths["d"], paths["p"], out),
-            ("`stay` makes controllers of", "staying", paths["m"], out, "--generate"),
-            ("this takes controllers of", "c_source", paths["c"], "--name", "mpc", "--out", os.path.dirname(out)),
-            ("this takes controllers of", "nearest", paths["c"], "mpc", os.path.dirname(out)),
-            ("`generate` makes controllers of", "design", paths["m"], out, "--generate"),
-        ):
+        _, paths = folder_with(self, c=made(FIRST)[1], n=MASS)
+        out = os.path.dirname(paths["c"])
+        for words in (["c_source", paths["c"], "--name", "mpc", "--out", out], ["nearest", paths["c"], "mpc", out]):
             got = subprocess.run([*as_command(words[0]), *words[1:]], capture_output=True, text=True)
             with self.subTest(words=words[0]):
                 self.assertEqual((got.returncode, got.stdout), (1, ""), got.stderr)
-                self.assertIn(f"{told} versions 1 and 2, and not of version 3, the accelerated machine's\n", got.stderr)
-        got = subprocess.run([*as_command("design"), paths["n"], out, "--accelerated", "--generate"], capture_output=True, text=True)
+                self.assertIn("this takes controllers of versions 1 and 2, and not of version 3, the accelerated machine's\n", got.stderr)
+        got = subprocess.run([*as_command("design"), paths["n"], out + "-out", "--accelerated", "--plain"], capture_output=True, text=True)
         self.assertIn("not allowed with argument", got.stderr)
-        self.assertEqual(sorted(os.listdir(os.path.dirname(out))), ["c", "d", "m", "n", "p"])
+        self.assertEqual(sorted(os.listdir(out)), ["c", "n"])
 
 
 @unittest.skipIf(LACKING, f"missing: {', '.join(LACKING)}")
@@ -327,6 +344,12 @@ class WholeWay(unittest.TestCase):
             design.make(steps, "model.toml", given, True)
         self.assertEqual(ran[5:], [["faces", "design.toml", "policy.csv", "faces.csv", "--lean", "reference.csv", "--bears", "disturbances.csv"],
                                    ["lean", "design.toml", "policy.csv", "reference.csv", "controller.txt", "report.txt", "faces.csv", "disturbances.csv"]])
+        given.generate, ran = True, []
+        with unittest.mock.patch.object(design.Steps, "run", lambda _, *words, to=None: ran.append([os.path.basename(word) for word in words]) or design.Step(0, "")):
+            design.make(steps, "model.toml", given, True)
+        self.assertEqual(ran, [["draft", "model.toml", "design.toml", "--gap", "0.1", "--accelerated"], ["policy", "design.toml", "policy.csv", "--turns", "0"],
+                               ["faces", "design.toml", "policy.csv", "faces.csv", "--bears", "disturbances.csv"],
+                               ["stay", "design.toml", "policy.csv", "controller.txt", "report.txt", "faces.csv", "disturbances.csv"]])
 
     @unittest.skipUnless(os.path.exists(os.path.join(TOP, "crates/mpc_cli/out/mpc_cli")), "the program isn't built")
     def test_from_a_model_to_a_page(self):

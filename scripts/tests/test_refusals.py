@@ -124,9 +124,9 @@ class Explained(unittest.TestCase):
     def test_ranges_of_versions(self):
         told = self.generate("error 5 text 1 range 2", FIRST.replace("states = 1", "states = 5"))
         self.assertIn("`states` in the design file", told)
-        self.assertIn("1 to 4, in version 2 up to 6", told)
-        self.assertIn("1 to 20, in version 2 up to 30", self.generate("error 5 text 1 range 4", SECOND.replace("stages = 1", "stages = 31")))
-        self.assertIn("out of its range: 1 or 2, for `lean`, `loop` and `settle` 3, too.", self.generate("error 5 text 1 range 1", FIRST.replace("version = 1", "version = 3")))
+        self.assertIn("1 to 4, from version 2 on up to 6", told)
+        self.assertIn("1 to 20, from version 2 on up to 30", self.generate("error 5 text 1 range 4", SECOND.replace("stages = 1", "stages = 31")))
+        self.assertIn("out of its range: 1 to 3.", self.generate("error 5 text 1 range 1", FIRST.replace("version = 1", "version = 4")))
 
     def test_policy_count_of_six_states(self):
         six = SECOND.replace("states = 1", "states = 6")
@@ -206,6 +206,9 @@ class Explained(unittest.TestCase):
         told = self.lean("error 8 too-many-steps 131070", FIRST.replace("version = 1", "version = 3"))
         self.assertIn("K = 131070 steps, and at most 65534 are accepted. K (K + 3) = 2^(s+3) R over 15/16 of the target", told)
         self.assertIn("at least 64", told)
+        made = self.generate("error 8 too-many-steps 131070", FIRST.replace("version = 1", "version = 3"))
+        self.assertIn("K (K + 3) = 2^(s+4) R / target", made)
+        self.assertIn("or a policy with a larger margin or a smaller cost", made)
 
     def test_sizes_of_a_lean_controller(self):
         self.assertIn("passes 2^126 (it is 2^181.7)", self.lean("error 10 too-wide excess", reference="1,0\n1,-999999999999999\n"))
@@ -346,6 +349,8 @@ class Explained(unittest.TestCase):
         self.assertIn("line 11 (`T -0`) should be `T` and 1 number", self.serve("error 11 controller 1 line 11", two.replace("T 0", "T -0", 1)))
         second = two.replace("T 0", "T 1", 1).replace("T 0", "T -0").replace("T 1", "T 0")
         self.assertIn("line 30 (`T -0`) should be `T` and 1 number", self.serve("error 11 controller 1 line 30", second))
+        words = f"mpc-cells 2\n{FIRST_CONTROLLER}{FIRST_CONTROLLER.replace('mpc-controller 1', 'mpc-controller 3')}end\n"
+        self.assertIn("line 26 (`words 6`) should be `words` and n + 3 m + 2 p N", self.serve("error 11 controller 1 line 26", words))
         self.assertIn("line 20 should be `end`", self.serve("error 11 controller 1 line 20", f"mpc-cells 1\n{FIRST_CONTROLLER[:-4]}"))
         self.assertIn("line 21 (`mpc-controller 1`) should be `end`", self.serve("error 11 controller 1 line 21", two.replace("cells 2", "cells 1")))
         self.assertIn("line 22 (`size 2 1 1 3`) should be `size`, n, p and N of the first cell, and m", self.serve("error 11 controller 1 line 22", "size 2 1 1 3".join(two.rsplit("size 1 1 1 3", 1))))
