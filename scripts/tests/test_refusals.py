@@ -495,7 +495,7 @@ mkdir -p crates/mpc_generate/out; printf '#!/bin/bash\necho built\n' >crates/mpc
         self.assertIn("mpc: building the program of generate alone", told)
 
     def test_which_program_runs(self):
-        """`generate` is the whole program's where that is there, and else its own one's; of the others there is none but the whole one."""
+        """`generate` is the whole program's where that is there, and else its own one's, but of a design of version 3; of the others there is none but the whole one."""
         folder = self.folder("echo whole")
         alone = os.path.join(folder, "crates/mpc_generate/out/mpc_generate")
         os.makedirs(os.path.dirname(alone))
@@ -508,10 +508,17 @@ mkdir -p crates/mpc_generate/out; printf '#!/bin/bash\necho built\n' >crates/mpc
             file.write("#!/bin/bash\nexit 1\n")
         os.chmod(os.path.join(folder, "bin", "rt"), 0o755)
         os.remove(os.path.join(folder, "crates/mpc_cli/out/mpc_cli"))
-        self.assertEqual(self.run_in(folder, "PATH=$PWD/bin:$PATH ./mpc generate d p c r").stdout, "alone\n")
-        got = self.run_in(folder, "PATH=$PWD/bin:$PATH ./mpc solve c s")
-        self.assertEqual((got.returncode, got.stdout), (98, ""))
-        self.assertIn("crates/mpc_cli/build.log has the reason", got.stderr)
+        with open(os.path.join(folder, "e"), "w") as file:
+            file.write(FIRST.replace("version = 1", "version = 3 # accelerated"))
+        with open(os.path.join(folder, "second"), "w") as file:
+            file.write(SECOND + "# no version = 3\n")
+        for name in ("d", "second"):
+            self.assertEqual(self.run_in(folder, f"PATH=$PWD/bin:$PATH ./mpc generate {name} p c r").stdout, "alone\n")
+        # no controller of the accelerated machine is made by it
+        for words in ("solve c s", "generate e p c r"):
+            got = self.run_in(folder, f"PATH=$PWD/bin:$PATH ./mpc {words}")
+            self.assertEqual((got.returncode, got.stdout), (98, ""))
+            self.assertIn("crates/mpc_cli/build.log has the reason", got.stderr)
 
     def test_program_of_changed_sources_is_no_answer(self):
         """Where a source is newer than the program and can't be proved, nothing is run."""
