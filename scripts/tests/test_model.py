@@ -175,7 +175,7 @@ class RowExponents(unittest.TestCase):
 
     def test_sizes_by_version(self):
         for changes, fault in (({"n": 5}, ("range", 2)), ({"version": 2, "n": 7}, ("range", 2)), ({"version": 2, "n": 5}, ("shape", 6)), ({"stages": 21}, ("range", 4)), ({"version": 2, "stages": 31}, ("range", 4)), (
-                {"version": 3}, ("range", 1))):
+                {"version": 3, "n": 7}, ("range", 2)), ({"version": 4}, ("range", 1))):
             with self.assertRaises(model.Refused) as caught:
                 design(**changes)
             self.assertEqual(caught.exception.args, (5, *fault))
