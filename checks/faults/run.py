@@ -66,6 +66,9 @@ CUT = {"d": FIRST["d"], "l": b"1,0\n", "p": b"1,0\n1,0\n8,-7\n8,-7\n"}
 CUT_TWICE = {"d": cases.in_version(2, MADE["d"]), "l": b"1,-16\n1,3\n", "p": 4 * MADE["p"]}
 # the first controller with an exponent for each row
 SECOND_CONTROLLER = FIRST["k"].replace(b"mpc-controller 1\n", b"mpc-controller 2\n").replace(b"\nlo ", b"\nexps 0 1 1\nlo ")
+# the same numbers for the accelerated machine, and designs that ask for it
+THIRD_CONTROLLER = SECOND_CONTROLLER.replace(b"mpc-controller 2\n", b"mpc-controller 3\n").replace(b"\nwords 6\n", b"\nwords 12\n")
+THIRD, THIRD_HELD, THIRD_CUT = ({**files, "d": cases.in_version(3, files["d"])} for files in (FIRST, HELD, CUT))
 
 # x+ = x + u, of 40 over 2^4 to both sides, and a controller of -x/2 between -1 and 1; from where no multiplier moves it settles, also under disturbances
 SETTLED = {"d": FIRST["d"].replace(b"grid = 0\nlo = [0]\nhi = [1]", b"grid = 4\nlo = [-40]\nhi = [40]"), "f": b"5,-31,32\n0,-31,32\n1,-3,3\n", "w": b"-1\n1\n",
@@ -143,21 +146,25 @@ def all_commands(executable):
     yield Command(executable, "generate, fine corners", ["generate", "d", "p", "c", "r"], FINE_CORNERS)
     yield Command(executable, "generate, version 2", ["generate", "d", "p", "c", "r"], SECOND)
     yield Command(executable, "generate, version 2, JSON", ["generate", "d", "p", "c", "r.json"], SECOND)
+    yield Command(executable, "generate, version 3", ["generate", "d", "p", "c", "r"], THIRD)
     lean, reference = ["lean", "d", "p", "q", "c", "r"], example("first", "reference.csv")
     yield Command(executable, "lean", lean, {**FIRST, "q": reference})
     yield Command(executable, "lean, JSON", [*lean[:5], "r.json"], {**FIRST, "q": reference})
     yield Command(executable, "lean, a motor", lean, dict(zip("dpq", (motor[0], example("motor", "lean.csv"), example("motor", "reference.csv")))))
     yield Command(executable, "lean, a fine plant", lean, {**FINE, "q": b"1,0,0\n5,-3,-1\n"})
     yield Command(executable, "lean, version 2", lean, {**SECOND, "q": SECOND["p"]})
+    yield Command(executable, "lean, version 3", lean, {**THIRD, "q": reference})
     yield Command(executable, "lean, a far reference", lean, {**FIRST, "q": b"1,0\n1,-999999999999999\n"})
     yield Command(executable, "solve", ["solve", "k", "s"], FIRST)
     yield Command(executable, "solve, version 2", ["solve", "k", "s"], {**FIRST, "k": SECOND_CONTROLLER})
+    yield Command(executable, "solve, version 3", ["solve", "k", "s"], {**FIRST, "k": THIRD_CONTROLLER})
     yield Command(executable, "loop", ["loop", "d", "k", "s", "4"], FIRST)
     yield Command(executable, "demo", ["demo", "7"], {})
     stay, under = ["stay", "d", "p", "c", "r", "f"], ["stay", "d", "p", "c", "r", "f", "w"]
     yield Command(executable, "stay", stay, HELD)
     yield Command(executable, "stay, JSON", [*stay[:4], "r.json", "f"], HELD)
     yield Command(executable, "stay, under disturbances", under, HELD)
+    yield Command(executable, "stay, version 3, under disturbances", under, THIRD_HELD)
     yield Command(executable, "stay, a face that isn't kept", under, {**HELD, "w": b"-1\n1\n"})
     yield Command(executable, "stay, unequal inputs", stay, {**HELD, "f": b"4,0,0,1,0\n3,0,0,0,1\n"})
     held = {**HELD, "q": reference}
@@ -178,12 +185,14 @@ def all_commands(executable):
     yield Command(executable, "list, version 2", ["list", "k", "l"], {**FIRST, "k": SECOND_CONTROLLER})
     yield Command(executable, "c", ["c", "k", "motor", "t", "h"], FIRST)
     yield Command(executable, "c, version 2", ["c", "k", "motor", "t", "h"], {**FIRST, "k": SECOND_CONTROLLER})
+    yield Command(executable, "c, version 3", ["c", "k", "motor", "t", "h"], {**FIRST, "k": THIRD_CONTROLLER})
     split, first = ["split", "d", "l", "p", "c", "r"], control.read_controller(FIRST["k"])
     yield Command(executable, "split", split, CUT)
     yield Command(executable, "split, version 2", split, CUT_TWICE)
+    yield Command(executable, "split, version 3", split, THIRD_CUT)
     yield Command(executable, "split, a cell that is refused", split, {**CUT, "p": 4 * b"1,0\n"})
     yield Command(executable, "split, a cut at the end", split, {**CUT, "l": b"1,1\n"}, 2)
-    cells = split_boxes.text_of([first, control.read_controller(SECOND_CONTROLLER), first])
+    cells = split_boxes.text_of([*map(control.read_controller, (FIRST["k"].replace(b"\nhi 1\n", b"\nhi 0\n"), THIRD_CONTROLLER, SECOND_CONTROLLER)), first])
     yield Command(executable, "serve", ["serve", "e", "s"], {**FIRST, "e": cells})
     yield Command(executable, "serve, a state in no cell", ["serve", "e", "s"], {"e": cells, "s": b"0\n2\n"})
     yield Command(executable, "play", ["play", "m", "s"], {**FIRST, "m": made})
