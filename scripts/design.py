@@ -26,7 +26,7 @@ and where the model's `[box]` has `disturbed`, range.csv is the range of it unde
 
     --generate    makes the controller that keeps far from its limits, by `generate` or `stay`: of more steps, mostly far more, and with real violations far below the printed ones
     --accelerated makes the controller for the accelerated machine, of version 3 (./mpc draft --accelerated): of far fewer steps where a run takes many
-    --plain       keeps the plain machine, of version 2. With none of these three version 3 is taken where its C, of at most 64 bits, takes less than four fifths of the cycles, and that is said
+    --plain       keeps the plain machine, of version 2. With neither, version 3 is taken where its C, of at most 64 bits, takes less than four fifths of the cycles, and that is said
     --as-it-is    takes the model's own coordinates and box, whatever its loops do
     --stay        searches limits on the next state, coordinates and a box for which faces hold
     --same-cost   keeps the model's cost and stages where no loop is to leave the box and a run would take longer than a stage, in place of trying others
@@ -159,11 +159,8 @@ def covering(steps: Steps, model: str, given: Namespace) -> str:
 
 def make(steps: Steps, model: str, given: Namespace, stays: bool) -> None:
     """The design, its policy, its faces where no loop is to leave the box, and its controller: a lean one, but where the other is asked for, of the machine that is asked for, or that takes less."""
-    if given.generate or given.accelerated:
-        make_with(steps, model, given, stays, ["--accelerated"] * given.accelerated)
-        return
-    make_with(steps, model, given, stays, ["--lean"])
-    if not given.plain and takes_less(steps):
+    make_with(steps, model, given, stays, ["--accelerated"] if given.accelerated else plain_kind(given))
+    if not given.accelerated and not given.plain and takes_less(steps):
         make_accelerated(steps, model, given, stays)
 
 
@@ -189,7 +186,12 @@ def make_accelerated(steps: Steps, model: str, given: Namespace, stays: bool) ->
         why = str(refused)
     if why:
         print(f"    {why}: so the plain machine is kept", flush=True)
-        make_with(steps, model, given, stays, ["--lean"])
+        make_with(steps, model, given, stays, plain_kind(given))
+
+
+def plain_kind(given: Namespace) -> list[str]:
+    """What ./mpc draft is asked for, for the plain machine."""
+    return [] if given.generate else ["--lean"]
 
 
 def make_with(steps: Steps, model: str, given: Namespace, stays: bool, kind: list[str]) -> None:

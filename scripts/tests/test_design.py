@@ -195,6 +195,7 @@ class WholeWay(unittest.TestCase):
     def machines(self, steps, *options, third="mpc-controller 3\n", width=40):
         """The commands by which a controller is made, the plain one of which has so many steps, and what is said; the accelerated one is this, of such a width, or is refused."""
         texts = {"--lean": FIRST_LEAN_CONTROLLER.replace("steps 1\n", f"steps {steps}\n").replace("bits 6 0 1 16", "bits 6 0 1 30"), "--accelerated": third}
+        texts["0.1"] = texts["--lean"]
         folder, paths = folder_with(self, model=MASS)
         ran, last = [], []
 
@@ -205,11 +206,11 @@ class WholeWay(unittest.TestCase):
                 files.write(made.path("controller.txt"), texts[words[-1]])
             return design.Step(int(words[0] == "lean" and last == ["--accelerated"] and not third), "")
 
-        given = design.Namespace(generate=False, accelerated="--accelerated" in options, plain="--plain" in options, gap=0.1)
+        given = design.Namespace(generate="--generate" in options, accelerated="--accelerated" in options, plain="--plain" in options, gap=0.1)
         read = lambda text: types.SimpleNamespace(version=3, width=width) if text == third else controller_of(text)
         with unittest.mock.patch.object(design.Steps, "run", run), unittest.mock.patch.object(design, "controller_of", read), contextlib.redirect_stdout(io.StringIO()) as said:
             design.make(design.Steps(folder), paths["model"], given, False)
-        return [line.split(" --gap 0.1 ")[1] for line in ran if line.startswith("draft")], said.getvalue(), ran
+        return [line.split(" --gap 0.1")[1].strip() for line in ran if line.startswith("draft")], said.getvalue(), ran
 
     def test_takes_the_machine_that_takes_less(self):
         # far more steps than the accelerated machine would need, and a few
@@ -217,6 +218,8 @@ class WholeWay(unittest.TestCase):
         drafts, said, ran = self.machines(20000)
         self.assertEqual((drafts, "so version 3 is taken" in said, ran[4:]), (both, True, ran[1:3]))
         self.assertEqual(self.machines(50)[:2], (plain, ""))
+        self.assertEqual(self.machines(20000, "--generate")[0], ["", *both[1:]])
+        self.assertIn("generate design.toml policy.csv controller.txt report.txt", self.machines(50, "--generate")[2])
         # where one is asked for, that one
         self.assertEqual(self.machines(20000, "--plain")[:2], (plain, ""))
         self.assertEqual(self.machines(50, "--accelerated")[:2], (both[1:], ""))
