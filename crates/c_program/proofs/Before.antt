@@ -13,13 +13,13 @@ use Rattle.qp_model.specs.machine.ValuesMet.{FitsWidth}
 use Rattle.qp_model.proofs.AbsoluteLaws.{le_times_pow}
 use Rattle.qp_model.proofs.MagnitudeLaws.{get_or-le-greatest}
 use Rattle.overflow_check.proofs.ValuesMet.{fits_width}
-use Rattle.c_program.specs.Syntax.{Variable, variable, Kind, bits_of, Statement, groups}
-use Rattle.c_program.specs.Syntax.Kind.{Narrow, Wide}
-use Rattle.c_program.specs.Syntax.Family.{State, Loaded, EntryBase, RowBase, Multiplier, Sum, Own, Reached, Weight, Shift, Power}
-use Rattle.c_program.specs.Meaning.{Environment, with_value, new_value, variable_of, HasOperands, begun}
+use Rattle.c_language.specs.Syntax.{Variable, variable, Kind, bits_of, Statement, groups}
+use Rattle.c_language.specs.Syntax.Kind.{Narrow, Wide}
+use Rattle.c_language.specs.Syntax.Family.{State, Loaded, EntryBase, RowBase, Multiplier, Sum, Own, Reached, Weight, Shift, Power}
+use Rattle.c_language.specs.Meaning.{Environment, with_value, new_value, variable_of, HasOperands, begun}
 use Rattle.c_program.specs.Of.{Sizes, state_top, multiplier_top, kind_for, kind_by, loaded_statements, entry_base_statements, row_base_statements, zero_statements, before_of, has_short_divisor}
 use Rattle.c_program.specs.FastOf.{first_weight, first_scale_lines, first_scale, fast_before_of}
-use Rattle.c_program.proofs.Runs.{Runs, runs_none, runs_first, runs_append, runs_groups}
+use Rattle.c_language.proofs.Runs.{Runs, runs_none, runs_first, runs_append, runs_groups}
 use Rattle.c_program.proofs.Terms.{fits64, kind_fits}
 use Rattle.c_program.proofs.Parts.{Ready, entry_base, row_base, entry_base_made, row_base_made}
 

@@ -5,9 +5,9 @@ use Rattle.std.proofs.lemmas.Bool.{cases_Bool, cases_lt, or_parts, or_cases, con
 use Rattle.integer_algebra.specs.Sums.{at}
 use Rattle.qp_model.specs.machine.Controller.{Numbers}
 use Rattle.qp_model.specs.machine.Machine.{IsInside, IsAdmissible}
-use Rattle.c_program.specs.Syntax.{CProgram}
-use Rattle.c_program.specs.Meaning.{is_outside, first_from, first_outside, outcome_at}
-use Rattle.c_program.specs.Meaning.Outcome.{Refused}
+use Rattle.c_language.specs.Syntax.{CProgram}
+use Rattle.c_language.specs.Meaning.{is_outside, first_from, first_outside, outcome_at}
+use Rattle.c_language.specs.Meaning.Outcome.{Refused}
 use Rattle.c_program.specs.Laws.{IsCoordinateRefused}
 
 not_lt : (x y : ℤ) → int_lt x y ≡ false → y ≤ℤ x

@@ -18,14 +18,14 @@ use Rattle.fast_machine.specs.FastReady.{IsFastReady}
 use Rattle.fast_machine.proofs.WeightSums.{more_weights, weight_sum_law}
 use Rattle.fast_machine.proofs.FastRuns.{top_le, mean_up, mean_le}
 use Rattle.fast_machine.proofs.FastSums.{FastSumsFit, weights_with, tops_within}
-use Rattle.c_program.specs.Syntax.{Family, variable, bits_of, Expression, Statement}
-use Rattle.c_program.specs.Syntax.Family.{EntryBase, RowBase, Multiplier, Sum, Own, Reached, Weight, Divisor, Shift, Power, Doubling, Reciprocal, Numerator, Head, Rest}
-use Rattle.c_program.specs.Syntax.Expression.{Constant, Value, Plus, Minus, Times, Shifted}
-use Rattle.c_program.specs.Syntax.Statement.{Assign}
-use Rattle.c_program.specs.Meaning.{Environment, with_value}
+use Rattle.c_language.specs.Syntax.{Family, variable, bits_of, Expression, Statement}
+use Rattle.c_language.specs.Syntax.Family.{EntryBase, RowBase, Multiplier, Sum, Own, Reached, Weight, Divisor, Shift, Power, Doubling, Reciprocal, Numerator, Head, Rest}
+use Rattle.c_language.specs.Syntax.Expression.{Constant, Value, Plus, Minus, Times, Shifted}
+use Rattle.c_language.specs.Syntax.Statement.{Assign}
+use Rattle.c_language.specs.Meaning.{Environment, with_value}
 use Rattle.c_program.specs.Of.{multiplier_top, kind_for, has_short_divisor, is_quick, is_twice_quick}
 use Rattle.c_program.specs.FastOf.{fast_sizes, weight_value, weighted, divisor_statement, doubling_expression, scale_lines, scale_statements, numerator_expression, mean_expression, near_expression, rest_expression, quick_mean_statements, twice_mean_statements, mean_statements}
-use Rattle.c_program.proofs.Runs.{Runs, runs_none, held_new}
+use Rattle.c_language.proofs.Runs.{Runs, runs_none, held_new}
 use Rattle.c_program.proofs.Terms.{Makes, fits64, kind_fits, makes_same, makes_constant, makes_value, makes_plus, makes_minus, makes_multiplied, makes_over, makes_shifted, makes_shifted_by, sign_up, sign_down}
 use Rattle.c_program.proofs.Reciprocal.{quotient_is, at_most_quotient, short_reciprocal, IsNear, near_is, left_over, little_left, nearest, first_round, with_rest, rest_small}
 use Rattle.c_program.proofs.Parts.{Ready, entry_base, row_base}

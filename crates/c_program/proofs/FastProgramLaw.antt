@@ -14,11 +14,11 @@ use Rattle.overflow_check.specs.FastController.{IsFastController}
 use Rattle.fast_machine.proofs.WeightSums.{twice_weights}
 use Rattle.fast_machine.proofs.FastRuns.{grid_within, ready_law, fast_after_suc, fast_after_zero}
 use Rattle.fast_machine.proofs.FastSums.{FastSumsFit, fast_sums_fit}
-use Rattle.c_program.specs.Meaning.{Environment, first_outside}
+use Rattle.c_language.specs.Meaning.{Environment, first_outside}
 use Rattle.c_program.specs.Of.{entry_top, is_needed}
 use Rattle.c_program.specs.FastOf.{fast_sizes, fast_body, whole_fast_program, fast_program_of}
 use Rattle.c_program.specs.Laws.{inputs_of, SolvesTo, FastProgramLaw}
-use Rattle.c_program.proofs.Runs.{Runs}
+use Rattle.c_language.proofs.Runs.{Runs}
 use Rattle.c_program.proofs.Parts.{Ready}
 use Rattle.c_program.proofs.Before.{kinds, FastBegun, fast_before_runs}
 use Rattle.c_program.proofs.FastMeans.{FastHolds}

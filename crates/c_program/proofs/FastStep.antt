@@ -19,14 +19,14 @@ use Rattle.fast_machine.specs.FastReady.{LiesUpTo}
 use Rattle.fast_machine.proofs.WeightSums.{more_weights}
 use Rattle.fast_machine.proofs.FastRuns.{top_le, top_low, kept_up, mean_up, mean_le, moved_item, moved_long, added_item}
 use Rattle.fast_machine.proofs.FastSums.{weights_with, one_weight, weight_le}
-use Rattle.c_program.specs.Syntax.{variable, groups}
-use Rattle.c_program.specs.Syntax.Family.{EntryBase, Entry, Moved, Sum, Own, Reached, Weight, Shift, Power}
-use Rattle.c_program.specs.Syntax.Expression.{Constant}
-use Rattle.c_program.specs.Syntax.Statement.{Assign}
-use Rattle.c_program.specs.Meaning.{Environment, with_value}
+use Rattle.c_language.specs.Syntax.{variable, groups}
+use Rattle.c_language.specs.Syntax.Family.{EntryBase, Entry, Moved, Sum, Own, Reached, Weight, Shift, Power}
+use Rattle.c_language.specs.Syntax.Expression.{Constant}
+use Rattle.c_language.specs.Syntax.Statement.{Assign}
+use Rattle.c_language.specs.Meaning.{Environment, with_value}
 use Rattle.c_program.specs.Of.{entry_top, multiplier_top, difference_statements, entry_statements}
 use Rattle.c_program.specs.FastOf.{fast_sizes, weight_value, divisor_statement, scale_statements, mean_statements, weighted_sum_statements, fast_moved_expression, reached_expression, fast_move_statements, fast_row_statements, next_weight, fast_body}
-use Rattle.c_program.proofs.Runs.{Runs, runs_append, runs_groups, held_new}
+use Rattle.c_language.proofs.Runs.{Runs, runs_append, runs_groups, held_new}
 use Rattle.c_program.proofs.Terms.{Makes, fits64, kind_fits, makes_same, makes_constant, makes_value, makes_plus}
 use Rattle.c_program.proofs.Pairs.{AreMultipliers}
 use Rattle.c_program.proofs.Parts.{entry_base, IsPlanned, residual_made}

@@ -3,9 +3,9 @@ use Rattle.std.proofs.Common.{◌≡◌, pos, negsuc, [], ◌∷◌, refl}
 use Rattle.std.specs.Fmt.{digits}
 use Rattle.std.specs.Int.Count.{count_trailing_zeros}
 use Rattle.overflow_check.specs.FastMachine.{all_weights}
-use Rattle.c_program.specs.Syntax.{groups}
-use Rattle.c_program.specs.Meaning.{all_done, repeated, outcome_of, averages_of}
-use Rattle.c_program.specs.Meaning.Outcome.{Refused, Solved}
+use Rattle.c_language.specs.Syntax.{groups}
+use Rattle.c_language.specs.Meaning.{all_done, repeated, outcome_of, averages_of}
+use Rattle.c_language.specs.Meaning.Outcome.{Refused, Solved}
 use Rattle.c_program.specs.FastOf.{fast_program_of}
 use Rattle.c_program.specs.Of.{are_multiples, shared_bits, partner, is_first, is_second, any_below, is_row_needed, is_coordinate_needed, is_any_quick}
 use Rattle.c_program.specs.FastWorked.{fast, FastWorkedLines}

@@ -1,7 +1,6 @@
 -- The lemmas by topic.
 
 -- ---- statements and expressions
-pub mod Runs
 pub mod Terms
 pub mod Lowering
 pub mod Reciprocal
@@ -17,21 +16,12 @@ pub mod FastMeans
 pub mod FastStep
 pub mod Box
 pub mod Rounding
-pub mod LeftIn
 pub mod ProgramNeeds
 pub mod Solving
 pub mod ProgramLaw
 pub mod FastProgramLaw
 -- ---- the text
-pub mod Lists
-pub mod Rooms
-pub mod Held
-pub mod Texts
-pub mod Reading
-pub mod Statements
-pub mod ProgramTexts
 pub mod ShortTexts
-pub mod QuickTexts
 -- ---- a worked program
 pub mod Worked
 pub mod FastWorked

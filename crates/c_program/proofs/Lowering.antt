@@ -9,9 +9,9 @@ use Rattle.integer_algebra.specs.Sums.{at}
 use Rattle.integer_algebra.proofs.Quoting.{by_ring, quotes}
 use Rattle.integer_algebra.proofs.DivisionLaws.{floor_of_is, floor_unique}
 use Rattle.integer_algebra.proofs.RingLaws.{neg-mul_z}
-use Rattle.c_program.specs.Syntax.{Variable}
-use Rattle.c_program.specs.Syntax.Expression.{Value, Shifted}
-use Rattle.c_program.specs.Meaning.{Environment}
+use Rattle.c_language.specs.Syntax.{Variable}
+use Rattle.c_language.specs.Syntax.Expression.{Value, Shifted}
+use Rattle.c_language.specs.Meaning.{Environment}
 use Rattle.c_program.specs.Of.{are_multiples, shared_bits, lowered_value}
 use Rattle.c_program.proofs.Terms.{Makes, makes_same, makes_shifted}
 

@@ -17,8 +17,8 @@ use Rattle.qp_model.specs.machine.Controller.{Numbers}
 use Rattle.qp_model.specs.machine.Machine.{exponent_of, lowering_of, top_of, raised}
 use Rattle.qp_model.specs.machine.AbsoluteSums.{weighted_abs_sum, clamp_magnitudes}
 use Rattle.qp_model.proofs.MagnitudeLaws.{AreUpToTops}
-use Rattle.c_program.specs.Syntax.Family.{Multiplier, Difference}
-use Rattle.c_program.specs.Meaning.{Environment, held}
+use Rattle.c_language.specs.Syntax.Family.{Multiplier, Difference}
+use Rattle.c_language.specs.Meaning.{Environment, held}
 use Rattle.c_program.specs.Of.{are_negated, are_opposed, first_opposed, partner, is_first, is_second, gain_of, gain_variable, multiplier_top}
 use Rattle.c_program.proofs.Amounts.{raised_total, raised_amount}
 

@@ -23,10 +23,10 @@ use Rattle.qp_model.proofs.AbsoluteLaws.{abs-shifted, abs-neg, abs-row_le, abs-f
 use Rattle.qp_model.proofs.MagnitudeLaws.{AreUpToTops, top_le_clamp, raised_within, plan_within}
 use Rattle.overflow_check.proofs.SumLaws.{SumsFit, row_le}
 use Rattle.overflow_check.proofs.Sizes.{length-plan_reach}
-use Rattle.c_program.specs.Syntax.{variable, Expression}
-use Rattle.c_program.specs.Syntax.Family.{Loaded, EntryBase, RowBase, Multiplier, Entry, Gradient, RowSum}
-use Rattle.c_program.specs.Syntax.Expression.{Constant, Value, Plus, Minus}
-use Rattle.c_program.specs.Meaning.{Environment}
+use Rattle.c_language.specs.Syntax.{variable, Expression}
+use Rattle.c_language.specs.Syntax.Family.{Loaded, EntryBase, RowBase, Multiplier, Entry, Gradient, RowSum}
+use Rattle.c_language.specs.Syntax.Expression.{Constant, Value, Plus, Minus}
+use Rattle.c_language.specs.Meaning.{Environment}
 use Rattle.c_program.specs.Of.{state_top, multiplier_top, entry_top, plus_products, partner, is_first, is_second, gain_of, gain_variable, row_bits, plan_factor, row_top, lowered_value, lowered_base, plus_plan, row_expression, entry_expression, moved_expression}
 use Rattle.c_program.proofs.Terms.{Makes, makes_same, makes_constant, makes_value, makes_plus, makes_minus, abs-sub_le, makes_shifted, makes_products, short_shift}
 use Rattle.c_program.proofs.Amounts.{weighted_is, plain_total, scaled_total, scaled_amount}

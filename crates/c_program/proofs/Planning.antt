@@ -11,13 +11,13 @@ use Rattle.qp_model.specs.machine.Machine.{raised, plan_entry, plan_of}
 use Rattle.qp_model.specs.machine.AbsoluteSums.{row_absolute_sum}
 use Rattle.qp_model.specs.machine.ValuesMet.{FitsWidth}
 use Rattle.qp_model.proofs.MagnitudeLaws.{top_le_clamp, raised_within, plan_within}
-use Rattle.c_program.specs.Syntax.{Variable, variable, Kind, bits_of, Expression, Statement, groups}
-use Rattle.c_program.specs.Syntax.Family.{EntryBase, RowBase, Multiplier, Difference, Entry, Gradient, RowSum}
-use Rattle.c_program.specs.Syntax.Expression.{Constant, Value, Minus}
-use Rattle.c_program.specs.Syntax.Statement.{Declare, Assign, AtLeastZero, AtMost}
-use Rattle.c_program.specs.Meaning.{Environment, held, with_value, value, done}
+use Rattle.c_language.specs.Syntax.{Variable, variable, Kind, bits_of, Expression, Statement, groups}
+use Rattle.c_language.specs.Syntax.Family.{EntryBase, RowBase, Multiplier, Difference, Entry, Gradient, RowSum}
+use Rattle.c_language.specs.Syntax.Expression.{Constant, Value, Minus}
+use Rattle.c_language.specs.Syntax.Statement.{Declare, Assign, AtLeastZero, AtMost}
+use Rattle.c_language.specs.Meaning.{Environment, held, with_value, value, done}
 use Rattle.c_program.specs.Of.{Sizes, entry_top, multiplier_top, partner, is_first, plus_plan, difference_statements, entry_statements, gradient_statements, row_top, row_expression, row_sum_statements}
-use Rattle.c_program.proofs.Runs.{Runs, runs_none, runs_first, runs_append, runs_groups, held_new}
+use Rattle.c_language.proofs.Runs.{Runs, runs_none, runs_first, runs_append, runs_groups, held_new}
 use Rattle.c_program.proofs.Terms.{Makes, fits64, kind_fits, kind_holds, makes_value, makes_minus}
 use Rattle.c_program.proofs.Pairs.{AreMultipliers, pair_there, difference_le}
 use Rattle.c_program.proofs.Parts.{Ready, entry_base, row_base, entry_made, entry_le, IsPlanned, AreShared, lowered_dot, gradient_made, lowered_sum, row_made, row_within}

@@ -16,10 +16,10 @@ use Rattle.qp_model.specs.machine.AbsoluteSums.{IsController}
 use Rattle.qp_model.proofs.MagnitudeLaws.{state_within, after_tops, zeros_at, top_nonneg}
 use Rattle.overflow_check.proofs.SumLaws.{sums_fit}
 use Rattle.overflow_check.proofs.Runs.{after_sums_le, after_sums_length, after_suc, after_zero}
-use Rattle.c_program.specs.Meaning.{Environment, first_outside}
+use Rattle.c_language.specs.Meaning.{Environment, first_outside}
 use Rattle.c_program.specs.Of.{plain_sizes, entry_top, repetition_body, program_of, is_needed, whole_program}
 use Rattle.c_program.specs.Laws.{inputs_of, SolvesTo, ProgramLaw}
-use Rattle.c_program.proofs.Runs.{Runs}
+use Rattle.c_language.proofs.Runs.{Runs}
 use Rattle.c_program.proofs.Parts.{Ready}
 use Rattle.c_program.proofs.Before.{kinds, Begins, before_runs}
 use Rattle.c_program.proofs.Step.{StepReady, Holds, body_runs}

@@ -6,21 +6,20 @@ use Rattle.mat_int.specs.Matrix.{row_of}
 use Rattle.qp_model.specs.machine.Controller.{Numbers}
 use Rattle.qp_model.specs.machine.Machine.{lowering_of}
 use Rattle.qp_model.proofs.AbsoluteLaws.{abs-neg, abs-shifted}
-use Rattle.c_program.specs.Syntax.{Variable, variable, Expression, Statement, groups}
-use Rattle.c_program.specs.Syntax.Family.{Loaded, EntryBase, RowBase, Multiplier, Difference, Entry, Gradient, RowSum, Sum, Own, Reached}
-use Rattle.c_program.specs.Syntax.Expression.{Constant, Value, Plus, Minus, Times, Shifted}
-use Rattle.c_program.specs.Syntax.Statement.{Declare, Assign}
-use Rattle.c_program.specs.Meaning.{variable_of}
-use Rattle.c_program.specs.Needed.{left_in}
+use Rattle.c_language.specs.Syntax.{Variable, variable, Expression, Statement, groups}
+use Rattle.c_language.specs.Syntax.Family.{Loaded, EntryBase, RowBase, Multiplier, Difference, Entry, Gradient, RowSum, Sum, Own, Reached}
+use Rattle.c_language.specs.Syntax.Expression.{Constant, Value, Plus, Minus, Times, Shifted}
+use Rattle.c_language.specs.Syntax.Statement.{Declare, Assign}
+use Rattle.c_language.specs.Meaning.{variable_of}
+use Rattle.c_language.specs.Needed.{left_in}
 use Rattle.c_program.specs.Of.{state_top, multiplier_top, entry_top, plus_products, partner, is_first, is_second, loaded_statements, entry_base_statements, row_base_statements, zero_statements, before_of, difference_statements, gain_of, gain_variable, entry_statements, sum_statements, row_bits, plan_factor, lowered_value, lowered_base, plus_plan, gradient_statements, row_expression, row_sum_statements, move_statements, row_statements, repetition_body, any_below, is_product, is_row_needed, is_coordinate_needed, has_short_divisor, is_quick, is_twice_quick, is_any_quick, is_needed, whole_program}
 use Rattle.c_program.specs.FastOf.{first_weight, first_scale_lines, first_scale, fast_before_of, divisor_statement, scale_lines, scale_statements, mean_expression, quick_mean_statements, twice_mean_statements, mean_statements, weighted_sum_statements, fast_move_statements, fast_row_statements, next_weight, fast_body, whole_fast_program}
 use Rattle.overflow_check.specs.FastMachine.{fast_top}
 use Rattle.overflow_check.specs.declared.machine.Machine.{Machine}
 use Rattle.overflow_check.specs.declared.machine.Machine.TheVariants.{Plain, Accelerated}
 use Rattle.c_program.specs.ByMachine.{sum_for, row_for, start_for, means_for, step_for, next_for, before_for, body_for}
-use Rattle.c_program.proofs.Lists.{row_needed, coordinate_needed}
 use Rattle.c_program.proofs.Pairs.{IsPair, pair_there, later_there, same_top}
-use Rattle.c_program.proofs.LeftIn.{ReadsNeeded, AreClosed, IsClosed, AreNeeded, closed_append, closed_groups, left_in_append, whole_groups}
+use Rattle.c_language.proofs.LeftIn.{ReadsNeeded, AreClosed, IsClosed, AreNeeded, closed_append, closed_groups, left_in_append, whole_groups}
 
 -- ---- one of many
 or_first : (a b : Bool) → a ≡ true → (a || b) ≡ true
@@ -62,6 +61,16 @@ any_same f g (suc n) h =
     (λ i. rest i || last i)
 
 -- ---- what is needed
+pub row_needed : (c : Numbers) (i : ℕ) → is_row_needed c i ≡ any_below (λ j. is_product (at (row_of c.dual_gains j) i) (multiplier_top c i)) (length c.offsets)
+unfolding is_row_needed
+row_needed c i = refl
+
+pub coordinate_needed : (c : Numbers) (k : ℕ) → is_coordinate_needed c k ≡
+    (any_below (λ j. is_product (at (row_of c.state_gains j) k) (state_top c k)) (length c.offsets)
+    || any_below (λ i. is_row_needed c i && is_product (at (row_of c.state_rows i) k) (state_top c k)) (length c.bounds))
+unfolding is_coordinate_needed
+coordinate_needed c k = refl
+
 -- a pair's rows both are
 pair_needed : (c : Numbers) (i k : ℕ) → IsPair c i k → is_row_needed c i ≡ is_row_needed c k
 pair_needed c i k p =

@@ -8,9 +8,9 @@ use Rattle.integer_algebra.specs.Division.{floor_of, round_of}
 use Rattle.integer_algebra.proofs.DivisionLaws.{floor_of_is, floor_unique}
 use Rattle.integer_algebra.proofs.OrderLaws.{le_by, lt_by}
 use Rattle.integer_algebra.proofs.Quoting.{by_ring, quotes}
-use Rattle.c_program.specs.Syntax.{Expression}
-use Rattle.c_program.specs.Syntax.Expression.{Constant, Times, Quotient, Remainder}
-use Rattle.c_program.specs.Meaning.{Environment, value}
+use Rattle.c_language.specs.Syntax.{Expression}
+use Rattle.c_language.specs.Syntax.Expression.{Constant, Times, Quotient, Remainder}
+use Rattle.c_language.specs.Meaning.{Environment, value}
 use Rattle.c_program.specs.Of.{shifted_average, divided_average}
 use Rattle.c_program.proofs.Terms.{Makes, fits64, makes_same, makes_constant, makes_plus, makes_minus, makes_shifted, abs-sub_le, sign_up, sign_down}
 

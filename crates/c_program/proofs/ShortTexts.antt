@@ -17,18 +17,19 @@ use Rattle.overflow_check.specs.FastMachine.{all_weights, fast_top}
 use Rattle.overflow_check.specs.FastController.{with_last_version}
 use Rattle.overflow_check.specs.declared.machine.Machine.TheVariants.{Plain}
 use Rattle.overflow_check.proofs.Machines.{shared}
-use Rattle.c_program.specs.Syntax.{Family, Variable, variable, Kind, Expression, Statement, groups, CProgram}
-use Rattle.c_program.specs.Syntax.Family.{Loaded, RowBase, Multiplier, Entry, RowSum, Moved, Sum, Output, Own, Reached}
-use Rattle.c_program.specs.Syntax.Expression.{Constant, Value, Plus, Minus, Times, Quotient, Remainder, Over, Shifted, ShiftedBy}
-use Rattle.c_program.specs.Syntax.Statement.{Declare, Assign, AtLeastZero, AtMost}
-use Rattle.c_program.specs.Meaning.{Environment, IsDefined, variable_of, done, IsDone, AreDone, handed}
-use Rattle.c_program.specs.Needed.{left_in, needed_part}
+use Rattle.c_language.specs.Syntax.{Family, Variable, variable, Kind, Expression, Statement, groups, CProgram}
+use Rattle.c_language.specs.Syntax.Family.{Loaded, RowBase, Multiplier, Entry, RowSum, Moved, Sum, Output, Own, Reached}
+use Rattle.c_language.specs.Syntax.Expression.{Constant, Value, Plus, Minus, Times, Quotient, Remainder, Over, Shifted, ShiftedBy}
+use Rattle.c_language.specs.Syntax.Statement.{Declare, Assign, AtLeastZero, AtMost}
+use Rattle.c_language.specs.Meaning.{Environment, IsDefined, variable_of, done, IsDone, AreDone, handed}
+use Rattle.c_language.specs.Needed.{left_in, needed_part}
 use Rattle.c_program.specs.Of.{state_top, multiplier_top, entry_top, row_bits, plan_factor, lowered_base, plus_plan, partner, is_first, is_second, loaded_statements, entry_base_statements, row_base_statements, zero_statements, before_of, difference_statements, gain_of, gain_variable, entry_statements, sum_statements, gradient_statements, row_expression, row_sum_statements, moved_expression, move_statements, row_statements, repetition_body, average_of, shifted_average, divided_average, has_short_divisor, is_quick, is_twice_quick, is_needed}
 use Rattle.c_program.specs.FastOf.{first_weight, first_scale_lines, first_scale, fast_before_of, divisor_statement, scale_lines, scale_statements, mean_expression, quick_mean_statements, twice_mean_statements, mean_statements, weighted_sum_statements, fast_moved_expression, reached_expression, fast_move_statements, fast_row_statements, next_weight, fast_body}
-use Rattle.c_program.specs.Laws.{HasShortNumbers, HasShortOperands, HasShortText, SolvesTo, ShortTextLaw, FastShortTextLaw, ProgramLaw, FastProgramLaw}
-use Rattle.c_program.proofs.Runs.{groups_none, groups_more}
+use Rattle.c_language.specs.Laws.{HasShortNumbers, HasShortOperands, HasShortText}
+use Rattle.c_program.specs.Laws.{SolvesTo, ShortTextLaw, FastShortTextLaw, ProgramLaw, FastProgramLaw}
+use Rattle.c_language.proofs.Runs.{groups_none, groups_more}
 use Rattle.c_program.proofs.Pairs.{pair_there, later_there}
-use Rattle.c_program.proofs.LeftIn.{ReadsNeeded}
+use Rattle.c_language.proofs.LeftIn.{ReadsNeeded}
 use Rattle.c_program.proofs.ProgramNeeds.{products_need, lowered_needs}
 
 -- ---- what C defines has short constants

@@ -16,18 +16,18 @@ use Rattle.integer_algebra.specs.Sums.{at}
 use Rattle.qp_model.specs.machine.Controller.{Numbers}
 use Rattle.qp_model.specs.machine.Machine.{IsAdmissible}
 use Rattle.qp_model.specs.machine.ValuesMet.{FitsWidth}
-use Rattle.c_program.specs.Syntax.{Variable, variable, Expression, CProgram}
-use Rattle.c_program.specs.Syntax.Family.{Sum, Output}
-use Rattle.c_program.specs.Syntax.Expression.{Value}
-use Rattle.c_program.specs.Meaning.{Environment, held, value, IsDefined, all_done, begun, after_rounds, outcome_at, first_outside, handed, IsDefinedRun}
-use Rattle.c_program.specs.Meaning.Outcome.{Solved}
-use Rattle.c_program.specs.Needed.{needed_part}
+use Rattle.c_language.specs.Syntax.{Variable, variable, Expression, CProgram}
+use Rattle.c_language.specs.Syntax.Family.{Sum, Output}
+use Rattle.c_language.specs.Syntax.Expression.{Value}
+use Rattle.c_language.specs.Meaning.{Environment, held, value, IsDefined, all_done, begun, after_rounds, outcome_at, first_outside, handed, IsDefinedRun}
+use Rattle.c_language.specs.Meaning.Outcome.{Solved}
+use Rattle.c_language.specs.Needed.{needed_part}
 use Rattle.c_program.specs.Of.{shifted_average, divided_average, average_of}
 use Rattle.c_program.specs.Laws.{inputs_of, SolvesTo}
-use Rattle.c_program.proofs.Runs.{Runs, repeats}
+use Rattle.c_language.proofs.Runs.{Runs, repeats}
 use Rattle.c_program.proofs.Terms.{Makes, makes_same, makes_value}
 use Rattle.c_program.proofs.Rounding.{shifted_made, divided_made}
-use Rattle.c_program.proofs.LeftIn.{IsClosed, AreNeeded, rounds_agree, part_defined, outputs_agree}
+use Rattle.c_language.proofs.LeftIn.{IsClosed, AreNeeded, rounds_agree, part_defined, outputs_agree}
 
 -- ---- the state
 -- each number of it can be handed in

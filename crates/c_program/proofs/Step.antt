@@ -9,12 +9,12 @@ use Rattle.qp_model.specs.machine.Machine.{Iterate, raised, top_of, plan_entry, 
 use Rattle.qp_model.specs.machine.AbsoluteSums.{next_magnitude, sum_magnitude}
 use Rattle.qp_model.proofs.AbsoluteLaws.{abs-clamped_le}
 use Rattle.qp_model.proofs.MagnitudeLaws.{top_nonneg, top_le_clamp}
-use Rattle.c_program.specs.Syntax.{variable, groups}
-use Rattle.c_program.specs.Syntax.Family.{EntryBase, RowBase, Multiplier, Entry, Moved, Sum}
-use Rattle.c_program.specs.Syntax.Expression.{Value}
-use Rattle.c_program.specs.Meaning.{Environment}
+use Rattle.c_language.specs.Syntax.{variable, groups}
+use Rattle.c_language.specs.Syntax.Family.{EntryBase, RowBase, Multiplier, Entry, Moved, Sum}
+use Rattle.c_language.specs.Syntax.Expression.{Value}
+use Rattle.c_language.specs.Meaning.{Environment}
 use Rattle.c_program.specs.Of.{plain_sizes, entry_top, multiplier_top, moved_expression, entry_statements, sum_statements, move_statements, row_statements, repetition_body}
-use Rattle.c_program.proofs.Runs.{Runs, runs_none, runs_append, runs_groups}
+use Rattle.c_language.proofs.Runs.{Runs, runs_none, runs_append, runs_groups}
 use Rattle.c_program.proofs.Terms.{fits64, kind_fits, makes_value, makes_plus}
 use Rattle.c_program.proofs.Pairs.{AreMultipliers}
 use Rattle.c_program.proofs.Parts.{Ready, entry_base, row_base, IsPlanned, moved_made}

@@ -10,10 +10,10 @@ use Rattle.mat_int.proofs.Dots.{abs-add_le}
 use Rattle.qp_model.specs.machine.ValuesMet.{FitsWidth}
 use Rattle.qp_model.proofs.AbsoluteLaws.{abs-floor_le}
 use Rattle.overflow_check.proofs.ValuesMet.{fits_width}
-use Rattle.c_program.specs.Syntax.{Variable, bits_of, Expression}
-use Rattle.c_program.specs.Syntax.Kind.{Narrow, Wide}
-use Rattle.c_program.specs.Syntax.Expression.{Constant, Value, Plus, Minus, Times, Over, Shifted, ShiftedBy}
-use Rattle.c_program.specs.Meaning.{Environment, held, value, IsDefined}
+use Rattle.c_language.specs.Syntax.{Variable, bits_of, Expression}
+use Rattle.c_language.specs.Syntax.Kind.{Narrow, Wide}
+use Rattle.c_language.specs.Syntax.Expression.{Constant, Value, Plus, Minus, Times, Over, Shifted, ShiftedBy}
+use Rattle.c_language.specs.Meaning.{Environment, held, value, IsDefined}
 use Rattle.c_program.specs.Of.{kind_for, plus_product, plus_products}
 
 pub record Makes (e : Environment) (a : Expression) (z : ℤ) (most : ℕ) : Type 0 where

@@ -6,11 +6,11 @@ use Rattle.qp_model.specs.machine.Machine.{top_of}
 use Rattle.overflow_check.specs.FastMachine.{all_weights, fast_top}
 use Rattle.overflow_check.specs.declared.machine.Machine.{Machine}
 use Rattle.overflow_check.specs.declared.machine.Machine.TheVariants.{Plain, Accelerated}
-use Rattle.c_program.specs.Syntax.{Family, Variable, variable, Kind, Expression, Statement, groups, CProgram}
-use Rattle.c_program.specs.Syntax.Family.{Multiplier, Entry, RowSum, Moved, Sum, Own, Reached}
-use Rattle.c_program.specs.Syntax.Expression.{Value, Plus}
-use Rattle.c_program.specs.Syntax.Statement.{Declare, Assign, AtLeastZero, AtMost}
-use Rattle.c_program.specs.Needed.{left_in}
+use Rattle.c_language.specs.Syntax.{Family, Variable, variable, Kind, Expression, Statement, groups, CProgram}
+use Rattle.c_language.specs.Syntax.Family.{Multiplier, Entry, RowSum, Moved, Sum, Own, Reached}
+use Rattle.c_language.specs.Syntax.Expression.{Value, Plus}
+use Rattle.c_language.specs.Syntax.Statement.{Declare, Assign, AtLeastZero, AtMost}
+use Rattle.c_language.specs.Needed.{left_in}
 use Rattle.c_program.specs.Of.{Sizes, plain_sizes, kind_by, row_bits, lowered_value, zero_statements, before_of, difference_statements, entry_statements, gradient_statements, row_sum_statements, repetition_body, average_of, is_needed}
 use Rattle.c_program.specs.FastOf.{fast_sizes, first_weight, first_scale, fast_before_of, weighted, divisor_statement, scale_statements, mean_statements, reached_expression, next_weight, fast_body}
 

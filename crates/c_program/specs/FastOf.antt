@@ -4,11 +4,11 @@ use Rattle.std.specs.List.{range_with_len}
 use Rattle.qp_model.specs.machine.Controller.{Numbers}
 use Rattle.overflow_check.specs.FastMachine.{all_weights, mean_divisor, fast_top}
 use Rattle.overflow_check.specs.FastController.{moved_magnitude, reached_magnitude, fast_sum_magnitude}
-use Rattle.c_program.specs.Syntax.{Family, variable, Expression, Statement, groups, CProgram}
-use Rattle.c_program.specs.Needed.{needed_part}
-use Rattle.c_program.specs.Syntax.Family.{Multiplier, Entry, RowSum, Moved, Sum, Own, Reached, Weight, Divisor, Shift, Power, Doubling, Reciprocal, Numerator, Head, Rest}
-use Rattle.c_program.specs.Syntax.Expression.{Constant, Value, Plus, Minus, Times, Over, Shifted, ShiftedBy}
-use Rattle.c_program.specs.Syntax.Statement.{Declare, Assign, AtLeastZero, AtMost}
+use Rattle.c_language.specs.Syntax.{Family, variable, Expression, Statement, groups, CProgram}
+use Rattle.c_language.specs.Needed.{needed_part}
+use Rattle.c_language.specs.Syntax.Family.{Multiplier, Entry, RowSum, Moved, Sum, Own, Reached, Weight, Divisor, Shift, Power, Doubling, Reciprocal, Numerator, Head, Rest}
+use Rattle.c_language.specs.Syntax.Expression.{Constant, Value, Plus, Minus, Times, Over, Shifted, ShiftedBy}
+use Rattle.c_language.specs.Syntax.Statement.{Declare, Assign, AtLeastZero, AtMost}
 use Rattle.c_program.specs.Of.{Sizes, kind_by, lowered_value, row_bits, zero_statements, before_of, difference_statements, entry_statements, gradient_statements, row_sum_statements, average_of, has_short_divisor, is_quick, is_twice_quick, is_needed}
 
 -- ---- what the variables are at most in absolute value

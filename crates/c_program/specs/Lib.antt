@@ -1,12 +1,6 @@
-pub mod Syntax
-pub mod Meaning
-pub mod Needed
 pub mod Of
 pub mod FastOf
 pub mod ByMachine
-pub mod Text
 pub mod Laws
 pub mod Worked
 pub mod FastWorked
-pub mod Terms
-pub mod Measured

@@ -2,7 +2,7 @@
 use Rattle.std.specs.Prelude.{◌≡◌, ℕ, pos, negsuc, List, [], ◌∷◌, codes}
 use Rattle.qp_model.specs.machine.Controller.{Numbers}
 use Rattle.c_program.specs.Of.{program_of}
-use Rattle.c_program.specs.Text.{program_lines}
+use Rattle.c_language.specs.Text.{program_lines}
 
 abbrev pub first : Numbers
 first = record {

@@ -1,5 +1,5 @@
 // What the program of a controller does.
-ghost use Rattle.c_program.specs.Laws.{ExpressionTextLaw, FastProgramLaw, FastShortTextLaw, ProgramLaw, ProgramTextLaw, ShortTextLaw, StatementTextLaw};
+ghost use Rattle.c_program.specs.Laws.{FastProgramLaw, FastShortTextLaw, ProgramLaw, ShortTextLaw};
 ghost use Rattle.c_program.specs.Worked.{WorkedLines};
 ghost use Rattle.c_program.specs.FastWorked.{FastWorkedLines};
 
@@ -12,22 +12,6 @@ pub fn program_law()
 /// That of an accelerated controller of at most 64 bits does the same of its machine, whose averaged plan is by the weights.
 pub fn fast_program_law()
     ensures { FastProgramLaw }
-{}
-
-/// Two expressions never have one text.
-pub fn expression_text_law()
-    ensures { ExpressionTextLaw }
-{}
-
-/// Two statements never have one text.
-pub fn statement_text_law()
-    ensures { StatementTextLaw }
-{}
-
-/// Two programs never have one text, nor one program under two names: from a text the name, the box, the statements with the types that they are written with, the repetitions,
-/// the outputs and the averages can be told.
-pub fn program_text_law()
-    ensures { ProgramTextLaw }
 {}
 
 /// Each number in the text of a controller's program is below 2^64, so that the program can be told from its text.

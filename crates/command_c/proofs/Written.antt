@@ -9,7 +9,7 @@ use Rattle.overflow_check.specs.declared.machine.Machine.TheVariants.{Accelerate
 use Rattle.c_program.specs.Of.{program_of}
 use Rattle.c_program.specs.FastOf.{fast_program_of}
 use Rattle.c_program.specs.ByMachine.{program_for}
-use Rattle.c_program.specs.Text.{header_text}
+use Rattle.c_language.specs.Text.{header_text}
 use Rattle.c_program.proofs.ProgramLaw.{program_law}
 use Rattle.c_program.proofs.FastProgramLaw.{fast_program_law}
 use Rattle.controller_file.specs.AnyText.{any_numbers, IsAnyControllerText}

@@ -2,10 +2,10 @@
 use Rattle.std.specs.Prelude.{◌≡◌, ◌≢◌, ◌⊎◌, ℕ, ◌≤◌, ◌<◌, List, Option, Some}
 use Rattle.io_edge.specs.Faults.{Files}
 use Rattle.qp_model.specs.machine.Controller.{Numbers}
-use Rattle.c_program.specs.Syntax.{CProgram}
+use Rattle.c_language.specs.Syntax.{CProgram}
 use Rattle.c_program.specs.Of.{program_of}
 use Rattle.c_program.specs.FastOf.{fast_program_of}
-use Rattle.c_program.specs.Text.{program_text, header_text}
+use Rattle.c_language.specs.Text.{program_text, header_text}
 use Rattle.c_program.specs.Laws.{IsProgram, IsFastProgram}
 use Rattle.controller_file.specs.AnyText.{any_numbers}
 use Rattle.controller_file.specs.declared.any_controller.AnyController.{AnyController}

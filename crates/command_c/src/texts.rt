@@ -1,13 +1,13 @@
 // The texts that are written.
 ghost use Rattle.std.specs.Prelude.{◌≡◌, ◌≤◌, IfOk, IfErr, string_bytes};
 ghost use Rattle.qp_model.specs.machine.Controller.{numbers};
-ghost use Rattle.c_program.specs.Text.{program_text};
+ghost use Rattle.c_language.specs.Text.{program_text};
 ghost use Rattle.controller_file.specs.AnyText.{any_numbers};
 ghost use Rattle.command_line.specs.Answers.{IsAnswer};
 ghost use Rattle.command_line.specs.TwoTexts.{IsUnmade};
 ghost use Rattle.command_c.specs.Compiled.{program_width, any_program, ProgramCalls, AreProgramTexts};
 
-use c_program::{write_fast_program, write_header, write_program};
+use c_writer::{write_fast_program, write_header, write_program};
 use command_line::{Status, Texts};
 use controller_file::AnyController;
 use qp_model::ControllerParts;

@@ -1,5 +1,5 @@
 // The text of a worked controller's program, line by line.
-use c_program::{write_header, write_program};
+use c_writer::{write_header, write_program};
 use std::alloc::{AllocError, Global};
 use std::test::Fail;
 use trials_worked_controllers::controller;

@@ -1,5 +1,5 @@
 use Rattle.std.proofs.Common.{◌≡◌, IfOk, string_bytes, sym, subst}
-use Rattle.c_program.specs.Text.{program_text}
+use Rattle.c_language.specs.Text.{program_text}
 use Rattle.controller_file.specs.declared.any_controller.AnyController.{AnyController}
 use Rattle.command_c.specs.Compiled.{any_program}
 use Rattle.command_c.proofs.texts.source_of.Goals as goal

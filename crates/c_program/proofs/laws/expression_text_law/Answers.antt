@@ -1,5 +1,0 @@
-use Rattle.c_program.proofs.Reading as reading
-use Rattle.c_program.proofs.laws.expression_text_law.Goals as goal
-
-pub returns : goal.returns
-returns c = reading.expression_text_law

@@ -1,7 +1,0 @@
-use Rattle.std.proofs.Common.{◌≡◌, take}
-use Rattle.qp_model.specs.machine.Controller.{numbers}
-use Rattle.c_program.specs.Terms.{partners_of}
-use Rattle.c_program.proofs.opposite.partners.Given as goal
-
-abbrev pub invariant-loop-i : goal.invariant-loop-i
-invariant-loop-i l = l.partners.items ≡ take l.i (partners_of (numbers l.c))

@@ -1,8 +1,0 @@
-use Rattle.std.proofs.Common.{◌∙◌, ap}
-use Rattle.qp_model.specs.machine.Controller.{Numbers}
-use Rattle.c_program.specs.Of.{program_of}
-use Rattle.c_program.specs.Text.{program_text}
-use Rattle.c_program.proofs.writer.write_program.Goals as goal
-
-pub returns : goal.returns
-returns c = c.in_ok-text.ensures ∙ ap (λ (n : Numbers). program_text c.args.name.now (program_of n)) c.parts.ensures.value

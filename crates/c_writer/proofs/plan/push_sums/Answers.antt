@@ -1,0 +1,16 @@
+use Rattle.std.proofs.Common.{string_bytes, codes}
+use Rattle.qp_model.specs.machine.Controller.{numbers}
+use Rattle.c_program.specs.ByMachine.{sum_for}
+use Rattle.c_writer.specs.Measured.{kinds_in}
+use Rattle.c_writer.proofs.Texts.{block_none, block_more}
+use Rattle.c_writer.proofs.plan.push_sums.Goals as goal
+
+pub loop-j-init : goal.loop-j-init
+loop-j-init c =
+    let n = numbers c.args.from.now.c.now in
+    block_none (kinds_in c.args.from.now) (codes "        ") (sum_for c.args.from.now.machine) (string_bytes c.args.text.now)
+
+pub loop-j-preserved : goal.loop-j-preserved
+loop-j-preserved c =
+    let n = numbers c.args.from.now.c.now in
+    block_more (kinds_in c.args.from.now) (codes "        ") (sum_for c.args.from.now.machine) c.loop-j.j (string_bytes c.args.text.now) (string_bytes c.loop-j.text) (string_bytes c.push_sum.new.text) c.loop-j.invariant c.in_ok-push_sum.ensures

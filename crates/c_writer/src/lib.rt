@@ -1,0 +1,23 @@
+//! The text of a controller's program.
+#![tactic(auto)]
+
+mod averages;
+mod ending;
+mod header;
+mod lines;
+mod means;
+mod measured;
+mod needed;
+mod opposite;
+mod plan;
+mod quick;
+mod rows;
+mod shared;
+mod start;
+mod sums;
+mod tops;
+mod words;
+mod writer;
+
+pub use header::write_header;
+pub use writer::{write_fast_program, write_program};
