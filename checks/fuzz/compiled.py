@@ -1,6 +1,6 @@
 """An independent model of the program that `c` writes: the source and the header of a controller of at most 64 bits, in C99.
 
-All in exact whole numbers, by the definitions of crates/c_program/specs (`Of`, `FastOf`, `Needed` and `Text`), and with no code of the program's. An expression is a pair of its text and of
+All in exact whole numbers, by the definitions of crates/c_program/specs (`Of`, `FastOf`) and crates/c_language/specs (`Needed`, `Text`), and with no code of the program's. An expression is a pair of its text and of
 whether it is a sum, which stands in parentheses where it is an operand of a product or the second of a sum.
 """
 import re
