@@ -1,6 +1,6 @@
 """Exponents of the step and of the rows, by the model in checks/fuzz: of the exact numbers, or of enclosures where a quantity of the exact ones is above 2^126.
 
-    python3 -m bench.curvature.exponents            prints what the tests of `trials_gain` expect
+    python3 -m bench.curvature.exponents            prints what the tests of `trials_engine` expect
     python3 -m bench.curvature.exponents DESIGN     prints the exponents of a design text, and those of its rows
 
 Roots of small matrices, and what a root shows of one, are computed here from the definitions alone.

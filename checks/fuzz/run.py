@@ -9,7 +9,7 @@ product and partial sum traced, and all must fit its width; but a run of many st
 
 A case is made of the seed and its number alone. --case runs one again and shows it; --kind makes all cases of that kind: generate, lean, border, stay, lean_stay, solve,
 controller, loop, settle, list, play, split, serve, demo, usage; or accelerated: these on texts of version 3. Of the kinds `stay` and `lean_stay` the first are the worked rows of `stay` that are accepted. Designs are of
-all versions; how many of version 2 were accepted, and how many of them have a row with a smaller exponent, the last line says. With --table, faces, disturbances, cuts, policies (those of
+all versions; how many of version 2 were accepted, and how many of them have a row with a smaller exponent, the last line says. With --table, controllers, faces, disturbances, cuts, policies (those of
 cells), cells or listings, the cases are worked texts of that kind, each cut after every one of its bytes, and with every byte replaced by a space, `-`, `0` and `9`. A border
 design's exact numbers, its enclosures, the corners of its policy in either class, or what its rows come to where they count 16 times, pass the limit by little or stay
 below it by little. Of each, the model's exact numbers must be the simulated plant's, its enclosures must hold them, no corner may have less slack or a greater cost than

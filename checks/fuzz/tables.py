@@ -89,12 +89,18 @@ def cells() -> list[Text]:
     return [Text("serve c s", given(c=f"mpc-cells 2\n{worked_texts.LOW}{high}end\n"), "c"), Text("serve c s", given(c=f"mpc-cells 3\n{high}{SECOND}{worked_texts.LOW}end\n"), "c")]
 
 
+def controllers() -> list[Text]:
+    second = texts.sub(worked_texts.CONTROLLER, ("mpc-controller 1", "mpc-controller 2"), ("words 6\n", "words 6\nexps 0 1 1\n"))
+    third = texts.sub(worked_texts.LEAN_CONTROLLER, ("mpc-controller 1", "mpc-controller 3"), ("words 6\n", "words 12\nexps 0 1 1\n"))
+    return [Text("solve c s", given(c=text, s="0\n1\n"), "c") for text in (worked_texts.CONTROLLER, second, third)]
+
+
 def listings() -> list[Text]:
     first = listing.text_of(listing.listing_of(control.read_controller(worked_texts.CONTROLLER.encode())))
     return [Text("play l s", {"l": first, "s": b"0\n1\n"}, "l"), Text("play l s", given(l=MACHINE, s="-2,0\n1,7\n0,3\n"), "l")]
 
 
-TABLES = {"faces": faces, "disturbances": disturbances, "cuts": cuts, "policies": policies, "cells": cells, "listings": listings}
+TABLES = {"controllers": controllers, "faces": faces, "disturbances": disturbances, "cuts": cuts, "policies": policies, "cells": cells, "listings": listings}
 
 
 class Table:

@@ -1,13 +1,7 @@
-//! Trials of the commands over stores and outputs in memory: texts that are cut or changed, and reads, writes and prints that fail.
+//! Trials of the whole program over stores and outputs in memory: `generate`, `solve`, `loop`, `settle` and `demo`, one call after the other.
 #![tactic(auto)]
 
 #[cfg(test)]
-mod again;
+mod answers;
 #[cfg(test)]
-mod changed;
-#[cfg(test)]
-mod cut;
-#[cfg(test)]
-mod failing;
-#[cfg(test)]
-mod limits;
+mod whole;

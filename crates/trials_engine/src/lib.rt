@@ -1,5 +1,7 @@
-//! Trials of what the generator makes of gains and chosen numbers, on a worked design.
+//! Trials of what the engine makes of worked designs: roots of matrices, step exponents, and controllers of the accelerated machine with their bounds.
 #![tactic(auto)]
 
 #[cfg(test)]
-mod controllers;
+mod accelerated;
+#[cfg(test)]
+mod steps;

@@ -7,7 +7,7 @@ use io_edge::Words;
 use std::alloc::{AllocError, Global};
 use std::test::Fail;
 use trials_memory_edge::{MemSink, MemStore};
-use trials_stores::{Fails, NONE, Program, ends_with, given, holds, solves, tells, tells_rows};
+use trials_stores::{Program, given, holds, solves, tells, tells_rows};
 use trials_worked_designs::{LISTING, PLANS};
 
 // `list` and `play`, and `solve`, whose lines `play` is to print.
@@ -81,13 +81,6 @@ fn are_right(alloc: Global, store: &mut MemStore) -> Result<bool, AllocError> {
     )
 }
 
-#[test]
-fn a_listing_is_written_and_played(rt: HostRuntime) -> Result<(), Fail> {
-    let mut store = listed(rt.alloc())?;
-    assert!(rt; are_right(rt.alloc(), &mut store)?);
-    Ok(())
-}
-
 // Whether this holds for each row, and after all of them the commands answer right over the same store.
 fn are_all_right(alloc: Global) -> Result<bool, AllocError> {
     let mut store = listed(alloc)?;
@@ -97,59 +90,5 @@ fn are_all_right(alloc: Global) -> Result<bool, AllocError> {
 #[test]
 fn answers(rt: HostRuntime) -> Result<(), Fail> {
     assert!(rt; are_all_right(rt.alloc())?);
-    Ok(())
-}
-
-// Whether a `list` whose write keeps so many bytes leaves this part of the listing, which `play` refuses at this line.
-fn is_cut(alloc: Global, keep: usize, line: &str) -> Result<bool, AllocError> {
-    let mut store = listed(alloc)?;
-    let fails = Fails {
-        write: 1,
-        keep,
-        ..NONE
-    };
-    Ok(
-        ends_with::<Listing>(
-            alloc,
-            "list c out",
-            &mut store,
-            &fails,
-            "error 4 write-fault 2\n",
-            "",
-        )? && holds(
-            alloc,
-            &mut store,
-            "out",
-            &LISTING.as_bytes()[..keep.min(LISTING.len())],
-        )? && tells::<Listing>(alloc, "play out s", &mut store, line)?,
-    )
-}
-
-#[test]
-fn a_failed_write_leaves_a_part(rt: HostRuntime) -> Result<(), Fail> {
-    assert!(rt; is_cut(rt.alloc(), 0, "error 20 listing 1 1\n")?);
-    assert!(rt; is_cut(rt.alloc(), 14, "error 20 listing 1 2\n")?);
-    assert!(rt; is_cut(rt.alloc(), 20, "error 20 listing 1 2\n")?);
-    Ok(())
-}
-
-// Whether a `play` whose print of that number fails has printed the lines before it.
-fn is_unprinted(alloc: Global, put: usize, printed: &str) -> Result<bool, AllocError> {
-    let mut store = listed(alloc)?;
-    let fails = Fails { put, ..NONE };
-    ends_with::<Listing>(
-        alloc,
-        "play l s",
-        &mut store,
-        &fails,
-        "error 4 write-fault 0\n",
-        printed,
-    )
-}
-
-#[test]
-fn a_failed_print_ends_the_lines(rt: HostRuntime) -> Result<(), Fail> {
-    assert!(rt; is_unprinted(rt.alloc(), 1, "")?);
-    assert!(rt; is_unprinted(rt.alloc(), 2, "4096 0\n")?);
     Ok(())
 }

@@ -213,11 +213,6 @@ fn combinations(rt: HostRuntime) {
     assert_eq!(rt; first_other_combination(&COMBINATIONS), None);
 }
 
-#[test]
-fn combination_of_nothing(rt: HostRuntime) {
-    assert_eq!(rt; combine(&[], &[], 5).map(numbers), Some((0, 0)));
-}
-
 // A row of two columns.
 type Row = (Numbers, Numbers);
 

@@ -1,11 +1,11 @@
-//! Trials of whole numbers, their arithmetic and their spelling, of the words of a region and of enclosures, on worked numbers.
+//! Trials of enclosures, of products of columns, of the spelling of whole numbers, and of the multiplier and the steps that follow from a margin, on worked numbers.
 #![tactic(auto)]
 
 #[cfg(test)]
+mod bounds;
+#[cfg(test)]
 mod enclosures;
 #[cfg(test)]
-mod region;
+mod products;
 #[cfg(test)]
 mod spelling;
-#[cfg(test)]
-mod whole_numbers;

@@ -1,4 +1,4 @@
-//! Trials of what is read of policies and states, of the texts of made designs, of reports, and of the arguments and answers of the program.
+//! Trials of what is read of numbers and states, of the texts of made designs, and of the arguments of the program.
 #![tactic(auto)]
 
 #[cfg(test)]
@@ -7,5 +7,3 @@ mod commands;
 mod made_designs;
 #[cfg(test)]
 mod policies;
-#[cfg(test)]
-mod reports;

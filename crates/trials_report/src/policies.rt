@@ -9,7 +9,7 @@ use std::alloc::{AllocError, Global};
 use std::test::Fail;
 
 // Fields of one number, and fields that hold none.
-static NUMBERS: [(&[u8], Option<i128>); 22] = [
+static NUMBERS: [(&[u8], Option<i128>); 23] = [
     (b"0", Some(0)),
     (b"-0", Some(0)),
     (b"8", Some(8)),
@@ -32,6 +32,7 @@ static NUMBERS: [(&[u8], Option<i128>); 22] = [
     (b"\t7", None),
     (b"7\t", None),
     (b"7.0", None),
+    (b"8\xff", None),
 ];
 
 #[test]

@@ -4,8 +4,5 @@
 mod runs;
 mod stores;
 
-pub use runs::{
-    Fails, GENERATE, NONE, Program, SOLVE, answer_of, ends_with, generates, solves, tells,
-    tells_row, tells_rows,
-};
-pub use stores::{ROOM, changed, given, has_lines, held, holds, store_of, told_by, two_sided};
+pub use runs::{Fails, GENERATE, NONE, Program, ends_with, generates, solves, tells, tells_rows};
+pub use stores::{ROOM, changed, given, has_lines, held, holds, store_of, two_sided};

@@ -15,8 +15,8 @@ pub trait Program {
 /// `generate` over the store that is given.
 pub const GENERATE: &str = "generate d p out r";
 
-/// `solve` over the store that is given.
-pub const SOLVE: &str = "solve c s";
+// `solve` over the store that is given.
+const SOLVE: &str = "solve c s";
 
 /// The call that is to fail, counted from 1; 9 for none.
 #[derive(Drop)]
@@ -44,8 +44,8 @@ fn words_of(alloc: Global, arguments: &str) -> Result<Words, AllocError> {
     Ok(words)
 }
 
-/// What a program answers to arguments, with one space between two; an error where it is out of memory, so that no trial takes that for a wrong answer.
-pub fn answer_of<P: Program>(
+// What a program answers to arguments, with one space between two; an error where it is out of memory, so that no trial takes that for a wrong answer.
+fn answer_of<P: Program>(
     alloc: Global,
     arguments: &str,
     store: &mut MemStore,
@@ -111,8 +111,8 @@ pub fn tells<P: Program>(
     is_told::<P>(alloc, arguments, store, &mut out, text)
 }
 
-/// Whether a row's arguments tell what stands behind `: ` in it, with a comma for each line feed but the last.
-pub fn tells_row<P: Program>(
+// Whether a row's arguments tell what stands behind `: ` in it, with a comma for each line feed but the last.
+fn tells_row<P: Program>(
     alloc: Global,
     store: &mut MemStore,
     row: &str,

@@ -12,31 +12,16 @@ pub const LIMITS: &str = "den = 4\nstage = [[0, 4, 4], [0, -4, 4]]\nfinal = [[4,
 // Its plant.
 const PLANT: &str = "den = 1\na = [[1]]\nb = [[1]]";
 
-// Two stages, and limits over a large denominator.
-const TWO_STAGES: (&str, &str) = ("stages = 1", "stages = 2");
-
-const LONG_LIMITS: (&str, &str) = (
-    LIMITS,
-    "den = 131072\nstage = [[0, 131072, 131072], [0, -131072, 131072]]\nfinal = [[131072, 32768]]",
-);
-
-/// The first worked design at two stages, over denominators so large that its numbers have radii.
-pub const FINE: Changed = (
-    DESIGN,
-    &[
-        TWO_STAGES,
-        (PLANT, "den = 1048576\na = [[1048577]]\nb = [[1048573]]"),
-        LONG_LIMITS,
-    ],
-);
-
-/// The same, whose state neither grows nor shrinks: the radii are 0.
+/// The first worked design at two stages, over denominators so large that its exact numbers are above the limit. The state neither grows nor shrinks.
 pub const FINE_STILL: Changed = (
     DESIGN,
     &[
-        TWO_STAGES,
+        ("stages = 1", "stages = 2"),
         (PLANT, "den = 1048576\na = [[1048576]]\nb = [[1048576]]"),
-        LONG_LIMITS,
+        (
+            LIMITS,
+            "den = 131072\nstage = [[0, 131072, 131072], [0, -131072, 131072]]\nfinal = [[131072, 32768]]",
+        ),
     ],
 );
 

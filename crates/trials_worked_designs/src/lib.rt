@@ -6,13 +6,10 @@ mod designs;
 mod matrices;
 mod texts;
 
-pub use changes::{Changed, FINE, FINE_STILL, FORCED, HIGH, LIMITS, changed_text};
+pub use changes::{Changed, FINE_STILL, FORCED, HIGH, LIMITS, changed_text};
 pub use designs::{changed_design, design};
 pub use matrices::has_rows;
 pub use texts::{
     CONTROLLER, CONTROLLER_OF_TWO, DEMO_OF_SEVEN, DESIGN, LEAN_CONTROLLER, LISTING, LOW,
     LOW_REPORT, PLANS, POLICY, REPORT, SATELLITE, STATES,
 };
-
-#[cfg(test)]
-mod tests;

@@ -1,7 +1,0 @@
-//! Trials of the lean generator.
-#![tactic(auto)]
-
-#[cfg(test)]
-mod fast_rows;
-#[cfg(test)]
-mod rows;
