@@ -14,9 +14,7 @@ ghost use Rattle.command_settle.specs.Deeds.{settle_deeds};
 use crate::certificate::read_certificate_file;
 use crate::printing::print_settled;
 use command_line::Status;
-use command_loop::{
-    AnyController, mismatch_of, read_any_controller_file, read_range_file,
-};
+use command_loop::{AnyController, mismatch_of, read_any_controller_file, read_range_file};
 use io_edge::{Sink, Store, Words};
 use mat_int::Mat;
 use qp_model::Design;
