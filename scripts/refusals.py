@@ -545,8 +545,9 @@ def too_wide(call: Call, name: str) -> str:
 def controller_lines(text: str, latest: int = 3) -> list[str]:
     """What should stand in each line, as far as the first two lines tell the version, up to the latest that is read, and the sizes."""
     version = next((it for it in range(2, latest + 1) if text.startswith(f"mpc-controller {it}\n")), 1)
+    unread = "`mpc-controller 1` or `mpc-controller 2`, as this command takes none of the accelerated machine"
     head = [
-        f"`mpc-controller {version}`",
+        unread if latest < 3 and text.startswith("mpc-controller 3\n") else f"`mpc-controller {version}`",
         "`size` and n, p, N, m",
         "`bits` and f, g, s, w",
         "`steps` and K",
