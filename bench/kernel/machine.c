@@ -1,4 +1,4 @@
-/* The same machine in plain C, for controllers of both versions, with sizes and shifts at run time and no test of any value.
+/* The same machines in plain C, for controllers of all versions, with sizes and shifts at run time and no test of any value.
    It reads a controller text and a states text and puts the plan line of each state.
    A word is of 128 bits, or, with -DWORD=int64_t, of 64 throughout, which serves controllers of a width of at most 64. A factor is such a word, or, with
    -DFACTOR=int64_t, one of 64 bits: then the matrices, the state, the multipliers and the plan are copied to such words, and sums keep 128 bits. */
@@ -116,7 +116,7 @@ static void read_controller(const char *name) {
     c.clamp = number();
     key("words");
     number();
-    if (c.version == 2) read_exponents();
+    if (c.version > 1) read_exponents();
     free(matrix("lo", 1, c.n));
     free(matrix("hi", 1, c.n));
     c.P = matrix("P", c.nu, c.n);
@@ -155,8 +155,33 @@ static void move(const word *row, const factor *u, factor *l) {
     for (int i = 0; i < c.m; i++) l[i] = kept(l[i] + ((dot(c.G + (size_t)i * c.nu, u, c.nu) + row[i]) >> c.f), c.clamp);
 }
 
-static void step(const word *own, const word *row, factor *u, factor *l, word *sums) {
+/* The accelerated machine of version 3: the plan is made at the means of the multipliers and of what was reached of them, by the steps' weights. */
+static void means(int k, const factor *l, const word *reached, factor *mean) {
+    word weight = k + 2, divisor = ((word)k + 1) * (k + 4);
+    for (int i = 0; i < c.m; i++) mean[i] = (factor)((reached[i] + weight * l[i]) / divisor << c.lowering[i]);
+}
+
+static void move_weighted(int k, const word *row, const factor *u, factor *l) {
+    for (int i = 0; i < c.m; i++) {
+        word residual = (dot(c.G + (size_t)i * c.nu, u, c.nu) + row[i]) >> c.f;
+        l[i] = kept(l[i] + (word)(k + 2) * residual, 2 * c.clamp >> c.lowering[i]);
+    }
+}
+
+static void plan(const word *own, const factor *l, factor *u) {
     for (int j = 0; j < c.nu; j++) u[j] = (factor)-((own[j] + dot(c.W + (size_t)j * c.m, l, c.m)) >> (c.f + c.s));
+}
+
+static void fast_step(int k, const word *own, const word *row, factor *mean, factor *u, factor *l, word *reached, word *sums) {
+    means(k, l, reached, mean);
+    plan(own, mean, u);
+    move_weighted(k, row, u, l);
+    for (int i = 0; i < c.m; i++) reached[i] += (word)(k + 2) * l[i];
+    for (int j = 0; j < c.nu; j++) sums[j] += (word)(k + 2) * u[j];
+}
+
+static void step(const word *own, const word *row, factor *u, factor *l, word *sums) {
+    plan(own, l, u);
     if (c.version == 2)
         move_raised(row, u, l);
     else
@@ -167,8 +192,9 @@ static void step(const word *own, const word *row, factor *u, factor *l, word *s
 int main(int count, char **words) {
     if (count != 3) fail("usage: machine CONTROLLER STATES");
     read_controller(words[1]);
-    factor *x = factors(c.n), *u = factors(c.nu), *l = factors(c.m);
-    word *sums = zeros(c.nu), *own = zeros(c.nu), *row = zeros(c.m);
+    factor *x = factors(c.n), *u = factors(c.nu), *l = factors(c.m), *mean = factors(c.m);
+    word *sums = zeros(c.nu), *own = zeros(c.nu), *row = zeros(c.m), *reached = zeros(c.m);
+    word weights = c.version == 3 ? (word)c.steps * (c.steps + 3) / 2 : c.steps;
     text = fopen(words[2], "r");
     if (!text) fail(words[2]);
     while (fscanf(text, " %*[^-0-9]"), !feof(text)) {
@@ -178,10 +204,16 @@ int main(int count, char **words) {
         }
         memset(u, 0, c.nu * sizeof(factor));
         memset(l, 0, c.m * sizeof(factor));
+        memset(reached, 0, c.m * sizeof(word));
         memset(sums, 0, c.nu * sizeof(word));
         load(x, own, row);
-        for (int k = 0; k < c.steps; k++) step(own, row, u, l, sums);
-        put((word)c.steps << c.f);
+        for (int k = 0; k < c.steps; k++) {
+            if (c.version == 3)
+                fast_step(k, own, row, mean, u, l, reached, sums);
+            else
+                step(own, row, u, l, sums);
+        }
+        put(weights << c.f);
         for (int j = 0; j < c.nu; j++) {
             putchar(' ');
             put(sums[j]);

@@ -7,6 +7,9 @@
 # examples' and a made one, whose rows are as a design's, with their marks to C with 128 bits and to C with 64.
 # The numbers of each made controller follow in version 2, where every other row has a smaller step exponent: its times, and the program's and C's ratios to version 1; the
 # mark is of the program's. It fails where a ratio is beyond its mark.
+#
+# Last come controllers of the accelerated machine, against that machine in C: the three examples', of their designs as version 3, and the made ones' numbers in version 3,
+# of a width of at most 64 and above. They have no marks.
 set -euo pipefail
 program=$(realpath "$1")
 runs=${2:-15}
@@ -100,6 +103,21 @@ example() {
     narrow_size "$1" "$3" "$4"
 }
 
+# An example's as a design of version 3, and states so many.
+accelerated_example() {
+    sed 's/^version = .*/version = 3/' "$examples/$1/design.toml" >design
+    "$program" generate design "$examples/$1/policy.csv" controller report
+    python3 "$here/make.py" states controller "$2" >states
+    narrow_size "$1, accelerated, $(awk '$1 == "steps" { print $2 }' controller) steps" 0 0
+}
+
+# The numbers of a made controller in version 3, of a width of at most 64.
+accelerated_size() {
+    python3 "$here/make.py" "$work" "$@"
+    mv third controller
+    narrow_size "$4 rows, $(($2 * $3)) plan entries, accelerated, $(awk '$1 == "steps" { print $2 }' controller) steps" 0 0
+}
+
 failed=0
 wide_size 2 1 5 34 28 1000000 0.70 || failed=1
 wide_size 2 1 10 64 36 400000 0.68 || failed=1
@@ -110,4 +128,8 @@ example satellite 500 0.27 0.6 || failed=1
 python3 "$here/make.py" "$work" 4 3 10 110 12 300 300 limits
 narrow_size "110 rows, 30 plan entries, 300 steps" 0.25 0 || failed=1
 second wide narrow || failed=1
+accelerated_example motor 100000 || failed=1
+accelerated_example wheel 30000 || failed=1
+accelerated_example satellite 30000 || failed=1
+accelerated_size 4 3 10 110 12 300 300 limits || failed=1
 exit "$failed"

@@ -1,5 +1,5 @@
 -- A run of the accelerated method whose steps all have the same bounds.
-use Rattle.std.proofs.Common.{◌≡◌, ℕ, zero, suc, ◌<◌, [], ◌∷◌, ℤ, pos, ◌+ℤ◌, ◌*ℤ◌, ◌≤ℤ◌, arith, refl}
+use Rattle.std.proofs.Common.{◌≡◌, ℕ, zero, suc, [], ◌∷◌, ℤ, pos, ◌+ℤ◌, ◌*ℤ◌, ◌≤ℤ◌, arith, refl}
 use Rattle.std.proofs.lemmas.Int.{ints}
 use Rattle.integer_algebra.specs.Sums.{total, square}
 use Rattle.integer_algebra.proofs.OrderLaws.{le_trans_z, le_of_lt_z, add-le-add_z, le_by, mul_nonneg_z, square_nonneg_z, mul-le-mul_left_z}

@@ -45,6 +45,10 @@ stepped k r state old new e f h =
 pub put : (v : Vec ℤ Global) (ws : List ℤ) (n : ℕ) → length v.items ≡ n → length ws ≡ n → (with_items v ws).items ≡ ws
 put v ws n h l = with_items_is v ws (l ∙ sym h ∙ sym v.ok.0)
 
+-- room for words that were lent and written is as long as it was
+pub refilled : (room : Vec ℤ Global) (lent new : List ℤ) (n : ℕ) → length new ≡ length lent → length lent ≡ room.len → lent ≡ room.items → length room.items ≡ n → length (with_items room new).items ≡ n
+refilled room lent new n kept whole was long = ap length (with_items_is room new (kept ∙ whole)) ∙ kept ∙ ap length was ∙ long
+
 -- those of a kernel, by lists that the machine has made
 pub replaced : (k : Inside) → IsFastReached k → (j : ℕ) (state means plan multipliers reached sums : List ℤ) → AreWithin state (state_magnitudes (numbers k.parts.now)) →
     fast_lists means plan multipliers reached sums ≡ fast_after (numbers k.parts.now) state j →

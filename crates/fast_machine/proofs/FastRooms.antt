@@ -51,36 +51,50 @@ pub row_room : (c : Numbers) (state plan : List ℤ) (i : ℕ) → IsFastControl
 row_room c state plan i s h w v = omega (arith, row_le c state plan i w v, (fit c s).rows i h)
 
 -- ---- multipliers
-pub moving_room : (c : Numbers) (state plan : List ℤ) (old : ℤ) (k i : ℕ) → IsFastController c → k < c.steps → i < length c.bounds → LiesUpTo (unsigned_abs (fast_top c i)) old →
-    AreWithin state (state_magnitudes c) → AreWithin plan (plan_magnitudes c) → unsigned_abs old + step_weight k * unsigned_abs (floor_of (row_sum c state plan i) (2 ^ c.fraction_bits)) ≤ 2 ^ 126
-moving_room c state plan old k i s lt h l w v =
+-- within any bound of the absolute sums
+pub moving_within : (c : Numbers) (bound : ℕ) (state plan : List ℤ) (old : ℤ) (k i : ℕ) → FastSumsFit c bound → k < c.steps → i < length c.bounds → LiesUpTo (unsigned_abs (fast_top c i)) old →
+    AreWithin state (state_magnitudes c) → AreWithin plan (plan_magnitudes c) → unsigned_abs old + step_weight k * unsigned_abs (floor_of (row_sum c state plan i) (2 ^ c.fraction_bits)) ≤ bound
+moving_within c bound state plan old k i s lt h l w v =
     omega (
       arith,
       l.high,
       top_le c i,
       mul-le (step_weight k) _ (c.steps + 1) _ (weight_le k c.steps lt) (residual_le c state plan i w v),
-      (fit c s).moved i h,
+      s.moved i h,
     )
 
+pub moving_room : (c : Numbers) (state plan : List ℤ) (old : ℤ) (k i : ℕ) → IsFastController c → k < c.steps → i < length c.bounds → LiesUpTo (unsigned_abs (fast_top c i)) old →
+    AreWithin state (state_magnitudes c) → AreWithin plan (plan_magnitudes c) → unsigned_abs old + step_weight k * unsigned_abs (floor_of (row_sum c state plan i) (2 ^ c.fraction_bits)) ≤ 2 ^ 126
+moving_room c state plan old k i s lt h l w v = moving_within c (2 ^ 126) state plan old k i (fit c s) lt h l w v
+
 -- ---- means
+pub mean_within : (c : Numbers) (bound : ℕ) (multipliers reached : List ℤ) (k i : ℕ) → FastSumsFit c bound → k < c.steps → i < length c.bounds → AreFastMultipliers c k multipliers reached →
+    unsigned_abs (at reached i) + step_weight k * unsigned_abs (at multipliers i) ≤ bound
+mean_within c bound multipliers reached k i s lt h r =
+    within (all_weights k) (step_weight k) (all_weights (suc k)) (unsigned_abs (fast_top c i)) _ _ (more_weights k) (r.summed i h).high (r.own i h).high
+    (omega (arith, tops_within c (all_weights (suc k)) i (weights_with k c.steps lt), s.reached))
+  where
+    within : (b a u t x y : ℕ) → u ≡ b + a → x ≤ b * t → y ≤ t → u * t ≤ bound → x + a * y ≤ bound
+    within b a u t x y e h l m = omega (arith, h, mul-le a y a t (omega arith) l, rw e at m)
+
 pub mean_room : (c : Numbers) (multipliers reached : List ℤ) (k i : ℕ) → IsFastController c → k < c.steps → i < length c.bounds → AreFastMultipliers c k multipliers reached →
     unsigned_abs (at reached i) + step_weight k * unsigned_abs (at multipliers i) ≤ 2 ^ 126
-mean_room c multipliers reached k i s lt h r =
-    within (all_weights k) (step_weight k) (all_weights (suc k)) (unsigned_abs (fast_top c i)) _ _ (more_weights k) (r.summed i h).high (r.own i h).high
-    (omega (arith, tops_within c (all_weights (suc k)) i (weights_with k c.steps lt), (fit c s).reached))
-  where
-    within : (b a u t x y : ℕ) → u ≡ b + a → x ≤ b * t → y ≤ t → u * t ≤ 2 ^ 126 → x + a * y ≤ 2 ^ 126
-    within b a u t x y e h l m = omega (arith, h, mul-le a y a t (omega arith) l, rw e at m)
+mean_room c multipliers reached k i s lt h r = mean_within c (2 ^ 126) multipliers reached k i (fit c s) lt h r
 
 pub clamp_room : (c : Numbers) (i : ℕ) → IsFastController c → i < length c.bounds → 2 * unsigned_abs c.clamp ≤ 2 ^ 126
 clamp_room c i s h = omega (arith, (fit c s).moved i h)
 
-pub raised_fits : (c : Numbers) (multipliers reached : List ℤ) (k i : ℕ) → IsFastController c → i < length c.bounds → AreFastMultipliers c k multipliers reached →
-    FitsSigned w128 (mean_at k multipliers reached i *ℤ pos (2 ^ lowering_of c i))
-raised_fits c multipliers reached k i s h r =
+-- a raised mean
+pub raised_le : (c : Numbers) (multipliers reached : List ℤ) (k i : ℕ) → IsFastController c → i < length c.bounds → AreFastMultipliers c k multipliers reached →
+    unsigned_abs (mean_at k multipliers reached i *ℤ pos (2 ^ lowering_of c i)) ≤ unsigned_abs c.clamp
+raised_le c multipliers reached k i s h r =
     let within = means_within c k multipliers reached s.form.sized.rest.clamp_low r in
     let clamp = rw (get_or-replicate (length c.bounds) i (unsigned_abs c.clamp) 0 h) at (within.each i) in
-    rw (← mean_item c k multipliers reached i h) (fits_signed_from_abs w128 _ (omega (arith, clamp, clamp_room c i s h)))
+    rw (← mean_item c k multipliers reached i h) clamp
+
+pub raised_fits : (c : Numbers) (multipliers reached : List ℤ) (k i : ℕ) → IsFastController c → i < length c.bounds → AreFastMultipliers c k multipliers reached →
+    FitsSigned w128 (mean_at k multipliers reached i *ℤ pos (2 ^ lowering_of c i))
+raised_fits c multipliers reached k i s h r = fits_signed_from_abs w128 _ (omega (arith, raised_le c multipliers reached k i s h r, clamp_room c i s h))
 
 -- ---- numbers that fit
 pub floor_fits : (z : ℤ) (d : ℕ) → FitsSigned w128 z → FitsSigned w128 (floor_of z d)
@@ -142,15 +156,19 @@ moved_ready c state plan multipliers reached k s r = record {
   summed = r.summed;
 }
 
-pub sum_room : (c : Numbers) (sums plan : List ℤ) (k j : ℕ) → IsFastController c → k < c.steps → j < length c.offsets → AreFastSums c k sums → AreWithin plan (plan_magnitudes c) →
-    unsigned_abs (at sums j) + step_weight k * unsigned_abs (at plan j) ≤ 2 ^ 126
-sum_room c sums plan k j s lt h r w =
+pub sum_within : (c : Numbers) (bound : ℕ) (sums plan : List ℤ) (k j : ℕ) → FastSumsFit c bound → k < c.steps → j < length c.offsets → AreFastSums c k sums → AreWithin plan (plan_magnitudes c) →
+    unsigned_abs (at sums j) + step_weight k * unsigned_abs (at plan j) ≤ bound
+sum_within c bound sums plan k j s lt h r w =
     let u = get_or (plan_magnitudes c) j 0 in
     within (all_weights k) (step_weight k) (all_weights (suc k)) (all_weights c.steps) u (unsigned_abs (at sums j)) (unsigned_abs (at plan j)) (more_weights k) (r.each j h) (w.each j)
-    (weights_with k c.steps lt) ((fit c s).sums j h)
+    (weights_with k c.steps lt) (s.sums j h)
   where
-    within : (b a v n u x y : ℕ) → v ≡ b + a → x ≤ b * u → y ≤ u → v ≤ n → n * u ≤ 2 ^ 126 → x + a * y ≤ 2 ^ 126
+    within : (b a v n u x y : ℕ) → v ≡ b + a → x ≤ b * u → y ≤ u → v ≤ n → n * u ≤ bound → x + a * y ≤ bound
     within b a v n u x y e h l m q = omega (arith, h, mul-le a y a u (omega arith) l, rw e at (mul-le v u n u m (omega arith)), q)
+
+pub sum_room : (c : Numbers) (sums plan : List ℤ) (k j : ℕ) → IsFastController c → k < c.steps → j < length c.offsets → AreFastSums c k sums → AreWithin plan (plan_magnitudes c) →
+    unsigned_abs (at sums j) + step_weight k * unsigned_abs (at plan j) ≤ 2 ^ 126
+sum_room c sums plan k j s lt h r w = sum_within c (2 ^ 126) sums plan k j (fit c s) lt h r w
 
 -- the parts of a residual
 pub record ResidualFits (planned own bound : ℤ) (f : ℕ) : Type 0 where

@@ -4,9 +4,8 @@ use Rattle.std.proofs.lemmas.Int.{ints, by_lt_z}
 use Rattle.integer_algebra.specs.Sums.{total, dot, image, coimage, square}
 use Rattle.integer_algebra.specs.Bounds.{clamped, IsWithin}
 use Rattle.integer_algebra.proofs.OrderLaws.{le_of_lt_z, add-le-add_z, difference_nonneg, le_by, mul_nonneg_z, mul_pos_z, square_nonneg_z, mul-le-mul_left_z, cancel-le_z}
-use Rattle.integer_algebra.proofs.SquareLaws.{square-le-bound}
-use Rattle.integer_algebra.proofs.SumLaws.{total_same, total_add, total_neg, total_scale, total_mono, total_nonneg}
-use Rattle.integer_algebra.proofs.VectorLaws.{dot_same, dot_add, dot_add_right, dot_sub, dot_scale, dot_image, image_to}
+use Rattle.integer_algebra.proofs.SumLaws.{total_same, total_add, total_neg, total_scale, total_nonneg}
+use Rattle.integer_algebra.proofs.VectorLaws.{dot_same, dot_add, dot_add_right, dot_scale, dot_image, image_to}
 use Rattle.integer_algebra.proofs.BoundLaws.{within_product}
 use Rattle.integer_algebra.proofs.Quoting.{by_ring, quotes}
 use Rattle.qp_model.specs.method.Objective.{bend, twice_cost, gradient}

@@ -17,6 +17,7 @@ pub mod FastBelow
 -- ---- the code: what fits its word
 pub mod FastRooms
 pub mod FastHeld
+pub mod FastWordRooms
 -- ---- the machine as the method
 pub mod FastSteps
 pub mod FastMachineRuns

@@ -2,4 +2,5 @@ pub mod Fast
 pub mod FastReady
 pub mod FastValues
 pub mod FastErrors
+pub mod FastWords
 pub mod FastProgress

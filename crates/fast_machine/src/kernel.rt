@@ -1,5 +1,5 @@
 // The accelerated machine at work: a controller's steps from a state, in memory that is taken once.
-ghost use Rattle.std.specs.Prelude.{◌≡◌, ◌<◌, ◌≤◌, ◌+◌, ◌^◌, length, IfOk};
+ghost use Rattle.std.specs.Prelude.{◌≡◌, ◌<◌, ◌≤◌, ◌+◌, ◌^◌, length, IsTrue, IsFalse, IfOk};
 ghost use Rattle.integer_algebra.specs.Sums.{at};
 ghost use Rattle.qp_model.specs.machine.Controller.{numbers};
 ghost use Rattle.qp_model.specs.machine.Machine.{IsAdmissible, loaded};
@@ -7,12 +7,14 @@ ghost use Rattle.overflow_check.specs.FastMachine.{fast_step, fast_run};
 ghost use Rattle.overflow_check.specs.FastController.{IsFastController};
 
 use crate::step::{clear, load_state, make_step};
+use crate::word_machine::FastWords;
 use qp_model::ControllerParts;
 use std::alloc::{AllocError, Global};
 use std::marker::Model;
 
 /// A controller of the accelerated machine at work on one state. It is seen as the controller, the state over `2^f` and the number of steps made; means, plan,
-/// multipliers, what was reached of them and the sums are those of the machine after that many steps from that state. They and the state are all its memory.
+/// multipliers, what was reached of them and the sums are those of the machine after that many steps from that state. They and the state are all its memory, but where
+/// its width is at most 64: there a whole run is made in words of 64 bits, in room that stands beside them, and put back.
 #[derive(Drop)]
 pub struct FastKernel<'a> {
     parts: &'a ControllerParts,
@@ -23,6 +25,8 @@ pub struct FastKernel<'a> {
     reached: Vec<i128>,
     sums: Vec<i128>,
     made: u32,
+    // Only where a whole run fits words of 64 bits.
+    words: Option<FastWords>,
 }
 
 impl<'a> Model for FastKernel<'a> {
@@ -54,6 +58,7 @@ impl<'a> FastKernel<'a> {
             reached: vec![in alloc; 0; parts.m]?,
             sums: vec![in alloc; 0; parts.t.len()]?,
             made: 0,
+            words: FastWords::of(alloc, parts)?,
         })
     }
 
@@ -90,12 +95,43 @@ impl<'a> FastKernel<'a> {
         self.made += 1;
     }
 
-    /// The steps that are left.
-    pub fn finish(&mut self)
+    // The steps that are left, by `step`.
+    fn finish_by_steps(&mut self)
         ensures { self.new ≡ record self.old { made = self.old.controller.steps } }
     {
         for _ in self.made..self.parts.steps {
             self.step();
+        }
+    }
+
+    // The same in words of 64 bits, where the kernel has them, or else nothing.
+    fn finish_in_words(&mut self) -> bool
+        ensures made { IsTrue result → self.new ≡ record self.old { made = self.old.controller.steps } }
+        ensures kept { IsFalse result → self.new ≡ self.old }
+    {
+        let Some(words) = &mut self.words else {
+            return false;
+        };
+        words.finish(
+            self.parts,
+            &self.state,
+            self.made,
+            &mut self.means,
+            &mut self.plan,
+            &mut self.multipliers,
+            &mut self.reached,
+            &mut self.sums,
+        );
+        self.made = self.parts.steps;
+        true
+    }
+
+    /// The steps that are left.
+    pub fn finish(&mut self)
+        ensures { self.new ≡ record self.old { made = self.old.controller.steps } }
+    {
+        if !self.finish_in_words() {
+            self.finish_by_steps();
         }
     }
 

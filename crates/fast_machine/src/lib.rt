@@ -6,6 +6,10 @@ mod laws;
 mod method;
 mod number;
 mod step;
+mod word_machine;
+mod word_run;
+mod word_step;
+mod wordwise;
 
 pub use kernel::FastKernel;
 pub use laws::{

@@ -16,7 +16,7 @@ use mat_int::dot;
 use qp_model::ControllerParts;
 
 // By how many bits the step exponent of row `i` is below the greatest.
-fn lowering_at(c: &ControllerParts, i: usize) -> u32
+pub fn lowering_at(c: &ControllerParts, i: usize) -> u32
     requires sound { IsFastController (numbers c.now) }
     requires in_range { i < length c.now.bound.items }
     ensures value { result ≡ lowering_of (numbers c.now) i }

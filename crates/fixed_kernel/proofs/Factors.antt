@@ -11,6 +11,7 @@ use Rattle.mat_products.specs.Narrow.{IsNarrow}
 use Rattle.qp_model.specs.machine.Controller.{Numbers}
 use Rattle.qp_model.specs.machine.AbsoluteSums.{state_magnitudes, clamp_magnitudes, plan_magnitudes, entry_absolute_sum, IsController}
 use Rattle.qp_model.specs.machine.Within.{AreWithin}
+use Rattle.overflow_check.specs.FastController.{with_last_version}
 use Rattle.overflow_check.proofs.SumLaws.{sums_fit}
 use Rattle.overflow_check.proofs.Sizes.{length-state_reach, length-clamp_reach, length-plan_reach, get_or-reach_of}
 use Rattle.fixed_kernel.specs.Factors.{HasNarrowFactors}
@@ -50,6 +51,10 @@ multipliers_half c multipliers n w = multipliers_below c multipliers (2 ^ 31) n.
 
 pub plan_half : (c : Numbers) (plan : List ℤ) → IsController c → HasHalfFactors c → AreWithin plan (plan_magnitudes c) → All IsHalf plan
 plan_half c plan s n w = plan_below c plan 30 (2 ^ 31) s (omega (arith, n.width)) (omega arith) w
+
+-- those of a controller of another version, which has the same matrices
+pub half_last : (c : Numbers) → HasHalfFactors c → HasHalfFactors (with_last_version c)
+half_last c h = record { dual_gains = h.dual_gains; plan_rows = h.plan_rows; clamp = h.clamp; width = h.width }
 
 -- ---- a word
 pub multipliers_narrow : (c : Numbers) (multipliers : List ℤ) → HasNarrowFactors c → AreWithin multipliers (clamp_magnitudes c) → All IsNarrow multipliers

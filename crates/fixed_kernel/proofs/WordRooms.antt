@@ -24,7 +24,11 @@ use Rattle.std.proofs.lemmas.List.FromFn.{length-map-range_with_len, get_or-map-
 use Rattle.fixed_kernel.specs.Raised.{with_raised}
 use Rattle.fixed_kernel.proofs.Raised.{raised_long, within_clamp, moved_raised_within}
 use Rattle.fixed_kernel.proofs.WordSums.{whole_le}
+use Rattle.overflow_check.proofs.Machines.{as_last}
+use Rattle.overflow_check.specs.declared.machine.Machine.TheVariants.{Plain}
 use Rattle.fixed_kernel.specs.WordForm.{entry_base, row_base, entry_bases, row_bases, IsWordSized, IsReadyInWords}
+use Rattle.fixed_kernel.specs.WordMachine.{IsWordSetting, IsWordSumSetting}
+use Rattle.fixed_kernel.specs.declared.word_machine.WordForm.{WordForm}
 
 -- no absolute sum passes a word's greatest number
 pub word_fit : (c : Numbers) → IsController c → c.width ≤ 64 → SumsFit c (2 ^ 63 - 1)
@@ -32,6 +36,10 @@ word_fit c s narrow =
     let bits : c.width - 1 ≤ 63 = omega (arith, narrow) in
     let grown : 2 ^ (c.width - 1) ≤ 2 ^ 63 = pow-le-pow_right (omega arith) bits in
     sums_fit c (2 ^ 63 - 1) (omega (arith, s.fit, grown))
+
+-- a step's setting is one of its sums
+pub sum_setting : (c : Numbers) (w : WordForm) (xs : List ℤ) → IsWordSetting c w xs → IsWordSumSetting c w xs
+sum_setting c w xs s = record { sound = as_last Plain c s.sound; sized = s.sized; form = s.form; state = s.state }
 
 -- ---- a plan entry
 pub entry_word_room : (c : Numbers) (state multipliers : List ℤ) (j : ℕ) → IsController c → c.width ≤ 64 → j < length c.offsets → AreWithin state (state_magnitudes c) → AreWithin multipliers (clamp_magnitudes c) →

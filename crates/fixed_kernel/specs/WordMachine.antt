@@ -3,6 +3,7 @@ use Rattle.std.specs.Prelude.{◌≡◌, ℤ, List, IsTrue, length}
 use Rattle.qp_model.specs.machine.Controller.{Numbers}
 use Rattle.qp_model.specs.machine.AbsoluteSums.{state_magnitudes, IsController}
 use Rattle.qp_model.specs.machine.Within.{AreWithin}
+use Rattle.overflow_check.specs.FastController.{with_last_version}
 use Rattle.fixed_kernel.specs.WordForm.{IsWordSized, HasHalfFactors}
 use Rattle.fixed_kernel.specs.declared.word_machine.WordForm.{WordForm}
 use Rattle.fixed_kernel.specs.declared.word_machine.WordRoom.{WordRoom}
@@ -18,6 +19,13 @@ pub record IsWordFormOf (c : Numbers) (w : WordForm) : Type 0 where
 -- what a step in such words stands on: a controller of such a size, its matrices and its clamp, and a state within its reaches
 pub record IsWordSetting (c : Numbers) (w : WordForm) (xs : List ℤ) : Type 0 where
   pub sound : IsController c
+  pub sized : IsWordSized c
+  pub form : IsWordFormOf c w
+  pub state : AreWithin xs (state_magnitudes c)
+
+-- what a plan and a row's sum in such words stand on, of a controller of either machine
+pub record IsWordSumSetting (c : Numbers) (w : WordForm) (xs : List ℤ) : Type 0 where
+  pub sound : IsController (with_last_version c)
   pub sized : IsWordSized c
   pub form : IsWordFormOf c w
   pub state : AreWithin xs (state_magnitudes c)

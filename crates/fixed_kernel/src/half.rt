@@ -1,6 +1,7 @@
 // Whether a controller's factors fit half a word of 64 bits.
 ghost use Rattle.std.specs.Prelude.{◌<◌, ◌^◌, ◌↔◌, IsTrue, All, unsigned_abs};
 ghost use Rattle.qp_model.specs.machine.Controller.{numbers, IsSized};
+ghost use Rattle.overflow_check.specs.FastController.{with_last_version};
 ghost use Rattle.fixed_kernel.specs.WordForm.{IsHalf, HasHalfFactors};
 
 use mat_int::Mat;
@@ -27,7 +28,7 @@ fn is_half_matrix(a: &Mat) -> bool
 
 // Whether each factor of the products of a step in words of 64 bits does.
 pub fn has_half_factors(c: &ControllerParts) -> bool
-    requires { IsSized (numbers c.now) }
+    requires { IsSized (with_last_version (numbers c.now)) }
     ensures { IsTrue result ↔ HasHalfFactors (numbers c.now) }
 {
     c.w <= c.f + c.s + 31

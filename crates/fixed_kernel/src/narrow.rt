@@ -5,6 +5,7 @@ ghost use Rattle.integer_algebra.specs.Division.{floor_of};
 ghost use Rattle.mat_int.specs.Row.{list_dot, abs_dot};
 ghost use Rattle.mat_products.specs.Narrow.{IsNarrow};
 ghost use Rattle.qp_model.specs.machine.Controller.{numbers, IsSized};
+ghost use Rattle.overflow_check.specs.FastController.{with_last_version};
 ghost use Rattle.fixed_kernel.specs.Factors.{IsNarrowCoordinate, HasNarrowFactors};
 
 use crate::entry::{short_scaled, short_shift};
@@ -14,7 +15,7 @@ use qp_model::ControllerParts;
 
 // Whether each coordinate of the box is narrow over `2^f`.
 fn is_narrow_box(c: &ControllerParts) -> bool
-    requires { IsSized (numbers c.now) }
+    requires { IsSized (with_last_version (numbers c.now)) }
     ensures { IsTrue result ↔ (All (IsNarrowCoordinate (numbers c.now)) c.now.lo.items × All (IsNarrowCoordinate (numbers c.now)) c.now.hi.items) }
 {
     let limit = 1u128 << (63 - (c.f - c.g));
@@ -32,9 +33,9 @@ fn has_narrow_matrices(c: &ControllerParts) -> bool
         && is_narrow_matrix(&c.e_mat)
 }
 
-// Whether each factor of the machine's products is narrow.
+/// Whether each factor of the products of a machine's steps fits 64 bits.
 pub fn has_narrow_factors(c: &ControllerParts) -> bool
-    requires { IsSized (numbers c.now) }
+    requires { IsSized (with_last_version (numbers c.now)) }
     ensures { IsTrue result ↔ HasNarrowFactors (numbers c.now) }
 {
     c.w <= c.f + c.s + 63

@@ -2,6 +2,7 @@
 ghost use Rattle.std.specs.Prelude.{◌≡◌, ◌↔◌, IsTrue, length, IfOk, IfSome};
 ghost use Rattle.qp_model.specs.machine.Controller.{numbers, IsSized};
 ghost use Rattle.qp_model.specs.machine.AbsoluteSums.{IsController};
+ghost use Rattle.overflow_check.specs.FastController.{with_last_version};
 ghost use Rattle.fixed_kernel.specs.Factors.{HasNarrowFactors};
 ghost use Rattle.fixed_kernel.specs.WordForm.{IsWordSized};
 ghost use Rattle.fixed_kernel.specs.WordMachine.{IsWordFormOf, IsRoomFor, IsMachineOf};
@@ -11,7 +12,7 @@ use crate::word_mat::{WordMat, narrowed};
 use qp_model::ControllerParts;
 use std::alloc::{AllocError, Global};
 
-// The matrices that each step multiplies by, and the clamp.
+/// The matrices that each step multiplies by, and the clamp.
 #[derive(Drop)]
 pub struct WordForm {
     pub gains: WordMat,
@@ -26,7 +27,7 @@ pub struct WordForm {
 impl WordForm {
     // Those of a controller.
     fn of(alloc: Global, c: &ControllerParts) -> Result<WordForm, AllocError>
-        requires sized { IsSized (numbers c.now) }
+        requires sized { IsSized (with_last_version (numbers c.now)) }
         requires narrow { HasNarrowFactors (numbers c.now) }
         ensures { IfOk result (IsWordFormOf (numbers c.now)) }
     {
@@ -43,7 +44,7 @@ impl WordForm {
     }
 }
 
-// Room for what the state adds to each sum, and for the multipliers, the plan and the sums.
+/// Room for what the state adds to each sum, and for the multipliers, the plan and the sums.
 #[derive(Drop)]
 pub struct WordRoom {
     pub entry_starts: Vec<i64>,
@@ -56,7 +57,7 @@ pub struct WordRoom {
 impl WordRoom {
     // Room for a controller's.
     fn of(alloc: Global, c: &ControllerParts) -> Result<WordRoom, AllocError>
-        requires { IsController (numbers c.now) }
+        requires { IsController (with_last_version (numbers c.now)) }
         ensures { IfOk result (IsRoomFor (numbers c.now)) }
     {
         Ok(WordRoom {
@@ -69,7 +70,7 @@ impl WordRoom {
     }
 }
 
-// Both.
+/// What runs in words of 64 bits are made with, of a controller of either machine.
 #[derive(Drop)]
 pub struct WordMachine {
     pub form: WordForm,
@@ -77,13 +78,13 @@ pub struct WordMachine {
 }
 
 impl WordMachine {
-    // Those of a controller, where its steps are made in words of 64 bits.
+    /// A controller's, where its steps are made in words of 64 bits.
     pub fn of(
         alloc: Global,
         c: &ControllerParts,
         narrow: bool,
     ) -> Result<Option<WordMachine>, AllocError>
-        requires sound { IsController (numbers c.now) }
+        requires sound { IsController (with_last_version (numbers c.now)) }
         requires narrow { IsTrue narrow → HasNarrowFactors (numbers c.now) }
         ensures { IfOk result (λ machine. IfSome machine (IsMachineOf (numbers c.now))) }
     {
@@ -99,7 +100,7 @@ impl WordMachine {
 
 // Whether a controller's steps are made in words of 64 bits.
 fn is_word_sized(c: &ControllerParts) -> bool
-    requires { IsSized (numbers c.now) }
+    requires { IsSized (with_last_version (numbers c.now)) }
     ensures { IsTrue result ↔ IsWordSized (numbers c.now) }
 {
     c.w <= 64 && c.f + c.s < 64

@@ -12,7 +12,7 @@ use mat_int::Mat;
 use std::alloc::{AllocError, Global};
 use std::marker::Model;
 
-// A row, and where the span begins and ends outside of which its numbers are 0.
+/// A row, and where the span begins and ends outside of which its numbers are 0.
 #[derive(Drop)]
 pub struct WordRow {
     numbers: Vec<i64>,
@@ -43,8 +43,8 @@ impl WordRow {
         Ok(WordRow { numbers, from, to })
     }
 
-    // A number and the sum of the products with a list of one length, by the span alone where `sparse` says so. The numbers of both fit
-    // half a word where `half` says so.
+    /// A number and the sum of the products with a list of one length, by the span alone where `sparse` says so. The numbers of both fit
+    /// half a word where `half` says so.
     #[inline(always)]
     pub fn dot(&self, half: bool, sparse: bool, start: i64, ys: &[i64]) -> i64
         requires lengths { length self.now ≡ length ys.now }
@@ -66,7 +66,7 @@ impl WordRow {
     }
 }
 
-// A matrix.
+/// A matrix.
 #[derive(Drop)]
 pub struct WordMat {
     cols: usize,
@@ -86,7 +86,7 @@ impl Model for WordMat {
 }
 
 impl WordMat {
-    // The same numbers as a matrix's, which are narrow.
+    /// The same numbers as a matrix's, which are narrow.
     pub fn of(alloc: Global, a: &Mat) -> Result<WordMat, AllocError>
         requires { All (All IsNarrow) a.now.rows }
         ensures { IfOk result (λ m. m ≡ a.now) }
@@ -99,7 +99,7 @@ impl WordMat {
         Ok(WordMat { cols, rows })
     }
 
-    // Row i.
+    /// Row i.
     pub fn row(&self, i: usize) -> &WordRow
         requires { i < length self.now.rows }
         ensures value { result.now ≡ row_of self.now i }
@@ -108,7 +108,7 @@ impl WordMat {
         &self.rows[i]
     }
 
-    // Whether most rows have a span shorter than half of them: then products by spans are faster.
+    /// Whether most rows have a span shorter than half of them: then products by spans are faster.
     pub fn is_sparse(&self) -> bool {
         self.rows.iter().filter(|row| row.is_sparse()).count() > self.rows.len() / 2
     }

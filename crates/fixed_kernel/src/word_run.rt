@@ -15,8 +15,8 @@ use crate::word_mat::narrowed;
 use crate::word_step::word_steps;
 use qp_model::ControllerParts;
 
-// Takes narrow numbers over.
-fn take_words(from: &[i128], to: &mut [i64])
+/// Takes narrow numbers over.
+pub fn take_words(from: &[i128], to: &mut [i64])
     requires narrow { All IsNarrow from.now }
     requires long { length to.old ≡ length from.now }
     ensures { to.new ≡ from.now }
@@ -26,8 +26,8 @@ fn take_words(from: &[i128], to: &mut [i64])
     }
 }
 
-// Puts them back.
-fn put_words(from: &[i64], to: &mut [i128])
+/// Puts them back.
+pub fn put_words(from: &[i64], to: &mut [i128])
     requires long { length to.old ≡ length from.now }
     ensures { to.new ≡ from.now }
 {

@@ -9,7 +9,7 @@ ghost use Rattle.qp_model.specs.machine.Within.{AreWithin};
 ghost use Rattle.fixed_kernel.specs.Raised.{unraised, with_raised, raised_step};
 ghost use Rattle.fixed_kernel.specs.Spans.{made_of};
 ghost use Rattle.fixed_kernel.specs.WordForm.{entry_bases, row_bases, HasHalfFactors, IsReadyInWords};
-ghost use Rattle.fixed_kernel.specs.WordMachine.{IsWordSetting};
+ghost use Rattle.fixed_kernel.specs.WordMachine.{IsWordSetting, IsWordSumSetting};
 
 use crate::step::{exponents_of, lowering_at};
 use crate::word_machine::WordForm;
@@ -27,7 +27,7 @@ fn word_entry_at(
     multipliers: &[i64],
     j: usize,
 ) -> i64
-    requires setting { IsWordSetting (numbers c.now) form.now state.now }
+    requires setting { IsWordSumSetting (numbers c.now) form.now state.now }
     requires half { IsTrue half → HasHalfFactors (numbers c.now) }
     requires bases { bases.now ≡ entry_bases (numbers c.now) state.now }
     requires multipliers { AreWithin multipliers.now (clamp_magnitudes (numbers c.now)) }
@@ -49,7 +49,7 @@ fn word_entries(
     multipliers: &[i64],
     plan: &mut [i64],
 )
-    requires setting { IsWordSetting (numbers c.now) form.now state.now }
+    requires setting { IsWordSumSetting (numbers c.now) form.now state.now }
     requires half { IsTrue half → HasHalfFactors (numbers c.now) }
     requires bases { bases.now ≡ entry_bases (numbers c.now) state.now }
     requires multipliers { AreWithin multipliers.now (clamp_magnitudes (numbers c.now)) }
@@ -61,9 +61,9 @@ fn word_entries(
     }
 }
 
-// The plan. It is never inlined, so that its loops and those of the rows don't share registers.
+/// The plan at raised multipliers, or at means of either machine. It is never inlined, so that its loops and those of the rows don't share registers.
 #[inline(never)]
-fn word_plan(
+pub fn word_plan(
     c: &ControllerParts,
     form: &WordForm,
     state: &[i128],
@@ -71,7 +71,7 @@ fn word_plan(
     multipliers: &[i64],
     plan: &mut [i64],
 )
-    requires setting { IsWordSetting (numbers c.now) form.now state.now }
+    requires setting { IsWordSumSetting (numbers c.now) form.now state.now }
     requires bases { bases.now ≡ entry_bases (numbers c.now) state.now }
     requires multipliers { AreWithin multipliers.now (clamp_magnitudes (numbers c.now)) }
     requires plan { length plan.old ≡ length c.now.t.items }
@@ -84,9 +84,9 @@ fn word_plan(
     }
 }
 
-// The sum of row `i`.
+/// The sum of row `i`.
 #[inline(always)]
-fn word_row_sum(
+pub fn word_row_sum(
     c: &ControllerParts,
     form: &WordForm,
     half: bool,
@@ -95,7 +95,7 @@ fn word_row_sum(
     plan: &[i64],
     i: usize,
 ) -> i64
-    requires setting { IsWordSetting (numbers c.now) form.now state.now }
+    requires setting { IsWordSumSetting (numbers c.now) form.now state.now }
     requires half { IsTrue half → HasHalfFactors (numbers c.now) }
     requires bases { bases.now ≡ row_bases (numbers c.now) state.now }
     requires plan { AreWithin plan.now (plan_magnitudes (numbers c.now)) }

@@ -78,7 +78,7 @@ pub fn span_dot(half: bool, start: i64, xs: &[i64], ys: &[i64], from: usize, to:
     sum_in_words(half, start, &xs[from..to], &ys[from..to])
 }
 
-// `v / 2^k`, rounded down.
+/// `v / 2^k`, rounded down.
 #[inline(always)]
 pub fn word_shift(v: i64, k: u32) -> i64
     requires { k < 64 }
@@ -87,7 +87,7 @@ pub fn word_shift(v: i64, k: u32) -> i64
     v >> k
 }
 
-// `v * 2^k`, which fits, as its negative does.
+/// `v * 2^k`, which fits, as its negative does.
 #[inline(always)]
 pub fn word_raised(v: i64, k: u32) -> i64
     requires bits { k ≤ 62 }

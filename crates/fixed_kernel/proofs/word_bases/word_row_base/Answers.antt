@@ -6,6 +6,7 @@ use Rattle.integer_algebra.specs.Sums.{at}
 use Rattle.mat_int.specs.Row.{list_dot}
 use Rattle.mat_int.specs.Matrix.{row_of}
 use Rattle.qp_model.specs.machine.Controller.{numbers}
+use Rattle.overflow_check.specs.FastController.{with_last_version}
 use Rattle.fixed_kernel.proofs.Rooms.{state_long}
 use Rattle.fixed_kernel.proofs.WordRooms.{RowBaseFits, own_row_room, row_base_fits, less_as}
 use Rattle.fixed_kernel.proofs.word_bases.word_row_base.Goals as goal
@@ -13,11 +14,11 @@ use Rattle.fixed_kernel.proofs.word_bases.word_row_base.Goals.{Start, After-shor
 
 -- what the base meets fits
 fits : (c : Start) → RowBaseFits (list_dot (row_of (numbers c.args.c.now).state_rows c.args.i) c.args.state.now) (at c.args.c.now.bound.items c.args.i) c.args.c.now.f
-fits c = row_base_fits (numbers c.args.c.now) c.args.state.now c.args.i c.requires.sound c.requires.words.width c.requires.in_range c.requires.state
+fits c = row_base_fits (with_last_version (numbers c.args.c.now)) c.args.state.now c.args.i c.requires.sound c.requires.words.width c.requires.in_range c.requires.state
 
 pub dot-own-requires : goal.dot-own-requires
 dot-own-requires c =
-    let n = numbers c.args.c.now in
+    let n = with_last_version (numbers c.args.c.now) in
     let own = own_row_room n c.args.state.now c.args.i c.requires.sound c.requires.words.width c.requires.in_range c.requires.state in
     record { lengths = c.row.ensures.len ∙ c.requires.sound.form.sized.shaped.state_rows.cols ∙ sym (state_long n c.args.state.now c.requires.sound c.requires.state); room = rw c.row.ensures.value own }
 

@@ -4,14 +4,14 @@ use Rattle.mat_products.specs.Narrow.{IsNarrow}
 use Rattle.qp_model.specs.machine.Controller.{numbers}
 use Rattle.qp_model.specs.machine.Machine.{Iterate}
 use Rattle.fixed_kernel.proofs.Words.{made_as}
-use Rattle.fixed_kernel.proofs.WordRooms.{after_multipliers_narrow, after_plan_narrow, after_sums_narrow}
+use Rattle.fixed_kernel.proofs.WordRooms.{after_multipliers_narrow, after_plan_narrow, after_sums_narrow, sum_setting}
 use Rattle.fixed_kernel.proofs.word_run.finish_in_words.Goals as goal
 
 pub put_entry_bases-requires : goal.put_entry_bases-requires
-put_entry_bases-requires c = record { sound = c.requires.setting.sound; words = c.requires.setting.sized; state = c.requires.setting.state; out = c.requires.entry_room }
+put_entry_bases-requires c = record { sound = (sum_setting _ _ _ c.requires.setting).sound; words = c.requires.setting.sized; state = c.requires.setting.state; out = c.requires.entry_room }
 
 pub put_row_bases-requires : goal.put_row_bases-requires
-put_row_bases-requires c = record { sound = c.requires.setting.sound; words = c.requires.setting.sized; state = c.requires.setting.state; out = c.requires.row_room }
+put_row_bases-requires c = record { sound = (sum_setting _ _ _ c.requires.setting).sound; words = c.requires.setting.sized; state = c.requires.setting.state; out = c.requires.row_room }
 
 pub take_words-requires : goal.take_words-requires
 take_words-requires c =

@@ -3,6 +3,7 @@ use Rattle.std.specs.Int.{w64}
 use Rattle.std.proofs.lemmas.Int.{to_z-of_z}
 use Rattle.mat_int.specs.Matrix.{row_of}
 use Rattle.qp_model.specs.machine.Controller.{numbers}
+use Rattle.overflow_check.specs.FastController.{with_last_version}
 use Rattle.fixed_kernel.specs.WordForm.{entry_base}
 use Rattle.fixed_kernel.proofs.Rooms.{multipliers_long}
 use Rattle.fixed_kernel.proofs.WordRooms.{entry_word_room, entry_sum_narrow, entry_bases_long, entry_bases_at}
@@ -21,7 +22,7 @@ pub dot-sum-requires-clause-lengths : goal.dot-sum-requires-clause-lengths
 dot-sum-requires-clause-lengths c =
     let n = numbers c.args.c.now in
     let len = rw c.requires.setting.form.gains at c.row.ensures.len in
-    omega (arith, len, c.requires.setting.sound.form.sized.shaped.dual_gains.cols, multipliers_long n c.args.multipliers.now c.requires.setting.sound c.requires.multipliers)
+    omega (arith, len, c.requires.setting.sound.form.sized.shaped.dual_gains.cols, multipliers_long (with_last_version n) c.args.multipliers.now c.requires.setting.sound c.requires.multipliers)
 
 pub dot-sum-requires-clause-left : goal.dot-sum-requires-clause-left
 dot-sum-requires-clause-left c = λ t.
@@ -41,7 +42,7 @@ dot-sum-requires-clause-room c =
     ap (λ (xs : List ℤ). get_or xs c.args.j (pos 0)) c.requires.bases ∙ entry_bases_at n c.args.state.now c.args.j c.requires.in_range in
     let row : c.row.result.now ≡ row_of n.dual_gains c.args.j = rw c.requires.setting.form.gains at c.row.ensures.value in
     rw (to_z-of_z w64 _ base, read, row)
-    (entry_word_room n c.args.state.now c.args.multipliers.now c.args.j c.requires.setting.sound c.requires.setting.sized.width c.requires.in_range c.requires.setting.state c.requires.multipliers)
+    (entry_word_room (with_last_version n) c.args.state.now c.args.multipliers.now c.args.j c.requires.setting.sound c.requires.setting.sized.width c.requires.in_range c.requires.setting.state c.requires.multipliers)
 
 pub word_entry-requires-clause-room : goal.word_entry-requires-clause-room
 word_entry-requires-clause-room c =
@@ -52,7 +53,7 @@ word_entry-requires-clause-room c =
     ap (λ (xs : List ℤ). get_or xs c.args.j (pos 0)) c.requires.bases ∙ entry_bases_at n c.args.state.now c.args.j c.requires.in_range in
     let row : c.row.result.now ≡ row_of n.dual_gains c.args.j = rw c.requires.setting.form.gains at c.row.ensures.value in
     rw (to_z-of_z w64 _ sum, c.dot-sum.ensures, to_z-of_z w64 _ base, read, row)
-    (entry_sum_narrow n c.args.state.now c.args.multipliers.now c.args.j c.requires.setting.sound c.requires.setting.sized.width c.requires.in_range c.requires.setting.state c.requires.multipliers)
+    (entry_sum_narrow (with_last_version n) c.args.state.now c.args.multipliers.now c.args.j c.requires.setting.sound c.requires.setting.sized.width c.requires.in_range c.requires.setting.state c.requires.multipliers)
 
 pub returns : goal.returns
 returns c =

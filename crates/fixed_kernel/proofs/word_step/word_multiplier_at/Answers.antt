@@ -5,13 +5,13 @@ use Rattle.integer_algebra.specs.Division.{floor_of}
 use Rattle.mat_products.specs.Narrow.{IsNarrow}
 use Rattle.qp_model.specs.machine.Controller.{numbers}
 use Rattle.qp_model.specs.machine.Machine.{lowering_of, next_multiplier}
-use Rattle.fixed_kernel.proofs.WordRooms.{next_room_as, moved_raised_word}
+use Rattle.fixed_kernel.proofs.WordRooms.{next_room_as, moved_raised_word, sum_setting}
 use Rattle.fixed_kernel.proofs.Raised.{lowered_within, moved_as, times_as, floor_as, moved_unlowered}
 use Rattle.fixed_kernel.proofs.word_step.word_multiplier_at.Goals as goal
 use Rattle.fixed_kernel.proofs.word_step.word_multiplier_at.Goals.{After-word_multiplier-else-lowering-eq0}
 
 pub word_row_sum-sum-requires : goal.word_row_sum-sum-requires
-word_row_sum-sum-requires c = record { setting = c.requires.setting; half = c.requires.half; bases = c.requires.bases; plan = c.requires.plan; in_range = c.requires.in_range }
+word_row_sum-sum-requires c = record { setting = sum_setting _ _ _ c.requires.setting; half = c.requires.half; bases = c.requires.bases; plan = c.requires.plan; in_range = c.requires.in_range }
 
 pub lowering_at-lowering-requires : goal.lowering_at-lowering-requires
 lowering_at-lowering-requires c = record { sound = c.requires.setting.sound; exps = c.requires.exps; in_range = c.requires.in_range }

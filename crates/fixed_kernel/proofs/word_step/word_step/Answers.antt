@@ -8,11 +8,12 @@ use Rattle.overflow_check.proofs.Sizes.{length-plan_reach}
 use Rattle.fixed_kernel.specs.Raised.{unraised}
 use Rattle.fixed_kernel.specs.Spans.{made_of}
 use Rattle.fixed_kernel.proofs.Words.{made_as}
+use Rattle.fixed_kernel.proofs.WordRooms.{sum_setting}
 use Rattle.fixed_kernel.proofs.word_step.word_step.Goals as goal
 use Rattle.fixed_kernel.proofs.word_step.word_step.Goals.{After-word_plan}
 
 pub word_plan-requires : goal.word_plan-requires
-word_plan-requires c = record { setting = c.requires.setting; bases = c.requires.ready.entries; multipliers = c.requires.ready.multipliers_within; plan = c.requires.ready.plan_long }
+word_plan-requires c = record { setting = sum_setting _ _ _ c.requires.setting; bases = c.requires.ready.entries; multipliers = c.requires.ready.multipliers_within; plan = c.requires.ready.plan_long }
 
 -- the plan is within its reaches
 within : (c : After-word_plan) → AreWithin c.word_plan.new.plan (plan_magnitudes (numbers c.args.c.now))

@@ -33,4 +33,5 @@ invariant_of-self c =
           (cleared k.multipliers.items _ _ _ c.clear-3.ensures c.deref_mut-4.ensures.value was.rows.multipliers_long)
           (cleared k.reached.items _ _ _ c.clear-4.ensures c.deref_mut-5.ensures.value was.rows.reached_long)
           (cleared k.sums.items _ _ _ c.clear-5.ensures c.deref_mut-6.ensures.value was.entries.sums_long));
+      words = r.words;
     }

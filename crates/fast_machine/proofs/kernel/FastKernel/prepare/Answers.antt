@@ -29,4 +29,5 @@ invariant_of-result c =
       made = omega arith;
       held = at_start n (with_items c.in_ok-state.state c.load_state.new.out).items c.in_ok-vec.field-0.items c.in_ok-vec-2.field-0.items c.in_ok-vec-3.field-0.items c.in_ok-vec-4.field-0.items
           c.in_ok-vec-5.field-0.items (means ∙ rows) plan (multipliers ∙ rows) (reached ∙ rows) sums;
+      words = c.in_ok-of.ensures;
     }

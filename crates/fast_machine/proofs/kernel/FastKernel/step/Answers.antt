@@ -27,6 +27,7 @@ invariant_of-self c =
       made = omega (arith, lt);
       held = replaced c.self.inside r (c.self.inside.made + 1) c.self.inside.state.items c.make_step.new.means c.make_step.new.plan c.make_step.new.multipliers c.make_step.new.reached
           c.make_step.new.sums r.within (made_more c);
+      words = r.words;
     }
 
 pub returns-clause-values : goal.returns-clause-values

@@ -4,6 +4,8 @@ use Rattle.std.proofs.lemmas.List.{length-replicate}
 use Rattle.qp_model.specs.machine.Controller.{Numbers, numbers}
 use Rattle.qp_model.specs.machine.Machine.{IsAdmissible, loaded, start_of}
 use Rattle.qp_model.specs.machine.AbsoluteSums.{IsController}
+use Rattle.overflow_check.proofs.Machines.{as_last, shared}
+use Rattle.overflow_check.specs.declared.machine.Machine.TheVariants.{Plain}
 use Rattle.word_region.specs.declared.Span.{Span}
 use Rattle.word_region.specs.Words.{RegionWords}
 use Rattle.word_region.specs.Lending.{written_over}
@@ -34,10 +36,10 @@ put_start-requires c =
     }
 
 pub has_narrow_factors-narrow-requires : goal.has_narrow_factors-narrow-requires
-has_narrow_factors-narrow-requires c = c.parts-c.ensures.sound.form.sized
+has_narrow_factors-narrow-requires c = shared Plain _ c.parts-c.ensures.sound.form.sized
 
 pub of-requires : goal.of-requires
-of-requires c = record { sound = c.parts-c.ensures.sound; narrow = c.has_narrow_factors-narrow.ensures.0 }
+of-requires c = record { sound = as_last Plain _ c.parts-c.ensures.sound; narrow = c.has_narrow_factors-narrow.ensures.0 }
 
 -- the fields
 abbrev made_kernel : goal.In_ok-words → Option WordMachine → Inside

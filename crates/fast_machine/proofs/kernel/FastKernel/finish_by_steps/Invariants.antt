@@ -1,5 +1,5 @@
 use Rattle.std.proofs.Common.{◌≡◌, ◌≤◌}
-use Rattle.fast_machine.proofs.kernel.FastKernel.finish.Given as goal
+use Rattle.fast_machine.proofs.kernel.FastKernel.finish_by_steps.Given as goal
 
 abbrev pub invariant-loop : goal.invariant-loop
 invariant-loop l = record {
