@@ -6,7 +6,7 @@ use Rattle.std.proofs.lemmas.Bool.{cases_Bool, and_parts, eqb-true, cond-true, c
 use Rattle.integer_algebra.specs.Division.{floor_of}
 use Rattle.qp_model.specs.machine.ValuesMet.{FitsWidth}
 use Rattle.c_language.specs.Syntax.{Family, Variable, letter_of, Kind, bits_of, Expression, Statement, groups, CProgram}
-use Rattle.c_language.specs.Syntax.Family.{State, Loaded, EntryBase, RowBase, Multiplier, Difference, Entry, Gradient, RowSum, Moved, Sum, Output, Own, Reached, Weight, Divisor, Shift, Power, Doubling, Reciprocal, Numerator, Head, Rest}
+use Rattle.c_language.specs.Syntax.Family.{State, Loaded, EntryBase, RowBase, Multiplier, Difference, Entry, Gradient, RowSum, Moved, Sum, Output, Own, Reached, Weight, Divisor, Shift, Power, Doubling, Reciprocal, Numerator, Head, Rest, MultiplierHigh, MultiplierLow, EntryHigh, EntryLow, EntryBaseHigh, RowBaseHigh, GradientHigh}
 use Rattle.c_language.specs.Syntax.Expression.{Constant, Value, Plus, Minus, Times, Quotient, Remainder, Over, Shifted, ShiftedBy}
 use Rattle.c_language.specs.Syntax.Statement.{Declare, Assign, AtLeastZero, AtMost}
 use Rattle.c_language.specs.Meaning.{Environment, held, with_value, value, IsDefined, new_value, variable_of, done, HasOperands, IsDone, all_done, AreDone, repeated, begun, after_rounds, IsDefinedRun}
@@ -46,6 +46,13 @@ family_back Reciprocal = refl
 family_back Numerator = refl
 family_back Head = refl
 family_back Rest = refl
+family_back MultiplierHigh = refl
+family_back MultiplierLow = refl
+family_back EntryHigh = refl
+family_back EntryLow = refl
+family_back EntryBaseHigh = refl
+family_back RowBaseHigh = refl
+family_back GradientHigh = refl
 
 one_family : (f g : Family) → letter_of f ≡ letter_of g → f ≡ g
 one_family f g e = sym (family_back f) ∙ ap family_at e ∙ family_back g

@@ -14,7 +14,7 @@ use Rattle.integer_algebra.specs.Sums.{at}
 use Rattle.number_text.specs.Lines.{text_of}
 use Rattle.number_text.proofs.Pieces.{IsPiece, ArePieces, split_text}
 use Rattle.c_language.specs.Syntax.{Family, Variable, variable, letter_of, Kind, Expression, Statement, CProgram}
-use Rattle.c_language.specs.Syntax.Family.{State, Loaded, EntryBase, RowBase, Multiplier, Difference, Entry, Gradient, RowSum, Moved, Sum, Output, Own, Reached, Weight, Divisor, Shift, Power, Doubling, Reciprocal, Numerator, Head, Rest}
+use Rattle.c_language.specs.Syntax.Family.{State, Loaded, EntryBase, RowBase, Multiplier, Difference, Entry, Gradient, RowSum, Moved, Sum, Output, Own, Reached, Weight, Divisor, Shift, Power, Doubling, Reciprocal, Numerator, Head, Rest, MultiplierHigh, MultiplierLow, EntryHigh, EntryLow, EntryBaseHigh, RowBaseHigh, GradientHigh}
 use Rattle.c_language.specs.Syntax.Kind.{Narrow, Wide}
 use Rattle.c_language.specs.Syntax.Expression.{Constant, Value, Plus, Minus, Times, Quotient, Remainder, Over, Shifted, ShiftedBy}
 use Rattle.c_language.specs.Syntax.Statement.{Declare, Assign, AtLeastZero, AtMost}
@@ -107,6 +107,13 @@ name_plain Reciprocal k h = join (letter_of Reciprocal ∷ []) (decimal k) (word
 name_plain Numerator k h = join (letter_of Numerator ∷ []) (decimal k) (word (letter_of Numerator ∷ []) refl) (decimal_plain k h)
 name_plain Head k h = join (letter_of Head ∷ []) (decimal k) (word (letter_of Head ∷ []) refl) (decimal_plain k h)
 name_plain Rest k h = join (letter_of Rest ∷ []) (decimal k) (word (letter_of Rest ∷ []) refl) (decimal_plain k h)
+name_plain MultiplierHigh k h = join (letter_of MultiplierHigh ∷ []) (decimal k) (word (letter_of MultiplierHigh ∷ []) refl) (decimal_plain k h)
+name_plain MultiplierLow k h = join (letter_of MultiplierLow ∷ []) (decimal k) (word (letter_of MultiplierLow ∷ []) refl) (decimal_plain k h)
+name_plain EntryHigh k h = join (letter_of EntryHigh ∷ []) (decimal k) (word (letter_of EntryHigh ∷ []) refl) (decimal_plain k h)
+name_plain EntryLow k h = join (letter_of EntryLow ∷ []) (decimal k) (word (letter_of EntryLow ∷ []) refl) (decimal_plain k h)
+name_plain EntryBaseHigh k h = join (letter_of EntryBaseHigh ∷ []) (decimal k) (word (letter_of EntryBaseHigh ∷ []) refl) (decimal_plain k h)
+name_plain RowBaseHigh k h = join (letter_of RowBaseHigh ∷ []) (decimal k) (word (letter_of RowBaseHigh ∷ []) refl) (decimal_plain k h)
+name_plain GradientHigh k h = join (letter_of GradientHigh ∷ []) (decimal k) (word (letter_of GradientHigh ∷ []) refl) (decimal_plain k h)
 
 enclosed_plain : (xs : List ℕ) → Plain xs → Plain (enclosed xs)
 enclosed_plain xs h = glue (codes "(") (xs ∷ codes ")" ∷ []) (word _ refl) (h, (word _ refl, tt))
@@ -457,6 +464,13 @@ name_no_loop Reciprocal k rest = refl
 name_no_loop Numerator k rest = refl
 name_no_loop Head k rest = refl
 name_no_loop Rest k rest = refl
+name_no_loop MultiplierHigh k rest = refl
+name_no_loop MultiplierLow k rest = refl
+name_no_loop EntryHigh k rest = refl
+name_no_loop EntryLow k rest = refl
+name_no_loop EntryBaseHigh k rest = refl
+name_no_loop RowBaseHigh k rest = refl
+name_no_loop GradientHigh k rest = refl
 
 kind_no_loop : (q : Kind) (rest : List ℕ) → is_fifth 102 (codes "    " ++ (kind_text q ++ rest)) ≡ false
 kind_no_loop Narrow rest = refl

@@ -6,7 +6,7 @@ use Rattle.std.specs.Str.Parse.{AllDigits, digits_value_after}
 use Rattle.std.proofs.lemmas.Fmt.{decimal_is_IsNumeral}
 use Rattle.std.proofs.lemmas.Bool.{lt-ltb}
 use Rattle.c_language.specs.Syntax.{Family, Variable, variable, letter_of, Expression}
-use Rattle.c_language.specs.Syntax.Family.{State, Loaded, EntryBase, RowBase, Multiplier, Difference, Entry, Gradient, RowSum, Moved, Sum, Output, Own, Reached, Weight, Divisor, Shift, Power, Doubling, Reciprocal, Numerator, Head, Rest}
+use Rattle.c_language.specs.Syntax.Family.{State, Loaded, EntryBase, RowBase, Multiplier, Difference, Entry, Gradient, RowSum, Moved, Sum, Output, Own, Reached, Weight, Divisor, Shift, Power, Doubling, Reciprocal, Numerator, Head, Rest, MultiplierHigh, MultiplierLow, EntryHigh, EntryLow, EntryBaseHigh, RowBaseHigh, GradientHigh}
 use Rattle.c_language.specs.Syntax.Expression.{Constant, Value, Plus, Minus, Times, Quotient, Remainder, Over, Shifted, ShiftedBy}
 use Rattle.c_language.specs.Text.{variable_text, name_of, constant_text, enclosed, closed, expression_text}
 use Rattle.c_language.specs.Laws.{HasShortNumbers, ExpressionTextLaw}
@@ -78,7 +78,9 @@ family_of c =
     if c == 120 then Loaded else (if c == 97 then EntryBase else (if c == 114 then RowBase else (if c == 108 then Multiplier else (if c == 100 then Difference else
     (if c == 117 then Entry else (if c == 103 then Gradient else (if c == 121 then RowSum else (if c == 116 then Moved else (if c == 109 then Own else (if c == 118 then Reached else
     (if c == 107 then Weight else (if c == 98 then Divisor else (if c == 101 then Shift else (if c == 112 then Power else (if c == 99 then Doubling else
-    (if c == 113 then Reciprocal else (if c == 110 then Numerator else (if c == 104 then Head else (if c == 122 then Rest else Sum)))))))))))))))))))
+    (if c == 113 then Reciprocal else (if c == 110 then Numerator else (if c == 104 then Head else (if c == 122 then Rest else
+    (if c == 76 then MultiplierHigh else (if c == 106 then MultiplierLow else (if c == 85 then EntryHigh else
+    (if c == 119 then EntryLow else (if c == 65 then EntryBaseHigh else (if c == 82 then RowBaseHigh else (if c == 71 then GradientHigh else Sum))))))))))))))))))))))))))
 
 -- an operand with the operator before it
 abbrev pub below : List Frame → List Frame
@@ -263,6 +265,13 @@ variable_read Reciprocal k st h = named_read Reciprocal k st refl refl h
 variable_read Numerator k st h = named_read Numerator k st refl refl h
 variable_read Head k st h = named_read Head k st refl refl h
 variable_read Rest k st h = named_read Rest k st refl refl h
+variable_read MultiplierHigh k st h = named_read MultiplierHigh k st refl refl h
+variable_read MultiplierLow k st h = named_read MultiplierLow k st refl refl h
+variable_read EntryHigh k st h = named_read EntryHigh k st refl refl h
+variable_read EntryLow k st h = named_read EntryLow k st refl refl h
+variable_read EntryBaseHigh k st h = named_read EntryBaseHigh k st refl refl h
+variable_read RowBaseHigh k st h = named_read RowBaseHigh k st refl refl h
+variable_read GradientHigh k st h = named_read GradientHigh k st refl refl h
 
 -- ---- expressions
 -- as a sum, and as an operand

@@ -6,7 +6,7 @@ use Rattle.std.specs.Str.Parse.{AllDigits, digits_value_after}
 use Rattle.std.proofs.lemmas.Fmt.{decimal_is_IsNumeral}
 use Rattle.std.proofs.lemmas.Bool.{ne_eqb}
 use Rattle.c_language.specs.Syntax.{Family, Variable, variable, letter_of, Kind, Expression, Statement}
-use Rattle.c_language.specs.Syntax.Family.{State, Loaded, EntryBase, RowBase, Multiplier, Difference, Entry, Gradient, RowSum, Moved, Sum, Output, Own, Reached, Weight, Divisor, Shift, Power, Doubling, Reciprocal, Numerator, Head, Rest}
+use Rattle.c_language.specs.Syntax.Family.{State, Loaded, EntryBase, RowBase, Multiplier, Difference, Entry, Gradient, RowSum, Moved, Sum, Output, Own, Reached, Weight, Divisor, Shift, Power, Doubling, Reciprocal, Numerator, Head, Rest, MultiplierHigh, MultiplierLow, EntryHigh, EntryLow, EntryBaseHigh, RowBaseHigh, GradientHigh}
 use Rattle.c_language.specs.Syntax.Kind.{Narrow, Wide}
 use Rattle.c_language.specs.Syntax.Expression.{Constant, Value}
 use Rattle.c_language.specs.Syntax.Statement.{Declare, Assign, AtLeastZero, AtMost}
@@ -176,6 +176,13 @@ name_scan p form b Reciprocal k h = letter_scan p form Reciprocal k b refl refl 
 name_scan p form b Numerator k h = letter_scan p form Numerator k b refl refl refl h
 name_scan p form b Head k h = letter_scan p form Head k b refl refl refl h
 name_scan p form b Rest k h = letter_scan p form Rest k b refl refl refl h
+name_scan p form b MultiplierHigh k h = letter_scan p form MultiplierHigh k b refl refl refl h
+name_scan p form b MultiplierLow k h = letter_scan p form MultiplierLow k b refl refl refl h
+name_scan p form b EntryHigh k h = letter_scan p form EntryHigh k b refl refl refl h
+name_scan p form b EntryLow k h = letter_scan p form EntryLow k b refl refl refl h
+name_scan p form b EntryBaseHigh k h = letter_scan p form EntryBaseHigh k b refl refl refl h
+name_scan p form b RowBaseHigh k h = letter_scan p form RowBaseHigh k b refl refl refl h
+name_scan p form b GradientHigh k h = letter_scan p form GradientHigh k b refl refl refl h
 
 -- a name, and what is behind it
 behind_name : (p : Phase) (form : Form) (xs rest : List ℕ) (v : Variable) → Names p form xs v → scan (scan p xs) (32 ∷ rest) ≡ scan (named form v) rest

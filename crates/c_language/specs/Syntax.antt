@@ -27,6 +27,13 @@ pub data Family : Type 0 where
   Numerator : Family  -- n0 ..
   Head : Family  -- h0 ..
   Rest : Family  -- z0 ..
+  MultiplierHigh : Family  -- L0 ..
+  MultiplierLow : Family  -- j0 ..
+  EntryHigh : Family  -- U0 ..
+  EntryLow : Family  -- w0 ..
+  EntryBaseHigh : Family  -- A0 ..
+  RowBaseHigh : Family  -- R0 ..
+  GradientHigh : Family  -- G0 ..
 
 abbrev pub letter_of : Family → ℕ
 letter_of State = 0
@@ -52,6 +59,13 @@ letter_of Reciprocal = 113
 letter_of Numerator = 110
 letter_of Head = 104
 letter_of Rest = 122
+letter_of MultiplierHigh = 76
+letter_of MultiplierLow = 106
+letter_of EntryHigh = 85
+letter_of EntryLow = 119
+letter_of EntryBaseHigh = 65
+letter_of RowBaseHigh = 82
+letter_of GradientHigh = 71
 
 pub record Variable : Type 0 where
   pub family : Family

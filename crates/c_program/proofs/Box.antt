@@ -8,7 +8,7 @@ use Rattle.qp_model.specs.machine.Machine.{IsInside, IsAdmissible}
 use Rattle.c_language.specs.Syntax.{CProgram}
 use Rattle.c_language.specs.Meaning.{is_outside, first_from, first_outside, outcome_at}
 use Rattle.c_language.specs.Meaning.Outcome.{Refused}
-use Rattle.c_program.specs.Laws.{IsCoordinateRefused}
+use Rattle.c_program.specs.Laws.{IsCoordinateRefused, Refuses}
 
 not_lt : (x y : ℤ) → int_lt x y ≡ false → y ≤ℤ x
 not_lt x y h = grind (arith, ints)
@@ -83,12 +83,16 @@ none_outside c p xi b long grid = elim (searched c p xi b long) [
     last zero one = absurd (omega (arith, one.low))
     last (suc i) one = one.outside i (omega arith) (grid.each i (omega (arith, one.high)))
 
-pub first_told : (c : Numbers) (p : CProgram) (xi : List ℤ) → HasBox c p → length c.low ≡ c.states → length xi ≡ c.states → ¬ IsAdmissible c xi → IsCoordinateRefused c xi (first_outside p xi)
+first_told : (c : Numbers) (p : CProgram) (xi : List ℤ) → HasBox c p → length c.low ≡ c.states → length xi ≡ c.states → ¬ IsAdmissible c xi → IsCoordinateRefused c xi (first_outside p xi)
 first_told c p xi b long size outside = elim (searched c p xi b long) [
   | inl all ↦ absurd (outside (record { long = size; each = all.inside }))
   | inr one ↦ record { low = one.low; high = one.high; outside = one.outside; before = one.before }
 ]
 
-pub refused_at : (p : CProgram) (xi : List ℤ) (k : ℕ) → 1 ≤ k → outcome_at p xi k ≡ Refused k
+refused_at : (p : CProgram) (xi : List ℤ) (k : ℕ) → 1 ≤ k → outcome_at p xi k ≡ Refused k
 refused_at p xi zero l = absurd (omega (arith, l))
 refused_at p xi (suc k) l = refl
+
+-- any other state of the right length is refused
+pub refuses : (c : Numbers) (p : CProgram) (xi : List ℤ) → HasBox c p → length c.low ≡ c.states → length xi ≡ c.states → ¬ IsAdmissible c xi → Refuses c p xi
+refuses c p xi b long size outside = let first = first_told c p xi b long size outside in record { first = first; outcome = refused_at p xi (first_outside p xi) first.low }

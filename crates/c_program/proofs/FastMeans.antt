@@ -12,14 +12,14 @@ use Rattle.qp_model.specs.machine.Controller.{Numbers}
 use Rattle.qp_model.specs.machine.ValuesMet.{FitsWidth}
 use Rattle.qp_model.proofs.MagnitudeLaws.{top_le_clamp}
 use Rattle.overflow_check.specs.FastMachine.{FastIterate, step_weight, all_weights, mean_divisor, fast_top, mean_at}
-use Rattle.overflow_check.specs.FastController.{reached_magnitude}
+use Rattle.overflow_check.specs.FastController.{moved_magnitude, reached_magnitude, fast_sum_magnitude}
 use Rattle.overflow_check.proofs.ValuesMet.{fits_width}
 use Rattle.fast_machine.specs.FastReady.{IsFastReady}
 use Rattle.fast_machine.proofs.WeightSums.{more_weights, weight_sum_law}
 use Rattle.fast_machine.proofs.FastRuns.{top_le, mean_up, mean_le}
-use Rattle.fast_machine.proofs.FastSums.{FastSumsFit, weights_with, tops_within}
+use Rattle.fast_machine.proofs.FastSums.{weights_with, tops_within}
 use Rattle.c_language.specs.Syntax.{Family, variable, bits_of, Expression, Statement}
-use Rattle.c_language.specs.Syntax.Family.{EntryBase, RowBase, Multiplier, Sum, Own, Reached, Weight, Divisor, Shift, Power, Doubling, Reciprocal, Numerator, Head, Rest}
+use Rattle.c_language.specs.Syntax.Family.{Multiplier, Sum, Own, Reached, Weight, Divisor, Shift, Power, Doubling, Reciprocal, Numerator, Head, Rest}
 use Rattle.c_language.specs.Syntax.Expression.{Constant, Value, Plus, Minus, Times, Shifted}
 use Rattle.c_language.specs.Syntax.Statement.{Assign}
 use Rattle.c_language.specs.Meaning.{Environment, with_value}
@@ -28,14 +28,15 @@ use Rattle.c_program.specs.FastOf.{fast_sizes, weight_value, weighted, divisor_s
 use Rattle.c_language.proofs.Runs.{Runs, runs_none, held_new}
 use Rattle.c_program.proofs.Terms.{Makes, fits64, kind_fits, makes_same, makes_constant, makes_value, makes_plus, makes_minus, makes_multiplied, makes_over, makes_shifted, makes_shifted_by, sign_up, sign_down}
 use Rattle.c_program.proofs.Reciprocal.{quotient_is, at_most_quotient, short_reciprocal, IsNear, near_is, left_over, little_left, nearest, first_round, with_rest, rest_small}
-use Rattle.c_program.proofs.Parts.{Ready, entry_base, row_base}
-use Rattle.c_program.proofs.Before.{kinds, runs_next, runs_one, put, before_kept}
+use Rattle.c_program.proofs.Before.{OfBases, held_bases, kinds, runs_next, runs_one, put, before_kept}
 use Rattle.c_program.proofs.Planning.{made_at}
 
--- ---- what a step needs
-pub record FastStepReady (c : Numbers) (state : List ℤ) (k : ℕ) (made : FastIterate) : Type 0 where
-  pub ready : Ready c state
-  pub fit : FastSumsFit c (2 ^ 63 - 1)
+-- ---- what a step needs beside its plan's and its rows' sums
+pub record FastStepFits (c : Numbers) (k : ℕ) (made : FastIterate) : Type 0 where
+  pub nonneg : pos 0 ≤ℤ c.clamp
+  pub moved : (i : ℕ) → i < length c.bounds → moved_magnitude c i < 2 ^ 63
+  pub sums : (j : ℕ) → j < length c.offsets → fast_sum_magnitude c j < 2 ^ 63
+  pub reached : reached_magnitude c < 2 ^ 63
   pub inside : k < c.steps
   pub few : c.steps < 2 ^ 16
   pub before : IsFastReady c k made
@@ -52,9 +53,8 @@ abbrev pub ScaledTo : Numbers → (b most : ℕ) → Environment → Type 0
 ScaledTo c b most e = has_short_divisor c ≡ true → IsScale b most (e Shift 0) (e Power 0)
 
 -- what the state adds, and what the machine has made before step k
-pub record FastHolds (c : Numbers) (state : List ℤ) (k : ℕ) (made : FastIterate) (e : Environment) : Type 0 where
-  pub entry_bases : (j : ℕ) → j < length c.offsets → e EntryBase j ≡ entry_base c state j
-  pub row_bases : (i : ℕ) → i < length c.bounds → e RowBase i ≡ row_base c state i
+pub record FastHolds (c : Numbers) (B : OfBases) (k : ℕ) (made : FastIterate) (e : Environment) : Type 0 where
+  pub bases : held_bases B e
   pub own : (i : ℕ) → i < length c.bounds → e Own i ≡ at made.multipliers i
   pub reached : (i : ℕ) → i < length c.bounds → e Reached i ≡ at made.reached i
   pub sums : (j : ℕ) → j < length c.offsets → e Sum j ≡ at made.sums j
@@ -86,9 +86,8 @@ pub reached_le : (c : Numbers) (k i : ℕ) → k < c.steps → all_weights k * u
 reached_le c k i l = omega (arith, parts_sum (all_weights (suc k)) (all_weights k) (step_weight k) (unsigned_abs (fast_top c i)) (more_weights k), tops_within c (all_weights (suc k)) i (weights_with k c.steps l))
 
 -- so many means are new, with what the program holds of the divisor's scale
-pub record Means (c : Numbers) (state : List ℤ) (k : ℕ) (made : FastIterate) (S : Environment → Type 0) (d : ℕ) (e : Environment) : Type 0 where
-  pub entry_bases : (j : ℕ) → j < length c.offsets → e EntryBase j ≡ entry_base c state j
-  pub row_bases : (i : ℕ) → i < length c.bounds → e RowBase i ≡ row_base c state i
+pub record Means (c : Numbers) (B : OfBases) (k : ℕ) (made : FastIterate) (S : Environment → Type 0) (d : ℕ) (e : Environment) : Type 0 where
+  pub bases : held_bases B e
   pub own : (i : ℕ) → i < length c.bounds → e Own i ≡ at made.multipliers i
   pub reached : (i : ℕ) → i < length c.bounds → e Reached i ≡ at made.reached i
   pub sums : (j : ℕ) → j < length c.offsets → e Sum j ≡ at made.sums j
@@ -115,15 +114,14 @@ divisor_made e k l is =
     (makes_same e _ _ _ (k + 1) (k + 1) less (omega (arith, ints)) (omega arith)) (makes_same e _ _ _ (k + 2 + 2) (k + 4) more (omega (arith, ints)) (omega arith))
     (le_refl (mean_divisor k)) (divisor_small k l)
 
-pub divisor_runs : (c : Numbers) (state : List ℤ) (k : ℕ) (made : FastIterate) (e : Environment) → FastStepReady c state k made → FastHolds c state k made e →
-    Runs (kinds c (fast_sizes c)) e (divisor_statement ∷ []) (Means c state k made (ScaledTo c (mean_divisor k) 8) 0)
-divisor_runs c state k made e r h =
+pub divisor_runs : (c : Numbers) (B : OfBases) (k : ℕ) (made : FastIterate) (e : Environment) → FastStepFits c k made → FastHolds c B k made e →
+    Runs (kinds c (fast_sizes c)) e (divisor_statement ∷ []) (Means c B k made (ScaledTo c (mean_divisor k) 8) 0)
+divisor_runs c B k made e r h =
     let m = divisor_made e k (omega (arith, r.inside, r.few)) h.weight in
-    runs_one (kinds c (fast_sizes c)) e divisor_statement (pos (mean_divisor k)) (Means c state k made (ScaledTo c (mean_divisor k) 8) 0) m.defined m.is
+    runs_one (kinds c (fast_sizes c)) e divisor_statement (pos (mean_divisor k)) (Means c B k made (ScaledTo c (mean_divisor k) 8) 0) m.defined m.is
     (kind_fits (mean_divisor c.steps) (pos (mean_divisor k)) (divisor_le k c.steps (omega (arith, r.inside))) (divisor_small c.steps r.few))
     (record {
-      entry_bases = h.entry_bases;
-      row_bases = h.row_bases;
+      bases = h.bases;
       own = h.own;
       reached = h.reached;
       sums = h.sums;
@@ -169,17 +167,17 @@ few_bits bits h = elim (cases_lt bits 30) [
 ]
 
 -- the shift and the power, so many times doubled
-scale_by : (c : Numbers) (state : List ℤ) (k : ℕ) (made : FastIterate) (e : Environment) (bits d next : ℕ) → Means c state k made (ScaledTo c (mean_divisor k) 8) 0 e → mean_divisor k < 2 ^ 31 →
+scale_by : (c : Numbers) (B : OfBases) (k : ℕ) (made : FastIterate) (e : Environment) (bits d next : ℕ) → Means c B k made (ScaledTo c (mean_divisor k) 8) 0 e → mean_divisor k < 2 ^ 31 →
     e Shift 0 ≡ pos bits → e Power 0 ≡ pos (2 ^ 32 * 2 ^ bits) → 2 * 2 ^ bits ≤ mean_divisor k → d ≤ 1 →
     pos 1 +ℤ floor_of (pos (mean_divisor k) *ℤ pos (2 ^ 30) -ℤ pos (2 ^ 32 * 2 ^ bits)) (2 ^ 63) ≡ pos d → bits + d ≡ next → 2 ^ 32 * 2 ^ bits + d * (2 ^ 32 * 2 ^ bits) ≡ 2 ^ 32 * 2 ^ next →
-    2 * 2 ^ next ≤ mean_divisor k → mean_divisor k < 4 * 2 ^ next → Runs (kinds c (fast_sizes c)) e scale_lines (Means c state k made (Reciprocated c (mean_divisor k)) 0)
-scale_by c state k made e bits d next s short shift power least few is same twice low high =
+    2 * 2 ^ next ≤ mean_divisor k → mean_divisor k < 4 * 2 ^ next → Runs (kinds c (fast_sizes c)) e scale_lines (Means c B k made (Reciprocated c (mean_divisor k)) 0)
+scale_by c B k made e bits d next s short shift power least few is same twice low high =
     let b = mean_divisor k in
     let p = 2 ^ 32 * 2 ^ bits in
     let n = 2 ^ 32 * 2 ^ next in
     let some : 0 < 2 ^ next = pow_pos next in
     let kind = kinds c (fast_sizes c) in
-    let P = Means c state k made (Reciprocated c b) 0 in
+    let P = Means c B k made (Reciprocated c b) 0 in
     let more : d * p ≤ p = omega (arith, mul-le d p 1 p few (le_refl p)) in
     let small : bits < 30 = few_bits bits (omega (arith, least, short)) in
     let m1 = doubling_made e b (2 ^ bits) short least s.divisor power in
@@ -199,8 +197,7 @@ scale_by c state k made e bits d next s short shift power least few is same twic
     (runs_next kind e2 _ _ (pos n) P m3.defined (m3.is ∙ ap pos twice) (fits64 (pos n) (omega (arith, low, short)))
     (runs_one kind e3 _ (floor_of (pos n -ℤ pos 1) b) P m4.defined m4.is (fits_width 32 _ (omega (arith, reciprocal_small b (2 ^ next) some low)))
     (record {
-      entry_bases = s.entry_bases;
-      row_bases = s.row_bases;
+      bases = s.bases;
       own = s.own;
       reached = s.reached;
       sums = s.sums;
@@ -210,25 +207,24 @@ scale_by c state k made e bits d next s short shift power least few is same twic
       means = λ i l. absurd (omega (arith, l));
     }))))
 
-pub scale_runs : (c : Numbers) (state : List ℤ) (k : ℕ) (made : FastIterate) (e : Environment) → FastStepReady c state k made → Means c state k made (ScaledTo c (mean_divisor k) 8) 0 e →
-    Runs (kinds c (fast_sizes c)) e (scale_statements c) (Means c state k made (Reciprocated c (mean_divisor k)) 0)
-scale_runs c state k made e r s =
+pub scale_runs : (c : Numbers) (B : OfBases) (k : ℕ) (made : FastIterate) (e : Environment) → FastStepFits c k made → Means c B k made (ScaledTo c (mean_divisor k) 8) 0 e →
+    Runs (kinds c (fast_sizes c)) e (scale_statements c) (Means c B k made (Reciprocated c (mean_divisor k)) 0)
+scale_runs c B k made e r s =
     let kind = kinds c (fast_sizes c) in
     let b = mean_divisor k in
-    let P = Means c state k made (Reciprocated c b) 0 in
+    let P = Means c B k made (Reciprocated c b) 0 in
     cond_both (has_short_divisor c) scale_lines [] (λ ss. Runs kind e ss P)
     (λ t.
     let g = s.scale t in
     let x = 2 ^ g.bits in
     let short : b < 2 ^ 31 = omega (arith, divisor_le k c.steps (omega (arith, r.inside)), ltb-true (mean_divisor c.steps) (2 ^ 31) t) in
     elim (cases_lt b (4 * x)) [
-      | inl less ↦ scale_by c state k made e g.bits 0 g.bits s short g.shifts g.powers g.low (omega arith) (not_doubled b x short g.low less) (omega arith) (omega arith) g.low less
+      | inl less ↦ scale_by c B k made e g.bits 0 g.bits s short g.shifts g.powers g.low (omega arith) (not_doubled b x short g.low less) (omega arith) (omega arith) g.low less
       | inr more ↦ (let double = pow-succ' 2 g.bits in
-          scale_by c state k made e g.bits 1 (suc g.bits) s short g.shifts g.powers g.low (omega arith) (doubled b x short more) (omega arith) (omega (arith, double)) (omega (arith, double, more)) (omega (arith, double, g.high)))
+          scale_by c B k made e g.bits 1 (suc g.bits) s short g.shifts g.powers g.low (omega arith) (doubled b x short more) (omega arith) (omega (arith, double)) (omega (arith, double, more)) (omega (arith, double, g.high)))
     ])
     (λ f. runs_none kind e P (record {
-      entry_bases = s.entry_bases;
-      row_bases = s.row_bases;
+      bases = s.bases;
       own = s.own;
       reached = s.reached;
       sums = s.sums;
@@ -256,33 +252,32 @@ next_scale k shift power g = record {
 abbrev mean_sum : ℕ → FastIterate → ℕ → ℤ
 mean_sum k made i = at made.reached i +ℤ pos (step_weight k) *ℤ at made.multipliers i
 
-mean_fits : (c : Numbers) (state : List ℤ) (k : ℕ) (made : FastIterate) (i : ℕ) → FastStepReady c state k made → i < length c.bounds → (z : ℤ) → unsigned_abs z ≤ multiplier_top c i →
+mean_fits : (c : Numbers) (B : OfBases) (k : ℕ) (made : FastIterate) (i : ℕ) → FastStepFits c k made → i < length c.bounds → (z : ℤ) → unsigned_abs z ≤ multiplier_top c i →
     FitsWidth (bits_of (kind_for (multiplier_top c i))) z
-mean_fits c state k made i r l z h = kind_fits (multiplier_top c i) z h (omega (arith, top_le_clamp c i, r.ready.fit.next i l))
+mean_fits c B k made i r l z h = kind_fits (multiplier_top c i) z h (omega (arith, top_le_clamp c i, r.moved i l))
 
 -- what is divided for it
-numerator_made : (c : Numbers) (state : List ℤ) (k : ℕ) (made : FastIterate) (i : ℕ) (e : Environment) → FastStepReady c state k made → i < length c.bounds →
-    Means c state k made (Reciprocated c (mean_divisor k)) i e → Makes e (numerator_expression i) (mean_sum k made i) (all_weights k * unsigned_abs (fast_top c i) + step_weight k * unsigned_abs (fast_top c i))
-numerator_made c state k made i e r l s =
+numerator_made : (c : Numbers) (B : OfBases) (k : ℕ) (made : FastIterate) (i : ℕ) (e : Environment) → FastStepFits c k made → i < length c.bounds →
+    Means c B k made (Reciprocated c (mean_divisor k)) i e → Makes e (numerator_expression i) (mean_sum k made i) (all_weights k * unsigned_abs (fast_top c i) + step_weight k * unsigned_abs (fast_top c i))
+numerator_made c B k made i e r l s =
     let t = unsigned_abs (fast_top c i) in
     let rows = r.before.rows in
-    let room : all_weights k * t + step_weight k * t < 2 ^ 63 = omega (arith, reached_le c k i r.inside, r.fit.reached) in
+    let room : all_weights k * t + step_weight k * t < 2 ^ 63 = omega (arith, reached_le c k i r.inside, r.reached) in
     let old = makes_value e (variable Reached i) (at made.reached i) (all_weights k * t) (s.reached i l) (rows.summed i l).high (omega (arith, room)) in
-    let own = makes_value e (variable Own i) (at made.multipliers i) t (s.own i l) (rows.own i l).high (omega (arith, top_le c i, r.fit.moved i l)) in
+    let own = makes_value e (variable Own i) (at made.multipliers i) t (s.own i l) (rows.own i l).high (omega (arith, top_le c i, r.moved i l)) in
     makes_plus e _ _ _ _ (all_weights k * t) (step_weight k * t) old
     (weighted_made e k _ _ t (step_weight k * t) (omega (arith, r.inside, r.few)) s.weight own (le_refl (step_weight k * t)) (omega (arith, room))) room
 
-divided_runs : (c : Numbers) (state : List ℤ) (k : ℕ) (made : FastIterate) (i : ℕ) (e : Environment) → FastStepReady c state k made → i < length c.bounds →
-    Means c state k made (Reciprocated c (mean_divisor k)) i e → Runs (kinds c (fast_sizes c)) e (Assign (variable Multiplier i) (mean_expression i) ∷ []) (Means c state k made (Reciprocated c (mean_divisor k)) (suc i))
-divided_runs c state k made i e r l s =
+divided_runs : (c : Numbers) (B : OfBases) (k : ℕ) (made : FastIterate) (i : ℕ) (e : Environment) → FastStepFits c k made → i < length c.bounds →
+    Means c B k made (Reciprocated c (mean_divisor k)) i e → Runs (kinds c (fast_sizes c)) e (Assign (variable Multiplier i) (mean_expression i) ∷ []) (Means c B k made (Reciprocated c (mean_divisor k)) (suc i))
+divided_runs c B k made i e r l s =
     let rows = r.before.rows in
-    let m = makes_over e _ (variable Divisor 0) _ _ (mean_divisor k) (numerator_made c state k made i e r l s) s.divisor (some_divisor k) (divisor_small k (omega (arith, r.inside, r.few)))
+    let m = makes_over e _ (variable Divisor 0) _ _ (mean_divisor k) (numerator_made c B k made i e r l s) s.divisor (some_divisor k) (divisor_small k (omega (arith, r.inside, r.few)))
     (mean_up c k made.multipliers made.reached i rows l).low in
-    runs_one (kinds c (fast_sizes c)) e _ (mean_at k made.multipliers made.reached i) (Means c state k made (Reciprocated c (mean_divisor k)) (suc i)) m.defined m.is
-    (mean_fits c state k made i r l (mean_at k made.multipliers made.reached i) (mean_le c k made.multipliers made.reached i r.ready.nonneg rows l))
+    runs_one (kinds c (fast_sizes c)) e _ (mean_at k made.multipliers made.reached i) (Means c B k made (Reciprocated c (mean_divisor k)) (suc i)) m.defined m.is
+    (mean_fits c B k made i r l (mean_at k made.multipliers made.reached i) (mean_le c k made.multipliers made.reached i r.nonneg rows l))
     (record {
-      entry_bases = s.entry_bases;
-      row_bases = s.row_bases;
+      bases = s.bases;
       own = s.own;
       reached = s.reached;
       sums = s.sums;
@@ -342,9 +337,9 @@ record QuickRow (c : Numbers) (k : ℕ) (made : FastIterate) (i most : ℕ) (e :
   mean : floor_of (pos n) (mean_divisor k) ≡ mean_at k made.multipliers made.reached i
   top : unsigned_abs (mean_at k made.multipliers made.reached i) ≤ multiplier_top c i
 
-quick_row : (c : Numbers) (state : List ℤ) (k : ℕ) (made : FastIterate) (i most : ℕ) (e : Environment) → FastStepReady c state k made → i < length c.bounds → has_short_divisor c ≡ true →
-    unsigned_abs (fast_top c i) < 2 * most → Means c state k made (Reciprocated c (mean_divisor k)) i e → QuickRow c k made i most e
-quick_row c state k made i most e r l short few s =
+quick_row : (c : Numbers) (B : OfBases) (k : ℕ) (made : FastIterate) (i most : ℕ) (e : Environment) → FastStepFits c k made → i < length c.bounds → has_short_divisor c ≡ true →
+    unsigned_abs (fast_top c i) < 2 * most → Means c B k made (Reciprocated c (mean_divisor k)) i e → QuickRow c k made i most e
+quick_row c B k made i most e r l short few s =
     let t = unsigned_abs (fast_top c i) in
     let b = mean_divisor k in
     let rows = r.before.rows in
@@ -364,9 +359,9 @@ quick_row c state k made i most e r l short few s =
       is_reciprocal = refl;
       numerator = is;
       below = below n (all_weights (suc k)) t b most (weight_sum_law.divisor k) (some_divisor k) up.high few;
-      large = omega (arith, (numerator_made c state k made i e r l s).within, reached_le c k i r.inside, r.fit.reached);
+      large = omega (arith, (numerator_made c B k made i e r l s).within, reached_le c k i r.inside, r.reached);
       mean = ap (λ (y : ℤ). floor_of y b) (sym is);
-      top = mean_le c k made.multipliers made.reached i r.ready.nonneg rows l;
+      top = mean_le c k made.multipliers made.reached i r.nonneg rows l;
     }
 
 near_row : (c : Numbers) (k : ℕ) (made : FastIterate) (i most : ℕ) (e : Environment) (g : QuickRow c k made i most e) (m : ℕ) → m < 2 ^ 29 * mean_divisor k →
@@ -380,19 +375,19 @@ below_mean : (c : Numbers) (k : ℕ) (made : FastIterate) (i most : ℕ) (e : En
 below_mean c k made i most e g w h =
     omega (arith, g.top, subst (λ (y : ℤ). w ≤ unsigned_abs y) g.mean (at_most_quotient g.n (mean_divisor k) w (some_divisor k) h))
 
-quick_runs : (c : Numbers) (state : List ℤ) (k : ℕ) (made : FastIterate) (i : ℕ) (e : Environment) → FastStepReady c state k made → i < length c.bounds →
-    Means c state k made (Reciprocated c (mean_divisor k)) i e → QuickRow c k made i (2 ^ 29) e →
-    Runs (kinds c (fast_sizes c)) e (quick_mean_statements i) (Means c state k made (Reciprocated c (mean_divisor k)) (suc i))
-quick_runs c state k made i e r l s g =
+quick_runs : (c : Numbers) (B : OfBases) (k : ℕ) (made : FastIterate) (i : ℕ) (e : Environment) → FastStepFits c k made → i < length c.bounds →
+    Means c B k made (Reciprocated c (mean_divisor k)) i e → QuickRow c k made i (2 ^ 29) e →
+    Runs (kinds c (fast_sizes c)) e (quick_mean_statements i) (Means c B k made (Reciprocated c (mean_divisor k)) (suc i))
+quick_runs c B k made i e r l s g =
     let kind = kinds c (fast_sizes c) in
     let b = mean_divisor k in
     let z = mean_at k made.multipliers made.reached i in
-    let P = Means c state k made (Reciprocated c b) (suc i) in
+    let P = Means c B k made (Reciprocated c b) (suc i) in
     let n = g.n in
     let h = n / 2 ^ g.scale.bits in
     let w = h * g.q / 2 ^ 32 in
     let near = near_row c k made i (2 ^ 29) e g n g.below in
-    let sum = numerator_made c state k made i e r l s in
+    let sum = numerator_made c B k made i e r l s in
     let numerator = held_new e (variable Numerator i) (pos n) in
     let e1 = with_value e (variable Numerator i) (pos n) in
     let m2 = makes_shifted_by e1 _ (variable Shift 0) (pos n) n g.scale.bits (makes_value e1 (variable Numerator i) (pos n) n numerator (le_refl n) g.large) g.scale.shifts g.bits in
@@ -406,12 +401,11 @@ quick_runs c state k made i e r l s g =
     let m5 = exact_made e4 Multiplier i n b h g.q w near (some_divisor k) g.short mean (held_new e3 (variable Rest i) left) in
     runs_next kind e _ _ (pos n) P sum.defined (sum.is ∙ g.numerator) (fits64 (pos n) g.large)
     (runs_next kind e1 _ _ (pos h) P m2.defined m2.is (fits_width 32 (pos h) (omega (arith, near.head)))
-    (runs_next kind e2 _ _ (pos w) P m3.defined m3.is (mean_fits c state k made i r l (pos w) (below_mean c k made i (2 ^ 29) e g w near.low))
+    (runs_next kind e2 _ _ (pos w) P m3.defined m3.is (mean_fits c B k made i r l (pos w) (below_mean c k made i (2 ^ 29) e g w near.low))
     (runs_next kind e3 _ _ left P m4.defined m4.is (fits_width 32 left (omega (arith, m4.within, g.short)))
-    (runs_one kind e4 _ z P m5.defined (m5.is ∙ g.mean) (mean_fits c state k made i r l z g.top)
+    (runs_one kind e4 _ z P m5.defined (m5.is ∙ g.mean) (mean_fits c B k made i r l z g.top)
     (record {
-      entry_bases = s.entry_bases;
-      row_bases = s.row_bases;
+      bases = s.bases;
       own = s.own;
       reached = s.reached;
       sums = s.sums;
@@ -421,14 +415,14 @@ quick_runs c state k made i e r l s g =
       means = put (e4 Multiplier) (at (used_of c k made)) i z (used_at c k made i l) (λ j m. before_kept (e Multiplier) (at (used_of c k made)) i (pos w) s.means j m);
     })))))
 
-twice_runs : (c : Numbers) (state : List ℤ) (k : ℕ) (made : FastIterate) (i : ℕ) (e : Environment) → FastStepReady c state k made → i < length c.bounds →
-    Means c state k made (Reciprocated c (mean_divisor k)) i e → QuickRow c k made i (2 ^ 55) e →
-    Runs (kinds c (fast_sizes c)) e (twice_mean_statements i) (Means c state k made (Reciprocated c (mean_divisor k)) (suc i))
-twice_runs c state k made i e r l s g =
+twice_runs : (c : Numbers) (B : OfBases) (k : ℕ) (made : FastIterate) (i : ℕ) (e : Environment) → FastStepFits c k made → i < length c.bounds →
+    Means c B k made (Reciprocated c (mean_divisor k)) i e → QuickRow c k made i (2 ^ 55) e →
+    Runs (kinds c (fast_sizes c)) e (twice_mean_statements i) (Means c B k made (Reciprocated c (mean_divisor k)) (suc i))
+twice_runs c B k made i e r l s g =
     let kind = kinds c (fast_sizes c) in
     let b = mean_divisor k in
     let z = mean_at k made.multipliers made.reached i in
-    let P = Means c state k made (Reciprocated c b) (suc i) in
+    let P = Means c B k made (Reciprocated c b) (suc i) in
     let x = 2 ^ g.scale.bits in
     let n = g.n in
     let high = n / 2 ^ 26 in
@@ -445,7 +439,7 @@ twice_runs c state k made i e r l s g =
     let large : m < 2 ^ 63 = omega (arith, g.large) in
     let f = m / b in
     let small : f < 2 ^ 27 = rest_small m b (some_divisor k) first.high in
-    let sum = numerator_made c state k made i e r l s in
+    let sum = numerator_made c B k made i e r l s in
     let e1 = with_value e (variable Numerator i) (pos n) in
     let whole = held_new e (variable Numerator i) (pos n) in
     let m2 = makes_shifted_by e1 _ (variable Shift 0) (pos high) n g.scale.bits
@@ -475,16 +469,15 @@ twice_runs c state k made i e r l s g =
     (makes_value e8 (variable Head i) (pos f) f (held_new e7 (variable Head i) (pos f)) (le_refl f) (omega (arith, small))) (omega (arith, near.small, small)) in
     runs_next kind e _ _ (pos n) P sum.defined (sum.is ∙ g.numerator) (fits64 (pos n) g.large)
     (runs_next kind e1 _ _ (pos h) P m2.defined m2.is (fits_width 32 (pos h) (omega (arith, near.head)))
-    (runs_next kind e2 _ _ (pos u) P m3.defined m3.is (mean_fits c state k made i r l (pos u) (below_mean c k made i (2 ^ 55) e g u first.low))
+    (runs_next kind e2 _ _ (pos u) P m3.defined m3.is (mean_fits c B k made i r l (pos u) (below_mean c k made i (2 ^ 55) e g u first.low))
     (runs_next kind e3 _ _ (pos m) P m4.defined (m4.is ∙ left_is) (fits64 (pos m) large)
     (runs_next kind e4 _ _ (pos h2) P m5.defined m5.is (fits_width 32 (pos h2) (omega (arith, near2.head)))
     (runs_next kind e5 _ _ (pos w2) P m6.defined m6.is (fits_width 32 (pos w2) (omega (arith, near2.small)))
     (runs_next kind e6 _ _ left P m7.defined m7.is (fits_width 32 left (omega (arith, m7.within, g.short)))
     (runs_next kind e7 _ _ (pos f) P m8.defined m8.is (fits_width 32 (pos f) (omega (arith, small)))
-    (runs_one kind e8 _ z P m9.defined (m9.is ∙ with_rest n b u (some_divisor k) first.low ∙ g.mean) (mean_fits c state k made i r l z g.top)
+    (runs_one kind e8 _ z P m9.defined (m9.is ∙ with_rest n b u (some_divisor k) first.low ∙ g.mean) (mean_fits c B k made i r l z g.top)
     (record {
-      entry_bases = s.entry_bases;
-      row_bases = s.row_bases;
+      bases = s.bases;
       own = s.own;
       reached = s.reached;
       sums = s.sums;
@@ -494,16 +487,16 @@ twice_runs c state k made i e r l s g =
       means = put (e8 Multiplier) (at (used_of c k made)) i z (used_at c k made i l) (λ j m. before_kept (e Multiplier) (at (used_of c k made)) i (pos u) s.means j m);
     })))))))))
 
-pub mean_runs : (c : Numbers) (state : List ℤ) (k : ℕ) (made : FastIterate) (i : ℕ) (e : Environment) → FastStepReady c state k made → i < length c.bounds →
-    Means c state k made (Reciprocated c (mean_divisor k)) i e → Runs (kinds c (fast_sizes c)) e (mean_statements c i) (Means c state k made (Reciprocated c (mean_divisor k)) (suc i))
-mean_runs c state k made i e r l s =
-    let R = λ (ss : List Statement). Runs (kinds c (fast_sizes c)) e ss (Means c state k made (Reciprocated c (mean_divisor k)) (suc i)) in
+pub mean_runs : (c : Numbers) (B : OfBases) (k : ℕ) (made : FastIterate) (i : ℕ) (e : Environment) → FastStepFits c k made → i < length c.bounds →
+    Means c B k made (Reciprocated c (mean_divisor k)) i e → Runs (kinds c (fast_sizes c)) e (mean_statements c i) (Means c B k made (Reciprocated c (mean_divisor k)) (suc i))
+mean_runs c B k made i e r l s =
+    let R = λ (ss : List Statement). Runs (kinds c (fast_sizes c)) e ss (Means c B k made (Reciprocated c (mean_divisor k)) (suc i)) in
     let size = unsigned_abs (fast_top c i) in
     let divided = Assign (variable Multiplier i) (mean_expression i) ∷ [] in
     cond_both (is_quick c i) (quick_mean_statements i) (if is_twice_quick c i then twice_mean_statements i else divided) R
     (λ t. let parts = and_parts (has_short_divisor c) (ltb size (2 ^ 30)) t in
-    quick_runs c state k made i e r l s (quick_row c state k made i (2 ^ 29) e r l parts.0 (omega (arith, ltb-true size (2 ^ 30) parts.1)) s))
+    quick_runs c B k made i e r l s (quick_row c B k made i (2 ^ 29) e r l parts.0 (omega (arith, ltb-true size (2 ^ 30) parts.1)) s))
     (λ f. cond_both (is_twice_quick c i) (twice_mean_statements i) divided R
     (λ t. let parts = and_parts (has_short_divisor c) (ltb size (2 ^ 56)) t in
-    twice_runs c state k made i e r l s (quick_row c state k made i (2 ^ 55) e r l parts.0 (omega (arith, ltb-true size (2 ^ 56) parts.1)) s))
-    (λ g. divided_runs c state k made i e r l s))
+    twice_runs c B k made i e r l s (quick_row c B k made i (2 ^ 55) e r l parts.0 (omega (arith, ltb-true size (2 ^ 56) parts.1)) s))
+    (λ g. divided_runs c B k made i e r l s))

@@ -8,6 +8,7 @@ pub mod Reciprocal
 pub mod Amounts
 pub mod Pairs
 pub mod Parts
+pub mod PartedSums
 -- ---- runs
 pub mod Before
 pub mod Planning
@@ -20,8 +21,16 @@ pub mod ProgramNeeds
 pub mod Solving
 pub mod ProgramLaw
 pub mod FastProgramLaw
+-- ---- in two parts
+pub mod PartedNeeds
+pub mod PartedBefore
+pub mod PartedPlan
+pub mod PartedStep
+pub mod PartedLaw
 -- ---- the text
 pub mod ShortTexts
+pub mod PartedTexts
 -- ---- a worked program
 pub mod Worked
 pub mod FastWorked
+pub mod PartedWorked

@@ -235,7 +235,7 @@ gains_are c multipliers e j l long s =
     split false z = omega (arith, ints)
 
 -- ---- their sizes
-less_gain : (b : Bool) (w : ℤ) → unsigned_abs (if b then pos 0 else w) ≤ unsigned_abs w
+pub less_gain : (b : Bool) (w : ℤ) → unsigned_abs (if b then pos 0 else w) ≤ unsigned_abs w
 less_gain true w = omega arith
 less_gain false w = le_refl (unsigned_abs w)
 

@@ -107,8 +107,12 @@ row_base_made c state e i r l loaded =
 
 -- ---- a plan entry
 -- the variables of the state, as if all families held it
-held_state : List ℤ → Environment
+pub held_state : List ℤ → Environment
 held_state state family k = at state k
+
+pub held_loaded : (state : List ℤ) (k : ℕ) → held_state state Loaded k ≡ at state k
+unfolding held_state
+held_loaded state k = refl
 
 entry_base_le : (c : Numbers) (state : List ℤ) (j : ℕ) → Ready c state → j < length c.offsets → unsigned_abs (entry_base c state j) ≤ entry_base_top c j
 unfolding held_state
@@ -143,11 +147,11 @@ entry_made c state multipliers e j r l ranges base stand =
     from_zero x y h = omega (arith, ints, h)
 
 -- it is at most its magnitude
-pub entry_le : (c : Numbers) (state multipliers : List ℤ) (j : ℕ) → Ready c state → j < length c.offsets → AreUpToTops c multipliers →
+pub entry_le : (c : Numbers) (state multipliers : List ℤ) (j : ℕ) → AreWithin state (state_magnitudes c) → pos 0 ≤ℤ c.clamp → j < length c.offsets → AreUpToTops c multipliers →
     unsigned_abs (plan_entry c state (raised c multipliers) j) ≤ entry_top c j
-entry_le c state multipliers j r l tops =
+entry_le c state multipliers j within nonneg l tops =
     rw (get_or-map-range_with_len (plan_entry c state (raised c multipliers)) 0 (length c.offsets) j j (pos 0) l (omega arith)) at
-    ((plan_within c state (raised c multipliers) r.within (raised_within c multipliers r.nonneg tops)).each j)
+    ((plan_within c state (raised c multipliers) within (raised_within c multipliers nonneg tops)).each j)
 
 -- ---- the sum of a row
 -- what it is made from
@@ -214,7 +218,7 @@ base_made c state plan e i r l p =
     (makes_value e (variable RowBase i) (row_base c state i) (row_base_top c i) (p.bases i l) (row_base_le c state i r l) (omega (arith, r.fit.rows i l)))
     (omega (arith, row_bits_le c i, r.short))
 
-row_order : (c : Numbers) (state plan : List ℤ) (i : ℕ) → row_base c state i +ℤ list_dot (row_of c.plan_rows i) plan ≡ row_sum c state plan i
+pub row_order : (c : Numbers) (state plan : List ℤ) (i : ℕ) → row_base c state i +ℤ list_dot (row_of c.plan_rows i) plan ≡ row_sum c state plan i
 row_order c state plan i = order (at c.bounds i *ℤ pos (2 ^ c.fraction_bits)) (list_dot (row_of c.state_rows i) state) (list_dot (row_of c.plan_rows i) plan)
   where
     order : (bound own planned : ℤ) → (neg_ℤ bound +ℤ own) +ℤ planned ≡ planned +ℤ own -ℤ bound
@@ -300,9 +304,10 @@ row_made c state plan e i r l p shared =
     (λ f. cond_both (is_second c i) _ _ M (λ t. later_made c state plan e i r l p shared t) (λ g. alone_made c state plan e i r l p))
 
 -- it fits the type that its variable has
-row_sum_le : (c : Numbers) (state plan : List ℤ) (i : ℕ) → Ready c state → AreWithin plan (plan_magnitudes c) → unsigned_abs (row_sum c state plan i) ≤ row_absolute_sum c i
-row_sum_le c state plan i r w =
-    omega (arith, abs-row_le (list_dot (row_of c.plan_rows i) plan) (list_dot (row_of c.state_rows i) state) (at c.bounds i) c.fraction_bits, row_le c state plan i r.within w)
+pub row_sum_le : (c : Numbers) (state plan : List ℤ) (i : ℕ) → AreWithin state (state_magnitudes c) → AreWithin plan (plan_magnitudes c) →
+    unsigned_abs (row_sum c state plan i) ≤ row_absolute_sum c i
+row_sum_le c state plan i within w =
+    omega (arith, abs-row_le (list_dot (row_of c.plan_rows i) plan) (list_dot (row_of c.state_rows i) state) (at c.bounds i) c.fraction_bits, row_le c state plan i within w)
 
 pub row_within : (c : Numbers) (state plan : List ℤ) (i : ℕ) → Ready c state → AreWithin plan (plan_magnitudes c) → unsigned_abs (lowered_sum c state plan i) ≤ row_top c i
 row_within c state plan i r w =
@@ -312,7 +317,7 @@ row_within c state plan i r w =
     let most = ceil_div (row_absolute_sum c i) (2 ^ f) in
     let split : 2 ^ f ≡ 2 ^ q * 2 ^ (f - q) = power_split f q (row_bits_le c i) in
     let room : unsigned_abs z ≤ 2 ^ q * (2 ^ (f - q) * most) =
-    omega (arith, row_sum_le c state plan i r w, le-mul-ceil_div (row_absolute_sum c i) (2 ^ f) (pow_pos f), ap (λ (n : ℕ). n * most) split, mul_assoc (2 ^ q) (2 ^ (f - q)) most) in
+    omega (arith, row_sum_le c state plan i r.within w, le-mul-ceil_div (row_absolute_sum c i) (2 ^ f) (pow_pos f), ap (λ (n : ℕ). n * most) split, mul_assoc (2 ^ q) (2 ^ (f - q)) most) in
     omega (
       arith,
       abs-floor_le_ceil z (2 ^ q) (pow_pos q),
@@ -335,7 +340,7 @@ residual_made c state plan e i r l w small sum =
     let twice : floor_of (lowered_sum c state plan i) (2 ^ (f - q)) ≡ floor_of z (2 ^ f) =
     floor_twice z (2 ^ q) (2 ^ (f - q)) ∙ ap (floor_of z) (sym (power_split f q (row_bits_le c i))) in
     let lowered : unsigned_abs (floor_of z (2 ^ f)) ≤ ceil_div (row_absolute_sum c i) (2 ^ f) =
-    omega (arith, abs-floor_le_ceil z (2 ^ f) (pow_pos f), ceil_div_mono (unsigned_abs z) (row_absolute_sum c i) (2 ^ f) (pow_pos f) (row_sum_le c state plan i r w)) in
+    omega (arith, abs-floor_le_ceil z (2 ^ f) (pow_pos f), ceil_div_mono (unsigned_abs z) (row_absolute_sum c i) (2 ^ f) (pow_pos f) (row_sum_le c state plan i r.within w)) in
     record { defined = shifted.defined; is = shifted.is ∙ twice; within = lowered }
 
 pub moved_made : (c : Numbers) (state plan multipliers : List ℤ) (e : Environment) (i : ℕ) → Ready c state → i < length c.bounds → AreUpToTops c multipliers → AreWithin plan (plan_magnitudes c) →

@@ -30,11 +30,11 @@ or_second : (a b : Bool) → b ≡ true → (a || b) ≡ true
 or_second true b h = refl
 or_second false b h = h
 
-and_both : (a b : Bool) → a ≡ true → b ≡ true → (a && b) ≡ true
+pub and_both : (a b : Bool) → a ≡ true → b ≡ true → (a && b) ≡ true
 and_both true b h k = k
 and_both false b h k = absurd (true≢false (sym h))
 
-any_there : (f : ℕ → Bool) (n i : ℕ) → i < n → f i ≡ true → any_below f n ≡ true
+pub any_there : (f : ℕ → Bool) (n i : ℕ) → i < n → f i ≡ true → any_below f n ≡ true
 unfolding any_below
 any_there f zero i l h = absurd (omega (arith, l))
 any_there f (suc n) i l h = elim (cases_lt i n) [
@@ -72,7 +72,7 @@ unfolding is_coordinate_needed
 coordinate_needed c k = refl
 
 -- a pair's rows both are
-pair_needed : (c : Numbers) (i k : ℕ) → IsPair c i k → is_row_needed c i ≡ is_row_needed c k
+pub pair_needed : (c : Numbers) (i k : ℕ) → IsPair c i k → is_row_needed c i ≡ is_row_needed c k
 pair_needed c i k p =
     row_needed c i ∙ any_same (λ j. is_product (at (row_of c.dual_gains j) i) (multiplier_top c i)) (λ j. is_product (at (row_of c.dual_gains j) k) (multiplier_top c k)) (length c.offsets) (λ j l.
     let size : unsigned_abs (at (row_of c.dual_gains j) i) ≡ unsigned_abs (at (row_of c.dual_gains j) k) =
@@ -86,12 +86,12 @@ positive_product zero p t h = absurd (omega (arith, h))
 positive_product (suc a) p zero h = absurd (omega (arith, h))
 positive_product (suc a) p (suc t) h = let x : 0 < suc a = omega arith in let y : 0 < suc t = omega arith in mul-pos x y
 
-product_shifted : (x : ℤ) (s top : ℕ) → ltb 0 (unsigned_abs (x *ℤ pos (2 ^ s)) * top) ≡ true → is_product x top ≡ true
+pub product_shifted : (x : ℤ) (s top : ℕ) → ltb 0 (unsigned_abs (x *ℤ pos (2 ^ s)) * top) ≡ true → is_product x top ≡ true
 product_shifted x s top h =
     let some : 0 < unsigned_abs x * 2 ^ s * top = subst (λ (a : ℕ). 0 < a * top) (abs-shifted x s) (ltb-true 0 (unsigned_abs (x *ℤ pos (2 ^ s)) * top) h) in
     lt-ltb 0 (unsigned_abs x * top) (positive_product (unsigned_abs x) (2 ^ s) top some)
 
-gain_needed : (c : Numbers) (i j : ℕ) → j < length c.offsets → is_product (at (row_of c.dual_gains j) i) (multiplier_top c i) ≡ true → is_row_needed c i ≡ true
+pub gain_needed : (c : Numbers) (i j : ℕ) → j < length c.offsets → is_product (at (row_of c.dual_gains j) i) (multiplier_top c i) ≡ true → is_row_needed c i ≡ true
 gain_needed c i j l h = row_needed c i ∙ any_there (λ m. is_product (at (row_of c.dual_gains m) i) (multiplier_top c i)) (length c.offsets) j l h
 
 -- what a coordinate reaches
@@ -101,12 +101,12 @@ in_entries c k = any_below (λ j. is_product (at (row_of c.state_gains j) k) (st
 in_rows : Numbers → ℕ → Bool
 in_rows c k = any_below (λ i. is_row_needed c i && is_product (at (row_of c.state_rows i) k) (state_top c k)) (length c.bounds)
 
-entry_needs : (c : Numbers) (j k : ℕ) → j < length c.offsets → is_product (at (row_of c.state_gains j) k) (state_top c k) ≡ true → is_coordinate_needed c k ≡ true
+pub entry_needs : (c : Numbers) (j k : ℕ) → j < length c.offsets → is_product (at (row_of c.state_gains j) k) (state_top c k) ≡ true → is_coordinate_needed c k ≡ true
 unfolding in_entries in_rows
 entry_needs c j k l h =
     coordinate_needed c k ∙ or_first (in_entries c k) (in_rows c k) (any_there (λ m. is_product (at (row_of c.state_gains m) k) (state_top c k)) (length c.offsets) j l h)
 
-row_needs : (c : Numbers) (i k : ℕ) → i < length c.bounds → is_row_needed c i ≡ true → is_product (at (row_of c.state_rows i) k) (state_top c k) ≡ true → is_coordinate_needed c k ≡ true
+pub row_needs : (c : Numbers) (i k : ℕ) → i < length c.bounds → is_row_needed c i ≡ true → is_product (at (row_of c.state_rows i) k) (state_top c k) ≡ true → is_coordinate_needed c k ≡ true
 unfolding in_entries in_rows
 row_needs c i k l n h =
     coordinate_needed c k ∙
@@ -151,16 +151,16 @@ before_needs c =
     (closed_groups b (zero_statements Sum) (length c.offsets) (λ j m. ((λ t. tt), tt)))
 
 -- ---- one step
-difference_needs : (c : Numbers) (i : ℕ) → AreClosed (is_needed c) (difference_statements c i)
+pub difference_needs : (c : Numbers) (i : ℕ) → AreClosed (is_needed c) (difference_statements c i)
 difference_needs c i =
     cond_both (is_first c i) (Declare (variable Difference i) (Minus (Value (variable Multiplier i)) (Value (variable Multiplier (partner c i)))) ∷ []) [] (AreClosed (is_needed c))
     (λ t. ((λ n. (n, sym (pair_needed c i (partner c i) (pair_there c i t)) ∙ n)), tt)) (λ f. tt)
 
-gain_variable_needed : (c : Numbers) (i : ℕ) → is_row_needed c i ≡ true → is_needed c (gain_variable c i) ≡ true
+pub gain_variable_needed : (c : Numbers) (i : ℕ) → is_row_needed c i ≡ true → is_needed c (gain_variable c i) ≡ true
 gain_variable_needed c i h = cond_both (is_first c i) Difference Multiplier (λ f. is_needed c (variable f i) ≡ true) (λ t. h) (λ f. h)
 
 -- a gain that is left in
-gain_left : (b : Bool) (x : ℤ) (s top : ℕ) → ltb 0 (unsigned_abs (if b then pos 0 else x *ℤ pos (2 ^ s)) * top) ≡ true → is_product x top ≡ true
+pub gain_left : (b : Bool) (x : ℤ) (s top : ℕ) → ltb 0 (unsigned_abs (if b then pos 0 else x *ℤ pos (2 ^ s)) * top) ≡ true → is_product x top ≡ true
 gain_left true x s top h = absurd (omega (arith, ltb-true 0 (0 * top) h))
 gain_left false x s top h = product_shifted x s top h
 
@@ -177,7 +177,7 @@ entry_closed c j l = (
 plan_needs : (c : Numbers) (i : ℕ) (a : Expression) → ReadsNeeded (is_needed c) a → ReadsNeeded (is_needed c) (plus_plan c i a)
 plan_needs c i a r = products_need (is_needed c) a (plan_factor c i) (entry_top c) (variable Entry) (length c.offsets) r (λ j m some. refl)
 
-gradient_needs : (c : Numbers) (i : ℕ) → AreClosed (is_needed c) (gradient_statements c i)
+pub gradient_needs : (c : Numbers) (i : ℕ) → AreClosed (is_needed c) (gradient_statements c i)
 gradient_needs c i =
     cond_both (is_first c i) (Declare (variable Gradient i) (plus_plan c i (Constant (pos 0))) ∷ []) [] (AreClosed (is_needed c))
     (λ t. ((λ n. plan_needs c i (Constant (pos 0)) tt), tt)) (λ f. tt)
@@ -206,7 +206,7 @@ row_needs_by c i move l h =
     closed_append b (gradient_statements c i ++ row_sum_statements c i) move
     (closed_append b (gradient_statements c i) (row_sum_statements c i) (gradient_needs c i) (row_sum_needs c i l)) h
 
-differences_need : (c : Numbers) → AreClosed (is_needed c) (groups (difference_statements c) (length c.bounds))
+pub differences_need : (c : Numbers) → AreClosed (is_needed c) (groups (difference_statements c) (length c.bounds))
 differences_need c = closed_groups (is_needed c) (difference_statements c) (length c.bounds) (λ i m. difference_needs c i)
 
 entries_need : (c : Numbers) → AreClosed (is_needed c) (groups (entry_statements c) (length c.offsets))
@@ -229,6 +229,15 @@ pub program_closed : (c : Numbers) → IsClosed (is_needed c) (whole_program c)
 program_closed c = record { before = before_needs c; body = body_needs c }
 
 -- ---- of the accelerated machine
+pub before_is : (m : Machine) (c : Numbers) → before_for m c ≡ before_of c ++ start_for m c
+before_is Plain c = sym (append-nil (before_of c))
+before_is Accelerated c =
+    let m = groups (zero_statements Own) (length c.bounds) in
+    let v = groups (zero_statements Reached) (length c.bounds) in
+    let w = first_weight ∷ [] in
+    ap (λ (ss : List Statement). ss ++ first_scale c)
+    (ap (λ (ss : List Statement). ss ++ w) (append_assoc (before_of c) m v) ∙ append_assoc (before_of c) (m ++ v) w) ∙ append_assoc (before_of c) (m ++ v ++ w) (first_scale c)
+
 -- the scale, where the mean of a needed row is made by it
 scale_needed : (c : Numbers) (i : ℕ) → i < length c.bounds → is_twice_quick c i ≡ true → is_row_needed c i ≡ true → is_any_quick c ≡ true
 unfolding is_any_quick
@@ -250,15 +259,15 @@ scale_needs c =
     cond_both (has_short_divisor c) scale_lines [] (AreClosed (is_needed c))
     (λ t. ((λ n. (tt, ((scale_divisor c n, tt), n))), ((λ n. (n, n)), ((λ n. (n, (n, n))), ((λ n. ((n, tt), scale_divisor c n)), tt))))) (λ f. tt)
 
-fast_before_needs : (c : Numbers) → AreClosed (is_needed c) (fast_before_of c)
-fast_before_needs c =
+pub start_needs : (m : Machine) (c : Numbers) → AreClosed (is_needed c) (start_for m c)
+start_needs Plain c = tt
+start_needs Accelerated c =
     let b = is_needed c in
     let m = groups (zero_statements Own) (length c.bounds) in
     let v = groups (zero_statements Reached) (length c.bounds) in
-    closed_append b (before_of c ++ m ++ v ++ (first_weight ∷ [])) (first_scale c)
-    (closed_append b (before_of c ++ m ++ v) (first_weight ∷ [])
-    (closed_append b (before_of c ++ m) v
-    (closed_append b (before_of c) m (before_needs c) (closed_groups b (zero_statements Own) (length c.bounds) (λ i l. ((λ t. tt), tt))))
+    closed_append b (m ++ v ++ (first_weight ∷ [])) (first_scale c)
+    (closed_append b (m ++ v) (first_weight ∷ [])
+    (closed_append b m v (closed_groups b (zero_statements Own) (length c.bounds) (λ i l. ((λ t. tt), tt)))
     (closed_groups b (zero_statements Reached) (length c.bounds) (λ i l. ((λ t. tt), tt))))
     ((λ t. tt), tt))
     (cond_both (has_short_divisor c) first_scale_lines [] (AreClosed b) (λ t. ((λ n. tt), ((λ n. tt), tt))) (λ f. tt))
@@ -293,29 +302,44 @@ fast_move_needs : (c : Numbers) (i : ℕ) → AreClosed (is_needed c) (fast_move
 fast_move_needs c i =
     ((λ n. (n, (refl, lowered_needs (is_needed c) (variable RowSum i) (c.fraction_bits - row_bits c i) n))), ((λ n. n), ((λ n. n), ((λ n. n), ((λ n. (n, (refl, n))), tt)))))
 
-fast_body_needs : (c : Numbers) → AreClosed (is_needed c) (fast_body c)
-fast_body_needs c =
+pub means_need : (m : Machine) (c : Numbers) → AreClosed (is_needed c) (means_for m c)
+means_need Plain c = tt
+means_need Accelerated c =
     let b = is_needed c in
     let e = divisor_statement ∷ [] in
     let q = scale_statements c in
-    let l = groups (mean_statements c) (length c.bounds) in
+    closed_append b (e ++ q) (groups (mean_statements c) (length c.bounds))
+    (closed_append b e q ((λ t. ((refl, tt), (refl, tt))), tt) (scale_needs c))
+    (closed_groups b (mean_statements c) (length c.bounds) (mean_needs c))
+
+pub sums_need : (m : Machine) (c : Numbers) → AreClosed (is_needed c) (groups (sum_for m) (length c.offsets))
+sums_need Plain c = closed_groups (is_needed c) (sum_for Plain) (length c.offsets) (λ j m. ((λ t. (refl, refl)), tt))
+sums_need Accelerated c = closed_groups (is_needed c) (sum_for Accelerated) (length c.offsets) (λ j m. ((λ t. (refl, (refl, refl))), tt))
+
+pub next_needs : (m : Machine) (c : Numbers) → AreClosed (is_needed c) (next_for m)
+next_needs Plain c = tt
+next_needs Accelerated c = ((λ t. (refl, tt)), tt)
+
+fast_body_needs : (c : Numbers) → AreClosed (is_needed c) (fast_body c)
+fast_body_needs c =
+    let b = is_needed c in
+    let l = means_for Accelerated c in
     let d = groups (difference_statements c) (length c.bounds) in
     let u = groups (entry_statements c) (length c.offsets) in
     let s = groups weighted_sum_statements (length c.offsets) in
     let r = groups (fast_row_statements c) (length c.bounds) in
-    closed_append b (e ++ q ++ l ++ d ++ u ++ s ++ r) (next_weight ∷ [])
-    (closed_append b (e ++ q ++ l ++ d ++ u ++ s) r
-    (closed_append b (e ++ q ++ l ++ d ++ u) s
-    (closed_append b (e ++ q ++ l ++ d) u
-    (closed_append b (e ++ q ++ l) d
-    (closed_append b (e ++ q) l
-    (closed_append b e q ((λ t. ((refl, tt), (refl, tt))), tt) (scale_needs c))
-    (closed_groups b (mean_statements c) (length c.bounds) (mean_needs c)))
-    (differences_need c))
+    closed_append b (l ++ d ++ u ++ s ++ r) (next_weight ∷ [])
+    (closed_append b (l ++ d ++ u ++ s) r
+    (closed_append b (l ++ d ++ u) s
+    (closed_append b (l ++ d) u
+    (closed_append b l d (means_need Accelerated c) (differences_need c))
     (entries_need c))
-    (closed_groups b weighted_sum_statements (length c.offsets) (λ j m. ((λ t. (refl, (refl, refl))), tt))))
+    (sums_need Accelerated c))
     (closed_groups b (fast_row_statements c) (length c.bounds) (λ i m. row_needs_by c i (fast_move_statements c i) m (fast_move_needs c i))))
-    ((λ t. (refl, tt)), tt)
+    (next_needs Accelerated c)
+
+fast_before_needs : (c : Numbers) → AreClosed (is_needed c) (fast_before_of c)
+fast_before_needs c = subst (AreClosed (is_needed c)) (sym (before_is Accelerated c)) (closed_append (is_needed c) (before_of c) (start_for Accelerated c) (before_needs c) (start_needs Accelerated c))
 
 pub fast_program_closed : (c : Numbers) → IsClosed (is_needed c) (whole_fast_program c)
 fast_program_closed c = record { before = fast_before_needs c; body = fast_body_needs c }
@@ -397,15 +421,6 @@ step_part m c =
     left_in_append b (e ++ d ++ u ++ s) r ∙ ap (λ (ss : List Statement). ss ++ left_in b r) two
 
 -- ---- the whole of each machine, in the parts that both have and those of its own
-pub before_is : (m : Machine) (c : Numbers) → before_for m c ≡ before_of c ++ start_for m c
-before_is Plain c = sym (append-nil (before_of c))
-before_is Accelerated c =
-    let m = groups (zero_statements Own) (length c.bounds) in
-    let v = groups (zero_statements Reached) (length c.bounds) in
-    let w = first_weight ∷ [] in
-    ap (λ (ss : List Statement). ss ++ first_scale c)
-    (ap (λ (ss : List Statement). ss ++ w) (append_assoc (before_of c) m v) ∙ append_assoc (before_of c) (m ++ v) w) ∙ append_assoc (before_of c) (m ++ v ++ w) (first_scale c)
-
 pub body_is : (m : Machine) (c : Numbers) → body_for m c ≡ step_for m c ++ next_for m
 body_is Plain c = sym (append-nil (repetition_body c))
 body_is Accelerated c = refl

@@ -33,10 +33,10 @@ use Rattle.c_language.proofs.LeftIn.{ReadsNeeded}
 use Rattle.c_program.proofs.ProgramNeeds.{products_need, lowered_needs}
 
 -- ---- what C defines has short constants
-abbrev small : Variable → Bool
+abbrev pub small : Variable → Bool
 small v = ltb v.number (2 ^ 64)
 
-small_at : (n k : ℕ) → k < n → n < 2 ^ 64 → ltb k (2 ^ 64) ≡ true
+pub small_at : (n k : ℕ) → k < n → n < 2 ^ 64 → ltb k (2 ^ 64) ≡ true
 small_at n k l h = lt-ltb k (2 ^ 64) (omega (arith, l, h))
 
 defined_short : (e : Environment) (a : Expression) → IsDefined e a → ReadsNeeded small a → HasShortNumbers a
@@ -51,7 +51,7 @@ defined_short e (Over a v) d r = (defined_short e a d.0 r.0, ltb-true v.number (
 defined_short e (Shifted a k) d r = (defined_short e a d.0 r, omega (arith, d.1))
 defined_short e (ShiftedBy a v) d r = (defined_short e a d.0 r.0, ltb-true v.number (2 ^ 64) r.1)
 
-abbrev IsSmall : Statement → Type 0
+abbrev pub IsSmall : Statement → Type 0
 IsSmall (Declare v a) = (v.number < 2 ^ 64) × ReadsNeeded small a
 IsSmall (Assign v a) = (v.number < 2 ^ 64) × ReadsNeeded small a
 IsSmall (AtLeastZero v) = v.number < 2 ^ 64
@@ -70,13 +70,13 @@ short_done kind e (s ∷ ss) d r =
     All-cons HasShortOperands s ss (short_statement kind e s d.0 (All-head IsSmall s ss r)) (short_done kind (done e s) ss d.1 (All-tail IsSmall s ss r))
 
 -- ---- lists of statements
-one : (s : Statement) → IsSmall s → All IsSmall (s ∷ [])
+pub one : (s : Statement) → IsSmall s → All IsSmall (s ∷ [])
 one s h = All-cons IsSmall s [] h (All-nil IsSmall)
 
 where_first : (b : Bool) (s : Statement) → (b ≡ true → IsSmall s) → All IsSmall (if b then s ∷ [] else [])
 where_first b s h = cond_both b (s ∷ []) [] (All IsSmall) (λ t. one s (h t)) (λ f. All-nil IsSmall)
 
-in_groups : (f : ℕ → List Statement) (n : ℕ) → ((i : ℕ) → i < n → All IsSmall (f i)) → All IsSmall (groups f n)
+pub in_groups : (f : ℕ → List Statement) (n : ℕ) → ((i : ℕ) → i < n → All IsSmall (f i)) → All IsSmall (groups f n)
 in_groups f zero h = subst (All IsSmall) (sym (groups_none f)) (All-nil IsSmall)
 in_groups f (suc n) h =
     subst (All IsSmall) (sym (groups_more f n)) (All-append IsSmall (groups f n) (f n) (in_groups f n (λ i l. h i (omega (arith, l)))) (h n (omega arith)))
@@ -88,12 +88,12 @@ in_part needed (s ∷ ss) h =
     cond_both (needed (variable_of s)) (s ∷ left_in needed ss) (left_in needed ss) (All IsSmall) (λ t. All-cons IsSmall s (left_in needed ss) (All-head IsSmall s ss h) rest) (λ f. rest)
 
 -- ---- a controller's statements
-record AreFew (c : Numbers) : Type 0 where
-  states : c.states < 2 ^ 64
-  entries : length c.offsets < 2 ^ 64
-  rows : length c.bounds < 2 ^ 64
+pub record AreFew (c : Numbers) : Type 0 where
+  pub states : c.states < 2 ^ 64
+  pub entries : length c.offsets < 2 ^ 64
+  pub rows : length c.bounds < 2 ^ 64
 
-before_small : (c : Numbers) → AreFew c → All IsSmall (before_of c)
+pub before_small : (c : Numbers) → AreFew c → All IsSmall (before_of c)
 before_small c w =
     let n = groups (loaded_statements c) c.states in
     let a = groups (entry_base_statements c) (length c.offsets) in
@@ -119,7 +119,7 @@ before_small c w =
 plan_small : (c : Numbers) (i : ℕ) (a : Expression) → AreFew c → ReadsNeeded small a → ReadsNeeded small (plus_plan c i a)
 plan_small c i a w r = products_need small a (plan_factor c i) (entry_top c) (variable Entry) (length c.offsets) r (λ j h some. small_at (length c.offsets) j h w.entries)
 
-difference_small : (c : Numbers) (i : ℕ) → AreFew c → i < length c.bounds → All IsSmall (difference_statements c i)
+pub difference_small : (c : Numbers) (i : ℕ) → AreFew c → i < length c.bounds → All IsSmall (difference_statements c i)
 difference_small c i w l =
     where_first (is_first c i) _ (λ t. (omega (arith, l, w.rows), (small_at (length c.bounds) i l w.rows, small_at (length c.bounds) (partner c i) (pair_there c i t).inside w.rows)))
 
@@ -141,7 +141,7 @@ row_small_by c i move w l h =
     (one _ (number, row_expression_small c i w l))) h
 
 -- what is moved is declared, clamped, and put back
-clamped_small : (v : Variable) (e : Expression) (top : ℤ) (i : ℕ) (rest : List Statement) → i < 2 ^ 64 → v.number < 2 ^ 64 → ReadsNeeded small e → All IsSmall rest →
+pub clamped_small : (v : Variable) (e : Expression) (top : ℤ) (i : ℕ) (rest : List Statement) → i < 2 ^ 64 → v.number < 2 ^ 64 → ReadsNeeded small e → All IsSmall rest →
     All IsSmall (Declare (variable Moved i) e ∷ AtLeastZero (variable Moved i) ∷ AtMost (variable Moved i) top ∷ Assign v (Value (variable Moved i)) ∷ rest)
 clamped_small v e top i rest number there r h =
     let t = variable Moved i in
@@ -158,7 +158,7 @@ row_small c i w l =
     row_small_by c i (move_statements c i) w l
     (clamped_small (variable Multiplier i) (moved_expression c i) (top_of c i) i [] number number (own, lowered_needs small (variable RowSum i) (c.fraction_bits - row_bits c i) own) (All-nil IsSmall))
 
-differences_small : (c : Numbers) → AreFew c → All IsSmall (groups (difference_statements c) (length c.bounds))
+pub differences_small : (c : Numbers) → AreFew c → All IsSmall (groups (difference_statements c) (length c.bounds))
 differences_small c w = in_groups (difference_statements c) (length c.bounds) (λ i l. difference_small c i w l)
 
 entries_small : (c : Numbers) → AreFew c → All IsSmall (groups (entry_statements c) (length c.offsets))
@@ -183,18 +183,18 @@ body_small c w =
     (in_groups (row_statements c) (length c.bounds) (λ i l. row_small c i w l))
 
 -- ---- those of the accelerated machine
-abbrev AreSmall : List Statement → Type 0
+abbrev pub AreSmall : List Statement → Type 0
 AreSmall [] = Unit {0}
 AreSmall (s ∷ ss) = IsSmall s × AreSmall ss
 
-listed : (ss : List Statement) → AreSmall ss → All IsSmall ss
+pub listed : (ss : List Statement) → AreSmall ss → All IsSmall ss
 listed [] h = All-nil IsSmall
 listed (s ∷ ss) h = All-cons IsSmall s ss h.0 (listed ss h.1)
 
-where_short : (c : Numbers) (ss : List Statement) → AreSmall ss → All IsSmall (if has_short_divisor c then ss else [])
+pub where_short : (c : Numbers) (ss : List Statement) → AreSmall ss → All IsSmall (if has_short_divisor c then ss else [])
 where_short c ss h = cond_both (has_short_divisor c) ss [] (All IsSmall) (λ t. listed ss h) (λ f. All-nil IsSmall)
 
-zeros_small : (c : Numbers) (f : Family) → AreFew c → All IsSmall (groups (zero_statements f) (length c.bounds))
+pub zeros_small : (c : Numbers) (f : Family) → AreFew c → All IsSmall (groups (zero_statements f) (length c.bounds))
 zeros_small c f w = in_groups (zero_statements f) (length c.bounds) (λ i m. one _ (omega (arith, m, w.rows), tt))
 
 fast_before_small : (c : Numbers) → AreFew c → All IsSmall (fast_before_of c)
@@ -207,12 +207,12 @@ fast_before_small c w =
     (one first_weight (omega arith, tt)))
     (where_short c first_scale_lines ((omega arith, tt), ((omega arith, tt), tt)))
 
-scale_small : (c : Numbers) → All IsSmall (scale_statements c)
+pub scale_small : (c : Numbers) → All IsSmall (scale_statements c)
 scale_small c =
     where_short c scale_lines
     ((omega arith, (tt, ((refl, tt), refl))), ((omega arith, (refl, refl)), ((omega arith, (refl, (refl, refl))), ((omega arith, ((refl, tt), refl)), tt))))
 
-mean_small : (c : Numbers) (i : ℕ) → AreFew c → i < length c.bounds → All IsSmall (mean_statements c i)
+pub mean_small : (c : Numbers) (i : ℕ) → AreFew c → i < length c.bounds → All IsSmall (mean_statements c i)
 mean_small c i w l =
     let own = small_at (length c.bounds) i l w.rows in
     let number : i < 2 ^ 64 = omega (arith, l, w.rows) in
@@ -268,7 +268,7 @@ fast_body_small c w =
     (one next_weight (omega arith, (refl, tt)))
 
 -- ---- the whole
-few : (c : Numbers) → IsSized (with_last_version c) → AreFew c
+pub few : (c : Numbers) → IsSized (with_last_version c) → AreFew c
 few c sized = record {
   states = omega (arith, sized.states.1);
   entries = omega (arith, sized.shaped.offsets, mul-le c.inputs c.stages 3 30 sized.inputs.1 sized.stages.1);
@@ -276,7 +276,7 @@ few c sized = record {
 }
 
 -- a state of the box
-low_corner : (c : Numbers) → IsSized (with_last_version c) → IsAdmissible c c.low
+pub low_corner : (c : Numbers) → IsSized (with_last_version c) → IsAdmissible c c.low
 low_corner c sized = record {
   long = sized.shaped.low;
   each = λ i l. record { low = omega (arith, ints); high = sized.box i l };
@@ -316,7 +316,7 @@ outputs_short : (js : List ℕ) → All (λ (j : ℕ). j < 2 ^ 64) js → All (�
 outputs_short js h = All-map (λ (v : Variable). v.number < 2 ^ 64) (variable Sum) js h
 
 -- a program with a run from the lowest state of the box
-short_text : (c : Numbers) (types : Variable → Kind) (before body : List Statement) (plans : ℕ) (sums inputs : List ℤ) → IsSized (with_last_version c) → All IsSmall before → All IsSmall body →
+pub short_text : (c : Numbers) (types : Variable → Kind) (before body : List Statement) (plans : ℕ) (sums inputs : List ℤ) → IsSized (with_last_version c) → All IsSmall before → All IsSmall body →
     SolvesTo (program_by c types before body plans) c.low sums inputs → HasShortText (program_by c types before body plans)
 short_text c types before body plans sums inputs sized first each s =
     let w = few c sized in

@@ -94,7 +94,7 @@ makes_over e a v z most d h is low high sign = record {
 }
 
 -- ---- sums of products
-factors_le : (a b : ℕ) → 0 < a * b → (a ≤ a * b) × (b ≤ a * b)
+pub factors_le : (a b : ℕ) → 0 < a * b → (a ≤ a * b) × (b ≤ a * b)
 factors_le zero b h = absurd (omega (arith, h))
 factors_le (suc a) zero h = absurd (omega (arith, h))
 factors_le (suc a) (suc b) h = (
@@ -102,13 +102,13 @@ factors_le (suc a) (suc b) h = (
   omega (arith, mul-le 1 (suc b) (suc a) (suc b) (omega arith) (le_refl (suc b))),
 )
 
-product_le : (c x : ℤ) (top : ℕ) → unsigned_abs x ≤ top → unsigned_abs (c *ℤ x) ≤ unsigned_abs c * top
+pub product_le : (c x : ℤ) (top : ℕ) → unsigned_abs x ≤ top → unsigned_abs (c *ℤ x) ≤ unsigned_abs c * top
 product_le c x top h = omega (arith, unsigned_abs-mul c x, mul-le (unsigned_abs c) (unsigned_abs x) (unsigned_abs c) top (le_refl (unsigned_abs c)) h)
 
-zero_abs : (z : ℤ) → unsigned_abs z ≤ 0 → z ≡ pos 0
+pub zero_abs : (z : ℤ) → unsigned_abs z ≤ 0 → z ≡ pos 0
 zero_abs z h = omega (arith, ints, h)
 
-makes_times : (e : Environment) (c : ℤ) (top : ℕ) (v : Variable) → unsigned_abs (held e v) ≤ top → unsigned_abs c * top < 2 ^ 63 → 0 < unsigned_abs c * top →
+pub makes_times : (e : Environment) (c : ℤ) (top : ℕ) (v : Variable) → unsigned_abs (held e v) ≤ top → unsigned_abs c * top < 2 ^ 63 → 0 < unsigned_abs c * top →
     Makes e (Times (Constant c) (Value v)) (c *ℤ held e v) (unsigned_abs c * top)
 makes_times e c top v h room some =
     let factors = factors_le (unsigned_abs c) top some in

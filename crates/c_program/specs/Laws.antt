@@ -15,6 +15,11 @@ use Rattle.overflow_check.specs.FastController.{IsFastController}
 use Rattle.c_language.specs.Laws.{HasShortText}
 use Rattle.c_program.specs.Of.{program_of}
 use Rattle.c_program.specs.FastOf.{fast_program_of}
+use Rattle.overflow_check.specs.Machines.{IsControllerFor}
+use Rattle.overflow_check.specs.declared.machine.Machine.{Machine}
+use Rattle.overflow_check.specs.declared.machine.Machine.TheVariants.{Plain, Accelerated}
+use Rattle.c_program.specs.ByMachine.{plans_for}
+use Rattle.c_program.specs.InParts.{HasParts, parted_program, HasProgram, written_program}
 
 -- coordinate number k, from 1, lies outside the box, and each before it inside
 pub record IsCoordinateRefused (c : Numbers) (xi : List ℤ) (k : ℕ) : Type 0 where
@@ -66,3 +71,24 @@ ProgramLaw = (c : Numbers) → IsController c → c.width ≤ 64 → IsProgram c
 
 abbrev pub FastProgramLaw : Type 0
 FastProgramLaw = (c : Numbers) → IsFastController c → c.width ≤ 64 → IsFastProgram c
+
+-- ---- of a controller of either machine that has a program: of at most 64 bits, or in parts
+-- the averaged plan's numerators from a grid state
+abbrev pub numerators_for : Machine → Numbers → List ℤ → List ℤ
+numerators_for Plain c = averaged_plan c
+numerators_for Accelerated c = fast_plan c
+
+abbrev pub PartedProgramLaw : Type 0
+PartedProgramLaw = (m : Machine) (c : Numbers) → IsControllerFor m c → HasParts m c → IsProgramFor c (parted_program m c) (numerators_for m c) (plans_for m c)
+
+abbrev pub PartedShortTextLaw : Type 0
+PartedShortTextLaw = (m : Machine) (c : Numbers) → IsControllerFor m c → HasParts m c → HasShortText (parted_program m c)
+
+abbrev pub IsWritten : Machine → Numbers → Type 0
+IsWritten m c = IsProgramFor c (written_program m c) (numerators_for m c) (plans_for m c)
+
+abbrev pub WrittenProgramLaw : Type 0
+WrittenProgramLaw = (m : Machine) (c : Numbers) → IsControllerFor m c → HasProgram m c → IsWritten m c
+
+abbrev pub WrittenTextLaw : Type 0
+WrittenTextLaw = (m : Machine) (c : Numbers) → IsControllerFor m c → HasProgram m c → HasShortText (written_program m c)

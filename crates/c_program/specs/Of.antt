@@ -11,7 +11,7 @@ use Rattle.qp_model.specs.machine.AbsoluteSums.{state_magnitudes, plan_magnitude
 use Rattle.overflow_check.specs.FastMachine.{mean_divisor, fast_top}
 use Rattle.c_language.specs.Syntax.{Family, Variable, variable, Kind, Expression, Statement, groups, CProgram}
 use Rattle.c_language.specs.Needed.{needed_part}
-use Rattle.c_language.specs.Syntax.Family.{State, Loaded, EntryBase, RowBase, Multiplier, Difference, Entry, Gradient, RowSum, Moved, Sum, Output, Own, Reached, Weight, Divisor, Shift, Power, Doubling, Reciprocal, Numerator, Head, Rest}
+use Rattle.c_language.specs.Syntax.Family.{State, Loaded, EntryBase, RowBase, Multiplier, Difference, Entry, Gradient, RowSum, Moved, Sum, Output, Own, Reached, Weight, Divisor, Shift, Power, Doubling, Reciprocal, Numerator, Head, Rest, MultiplierHigh, MultiplierLow, EntryHigh, EntryLow, EntryBaseHigh, RowBaseHigh, GradientHigh}
 use Rattle.c_language.specs.Syntax.Kind.{Narrow, Wide}
 use Rattle.c_language.specs.Syntax.Expression.{Constant, Value, Plus, Minus, Times, Quotient, Remainder, Shifted}
 use Rattle.c_language.specs.Syntax.Statement.{Declare, Assign, AtLeastZero, AtMost}
@@ -53,6 +53,10 @@ row_top c i = next_magnitude c i * 2 ^ (c.fraction_bits - row_bits c i)
 abbrev pub kind_for : ℕ → Kind
 kind_for top = if nat_lt top (2 ^ 31) then Narrow else Wide
 
+-- a number of at most this absolute value, without its last 16 bits, is at most
+abbrev pub high_top : ℕ → ℕ
+high_top top = top / 2 ^ 16 + 1
+
 -- what the machines differ in: at most how much, in absolute value, a multiplier is on its way to the next one, a sum of plan entries, and, where the machine is accelerated,
 -- a multiplier that is moved, what is reached of all, and the divisor of a mean
 pub record Sizes : Type 0 where
@@ -89,6 +93,13 @@ kind_by c z Reciprocal k = Narrow
 kind_by c z Numerator i = Wide
 kind_by c z Head i = Narrow
 kind_by c z Rest i = Narrow
+kind_by c z MultiplierHigh i = kind_for (high_top (multiplier_top c i))
+kind_by c z MultiplierLow i = Narrow
+kind_by c z EntryHigh j = kind_for (high_top (entry_top c j))
+kind_by c z EntryLow j = Narrow
+kind_by c z EntryBaseHigh j = Wide
+kind_by c z RowBaseHigh i = Wide
+kind_by c z GradientHigh i = Wide
 
 abbrev pub kind_of : Numbers → Family → ℕ → Kind
 kind_of c = kind_by c (plain_sizes c)
@@ -266,6 +277,10 @@ is_coordinate_needed c k =
     any_below (λ j. is_product (at (row_of c.state_gains j) k) (state_top c k)) (length c.offsets)
     || any_below (λ i. is_row_needed c i && is_product (at (row_of c.state_rows i) k) (state_top c k)) (length c.bounds)
 
+-- plan entry j reaches a row that is needed
+unfoldable pub is_entry_needed : Numbers → ℕ → Bool
+is_entry_needed c j = any_below (λ i. is_row_needed c i && is_product (at (row_of c.plan_rows i) j) (entry_top c j)) (length c.bounds)
+
 -- what a mean of the accelerated machine is divided by fits 31 bits, as twice what is reached of row i over as much does: so its mean is made without a division
 abbrev pub has_short_divisor : Numbers → Bool
 has_short_divisor c = nat_lt (mean_divisor c.steps) (2 ^ 31)
@@ -307,6 +322,13 @@ needed_of c Reciprocal k = is_any_quick c
 needed_of c Numerator i = is_row_needed c i
 needed_of c Head i = is_row_needed c i
 needed_of c Rest i = is_row_needed c i
+needed_of c MultiplierHigh i = is_row_needed c i
+needed_of c MultiplierLow i = is_row_needed c i
+needed_of c EntryHigh j = is_entry_needed c j
+needed_of c EntryLow j = is_entry_needed c j
+needed_of c EntryBaseHigh j = true
+needed_of c RowBaseHigh i = is_row_needed c i
+needed_of c GradientHigh i = is_row_needed c i
 
 abbrev pub is_needed : Numbers → Variable → Bool
 is_needed c v = needed_of c v.family v.number
