@@ -26,7 +26,7 @@ and where the model's `[box]` has `disturbed`, range.csv is the range of it unde
 
     --generate    makes the controller that keeps far from its limits, by `generate` or `stay`: of more steps, mostly far more, and with real violations far below the printed ones
     --accelerated makes the controller for the accelerated machine, of version 3 (./mpc draft --accelerated): of far fewer steps where a run takes many
-    --plain       keeps the plain machine, of version 2. With neither, version 3 is taken where its C, of at most 64 bits, takes less than four fifths of the cycles, and that is said
+    --plain       keeps the plain machine, of version 2. With neither, version 3 is taken where its C takes less than four fifths of the cycles, and that is said
     --as-it-is    takes the model's own coordinates and box, whatever its loops do
     --stay        searches limits on the next state, coordinates and a box for which faces hold
     --same-cost   keeps the model's cost and stages where no loop is to leave the box and a run would take longer than a stage, in place of trying others
@@ -60,7 +60,7 @@ from .common.design_text import read_design
 from .common.launcher import LAUNCHER
 from .common.machines import is_accelerated
 from .common.models import Model, grid_disturbances, read_model
-from .common.straight_costs import MOST_WIDTH
+from .common.straight_costs import is_written
 from .common.texts import Controller, controller_of, records_text
 
 MADE = ["fitted.toml", "design.toml", "policy.csv", "reference.csv", "controller.txt", "report.txt", "states.csv", "loop.txt", "exact.txt", "loop.svg", "judged.txt", "explained.txt", "report.html"]
@@ -171,7 +171,7 @@ def controller_in(steps: Steps) -> Controller:
 def takes_less(steps: Steps) -> bool:
     """Whether the controller is one of the plain machine that `c` writes, and one of the accelerated machine would take less; which is said then."""
     made = controller_in(steps)
-    if is_accelerated(made.version) or made.width > MOST_WIDTH or not saves(made, CHOSEN):
+    if is_accelerated(made.version) or not is_written(made) or not saves(made, CHOSEN):
         return False
     print(f"    K = {made.steps}: by the cycles of its C the accelerated machine takes less than {CHOSEN:.0%} of that, so version 3 is taken (else --plain)", flush=True)
     return True
@@ -181,7 +181,7 @@ def make_accelerated(steps: Steps, model: str, given: Namespace, stays: bool) ->
     """The same for the accelerated machine; where that isn't made, or is too wide for `c`, the plain one once more."""
     try:
         make_with(steps, model, given, stays, ["--accelerated"])
-        why = "" if controller_in(steps).width <= MOST_WIDTH else f"its sums take more than {MOST_WIDTH} bits"
+        why = "" if is_written(controller_in(steps)) else "no C is written of it (docs/C.md)"
     except Refusal as refused:
         why = str(refused)
     if why:

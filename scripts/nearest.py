@@ -15,6 +15,7 @@ from .c_source import MARK, check_name, commented, read, write_all
 from .common import files
 from .common.arguments import Parser
 from .common.libraries import Refusal, run
+from .common.straight_costs import is_written
 from .common.strict_texts import safe_controller
 from .common.texts import Controller
 
@@ -59,14 +60,13 @@ int {name}_nearest_inputs(const int32_t state[{states}], int64_t inputs[{inputs}
     return outside;
 }}
 """
-WIDEST = 64
 
 
 def texts_of(name: str, path: str, controller: Controller) -> tuple[str, str]:
     """Header and source."""
     c = controller
-    if c.width > WIDEST:
-        raise Refusal(f"{path}: a controller of at most {WIDEST} bits is expected, since `./mpc c` refuses others, and this one has {c.width}")
+    if not is_written(c):
+        raise Refusal(f"{path}: a controller that `./mpc c` writes is expected (docs/C.md), and this one has {c.width} bits")
     words = {"mark": MARK, "name": name, "path": commented(os.path.basename(path)), "states": c.states, "inputs": c.inputs, "entries": c.entries}
     ends = {"low": ", ".join(map(literal, c.lo)), "high": ", ".join(map(literal, c.hi))}
     return HEADER.format(**words), SOURCE.format(**words, **ends)

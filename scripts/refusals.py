@@ -82,7 +82,7 @@ TEXTS = {
     "trap": "The run of {file} from state {entry} stops in repetition {step} at instruction {place}{instruction}: a value needs more bits than its words have. A listing that `list` wrote "
     "never does so from a state of its box: the listing was changed.",
     "trap-input": "State {entry}, shifted up, needs more bits than the words of {file} have. A listing that `list` wrote never does so from a state of its box: the listing was changed.",
-    "too-wide-c": "{file} is of a controller of {width} bits, and programs in C are of at most 64: `./mpc c {path} --name NAME --out FOLDER` writes it with tables, which is tested and not "
+    "too-wide-c": "{file} is of a controller of {width} bits, and programs in C are of at most 64, or of 79 in two parts where these fit (docs/C.md): `./mpc c {path} --name NAME --out FOLDER` writes it with tables, which is tested and not "
     "proved. Larger targets make fewer bits.",
     "moves": "In the box of {file} where no multiplier may move, that of row {row} of the controller may: {left} isn't below {right}. That box should be smaller.",
     "unsettled": "After turn {turn} a loop from the start box of {file} may be as far as at {bound} over 2^grid in {name}: beyond the box where no multiplier moves, or at the last turn beyond "

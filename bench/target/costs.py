@@ -1,8 +1,8 @@
 """costs.py [COUNT]: how near `scripts/common/c_costs.py` and `straight_costs.py` come to what is measured on an emulated Cortex-M4, on COUNT controllers of each kind (4 where none is given).
 
 The controllers have random numbers in the shape of a design's: rows on inputs that count one entry, rows on states that count all entries before them, most in pairs of opposite rows.
-For each kind of words it prints the least and the greatest ratio of what is said to what is measured, of cycles and of flash; RAM of tables must be the same. The straight C, of controllers of at most
-64 bits and of the same numbers as controllers of version 3, is the model's in checks/fuzz, which has the program's bytes. Needs gcc-arm-none-eabi, qemu-system-arm and cc.
+For each kind of words it prints the least and the greatest ratio of what is said to what is measured, of cycles and of flash; RAM of tables must be the same. The straight C, of controllers that `c`
+writes and of the same numbers as controllers of version 3, is the model's in checks/fuzz, which has the program's bytes. Needs gcc-arm-none-eabi, qemu-system-arm and cc.
 """
 import random
 import sys
@@ -10,7 +10,7 @@ import tempfile
 
 from checks.fuzz import compiled, control
 from scripts.common.c_costs import Costs
-from scripts.common.straight_costs import MOST_WIDTH, AcceleratedCosts, StraightCosts
+from scripts.common.straight_costs import AcceleratedCosts, StraightCosts, is_written
 from scripts.common.texts import Controller
 from scripts.tests.controllers import accelerated, text_of, with_width
 
@@ -96,10 +96,10 @@ def main():
             controller = shaped(r, *sizes)
             if controller is not None:
                 found.append(ratios(controller))
-                if controller.width <= MOST_WIDTH:
+                if is_written(controller):
                     straight.append(straight_ratios(controller))
                     other = accelerated(controller)
-                    if other is not None and other.width <= MOST_WIDTH:
+                    if other is not None and is_written(other):
                         fast.append(straight_ratios(other))
         told(name, found)
     told(f"straight C of {len(straight)} of these", straight)

@@ -16,6 +16,7 @@ import sys
 import tempfile
 
 from scripts.common.machines import machine_of
+from scripts.common.straight_costs import is_written
 from scripts.common.strict_texts import absolute_sums, ceil_div, safe_controller
 from scripts.tests import c_trials
 from scripts.tests.controllers import accelerated, first_inputs, random_controller, run, text_of, with_width
@@ -35,7 +36,6 @@ OWN_WAYS = {"gcc": [["-std=c99", "-O2", "-Wlogical-op", "-Wduplicated-cond"]], "
 # runs of the second reader are slow
 READ_STEPS = 64
 BATCH = 20
-MOST_WIDTH = 64
 
 
 # ---- controllers
@@ -76,14 +76,14 @@ def at_end(c, r):
 
 
 def drawn(r):
-    """Random controllers of at most 64 bits, each with what was brought to an end."""
+    """Random controllers that `c` writes, each with what was brought to an end."""
     while True:
         c, what = random_controller(r.randrange(10**9)), "nothing"
         if c is not None and r.random() < 0.4:
             c = accelerated(c)
         if c is not None and r.random() < 0.5:
             c, what = at_end(c, r)
-        if c is not None and c.width <= MOST_WIDTH:
+        if c is not None and is_written(c):
             yield c, what
 
 

@@ -1,6 +1,6 @@
-"""An independent model of the program that `c` writes: the source and the header of a controller of at most 64 bits, in C99.
+"""An independent model of the program that `c` writes: the source and the header of a controller, in C99.
 
-All in exact whole numbers, by the definitions of crates/c_program/specs (`Of`, `FastOf`) and crates/c_language/specs (`Needed`, `Text`), and with no code of the program's. An expression is a pair of its text and of
+All in exact whole numbers, by the definitions of crates/c_program/specs (`Of`, `FastOf`, `InParts`) and crates/c_language/specs (`Needed`, `Text`), and with no code of the program's. An expression is a pair of its text and of
 whether it is a sum, which stands in parentheses where it is an operand of a product or the second of a sum.
 """
 import re
@@ -9,7 +9,10 @@ from .control import absolute_sums
 from .forms import ceil_div
 from .machines import Accelerated
 
-MOST_WIDTH = 64
+# the greatest width of a controller whose sums are made at once, and of one whose sums are made in parts; and what its factors are below
+MOST_WIDTH, MOST_PARTED_WIDTH = 64, 79
+MOST_FACTOR = 2**37
+PART = 16
 
 
 def is_name(word):
@@ -107,15 +110,21 @@ class Program:
     def assigned(kind, name, a):
         return f"{name} = ({kind})({a[0]});"
 
+    def of_state(self, z, factors):
+        return self.with_products(constant(z), factors, self.state_tops, [f"x{k}" for k in range(self.c.n)])
+
+    def base(self, letters, k, z, factors):
+        """The statements of what the state adds to a sum, and what it adds to it always."""
+        yield self.declared("int64_t", f"{letters[1]}{k}", self.of_state(z, factors))
+
     def before(self):
         c = self.c
-        of_state = lambda a, factors: self.with_products(a, factors, self.state_tops, [f"x{k}" for k in range(c.n)])
         for k in self.coordinates:
             yield self.declared(self.kind(self.state_tops[k]), f"x{k}", times(constant(1 << (c.f - c.g)), value(f"state[{k}]")))
         for j in range(c.nu):
-            yield self.declared("int64_t", f"a{j}", of_state(constant(c.t[j] << (c.f + c.s)), [a << c.s for a in c.p_mat[j]]))
+            yield from self.base(("A", "a"), j, c.t[j] << (c.f + c.s), [a << c.s for a in c.p_mat[j]])
         for i in self.rows:
-            yield self.declared("int64_t", f"r{i}", of_state(constant(-c.bound[i] << c.f), c.e_mat[i]))
+            yield from self.base(("R", "r"), i, -c.bound[i] << c.f, c.e_mat[i])
         for i in self.rows:
             yield self.declared(self.kind(self.tops[i]), f"l{i}", constant(0))
         for j in range(c.nu):
@@ -135,13 +144,19 @@ class Program:
             if self.is_first[i]:
                 yield self.declared(self.kind(self.tops[i]), f"d{i}", minus(value(f"l{i}"), value(f"l{self.partners[i]}")))
 
+    def gain_name(self, i):
+        return f"{'d' if self.is_first[i] else 'l'}{i}"
+
+    def of_gains(self, a, j, names):
+        gains = [0 if self.is_second[i] else self.c.w_mat[j][i] << self.lowering[i] for i in range(self.c.m)]
+        return self.with_products(value(a), gains, self.tops, names)
+
+    def entry(self, j):
+        return shifted(self.of_gains(f"a{j}", j, [self.gain_name(i) for i in range(self.c.m)]), min(self.c.f + self.c.s, 63))
+
     def plan(self):
-        c = self.c
-        names = [f"{'d' if self.is_first[i] else 'l'}{i}" for i in range(c.m)]
-        for j in range(c.nu):
-            gains = [0 if self.is_second[i] else c.w_mat[j][i] << self.lowering[i] for i in range(c.m)]
-            moved = shifted(self.with_products(value(f"a{j}"), gains, self.tops, names), min(c.f + c.s, 63))
-            yield self.declared(self.kind(self.entry_tops[j]), f"u{j}", minus(constant(0), moved))
+        for j in range(self.c.nu):
+            yield self.declared(self.kind(self.entry_tops[j]), f"u{j}", minus(constant(0), self.entry(j)))
 
     def weighted(self, a):
         """As often as the step counts."""
@@ -157,10 +172,13 @@ class Program:
             yield self.declared("int64_t", f"g{i}", self.of_plan(constant(0), i))
         yield self.declared(self.kind(self.row_tops[i] << self.c.f - self.shared[i]), f"y{i}", self.row(i))
 
+    def step_of(self, i):
+        return lowered(f"y{i}", self.c.f - self.shared[i])
+
     def moved(self, i, name, most):
         """Those that move the multiplier of this name, which is at most so great."""
         kind, top = self.kind(self.moved_tops[i]), constant(most)
-        yield self.declared(kind, f"t{i}", plus(value(name), self.weighted(lowered(f"y{i}", self.c.f - self.shared[i]))))
+        yield self.declared(kind, f"t{i}", plus(value(name), self.weighted(self.step_of(i))))
         yield f"if (t{i} < 0) {{ t{i} = 0; }}"
         yield f"if (t{i} > {top[0]}) {{ {self.assigned(kind, f't{i}', top)} }}"
         yield self.assigned(self.kind(most), name, value(f"t{i}"))
@@ -262,8 +280,79 @@ class AcceleratedProgram(Program):
         yield self.assigned("int32_t", "k0", plus(value("k0"), constant(1)))
 
 
+class InParts:
+    """What is otherwise in a program whose sums are made in two parts: of the factors without their last 16 bits, and of these."""
+
+    def base(self, letters, k, z, factors):
+        low = (1 << PART) - 1
+        yield self.declared("int64_t", f"{letters[0]}{k}", self.of_state(z >> PART, [a >> PART for a in factors]))
+        yield self.declared("int64_t", f"{letters[1]}{k}", self.of_state(z & low, [a & low for a in factors]))
+
+    def parts(self, whole, letters, k, top):
+        high = f"{letters[0]}{k}"
+        yield self.declared(self.kind((top >> PART) + 1), high, shifted(value(whole), PART))
+        yield self.declared("int32_t", f"{letters[1]}{k}", minus(value(whole), times(constant(1 << PART), value(high))))
+
+    @staticmethod
+    def together(high, low, k):
+        return shifted(plus(high, shifted(low, PART)), min(k - PART, 63))
+
+    def entry(self, j):
+        high, low = (self.of_gains(f"{base}{j}", j, [f"{letter}{i}" for i in range(self.c.m)]) for base, letter in ("AL", "aj"))
+        return self.together(high, low, self.c.f + self.c.s)
+
+    def plan(self):
+        c = self.c
+        for i in self.rows:
+            if not self.is_second[i]:
+                yield from self.parts(self.gain_name(i), "Lj", i, self.tops[i])
+        used = [j for j in range(c.nu) if self.entry_tops[j] and any(c.g_mat[i][j] for i in self.rows)]
+        for j, line in enumerate(super().plan()):
+            yield line
+            if j in used:
+                yield from self.parts(f"u{j}", "Uw", j, self.entry_tops[j])
+
+    def of_part(self, a, i, letter):
+        return self.with_products(a, self.c.g_mat[i], self.entry_tops, [f"{letter}{j}" for j in range(self.c.nu)])
+
+    def row_part(self, i, base, gradient, letter):
+        a = value(f"{base}{i}")
+        if self.is_first[i]:
+            return plus(a, value(f"{gradient}{i}"))
+        return minus(a, value(f"{gradient}{self.partners[i]}")) if self.is_second[i] else self.of_part(a, i, letter)
+
+    def residual(self, i):
+        if self.is_first[i]:
+            for gradient, letter in ("GU", "gw"):
+                yield self.declared("int64_t", f"{gradient}{i}", self.of_part(constant(0), i, letter))
+        yield self.declared(self.kind(self.row_tops[i]), f"y{i}", self.together(self.row_part(i, *"RGU"), self.row_part(i, *"rgw"), self.c.f))
+
+    def step_of(self, i):
+        return value(f"y{i}")
+
+
+class PartedProgram(InParts, Program):
+    """A program of the plain machine in parts."""
+
+
+class PartedAcceleratedProgram(InParts, AcceleratedProgram):
+    """One of the accelerated machine."""
+
+
+def has_parts(c):
+    """Whether each part of each sum fits 64 bits, as each variable does."""
+    states, _, entries, rows, moved, sums = absolute_sums(c)
+    factors = [abs(a) << c.s - exponent for row in c.w_mat for a, exponent in zip(row, c.exps)] + [abs(a) for row in c.g_mat for a in row]
+    return c.w <= MOST_PARTED_WIDTH and c.f >= PART and max(states + factors) < MOST_FACTOR and max(moved + sums) < 2**63
+
+
+def is_written(c):
+    return c.w <= MOST_WIDTH or has_parts(c)
+
+
 def program_of(c):
-    return AcceleratedProgram(c) if c.version == 3 else Program(c)
+    plain, accelerated = (Program, AcceleratedProgram) if c.w <= MOST_WIDTH else (PartedProgram, PartedAcceleratedProgram)
+    return accelerated(c) if c.version == 3 else plain(c)
 
 
 def heads(name, c):

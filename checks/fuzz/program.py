@@ -290,7 +290,7 @@ class Program:
 
     def c(self):
         c = self.controller(1)
-        if c.w > compiled.MOST_WIDTH:
+        if not compiled.is_written(c):
             raise Refused(22, c.w)
         self.write_texts(*zip(OUTPUTS["c"], compiled.texts_of(self.words[2], c)))
 

@@ -15,6 +15,35 @@ def compiles(controller, words=C, **others):
     return words, {"c": controller, **others}, 0, "", "", {words[3]: source.decode(), words[4]: header.decode()}, {}
 
 
+def parted(width, bits, *changes):
+    """The worked controller over 2^bits, with a width above 64: its sums are made in two parts where it has them."""
+    k = 2 ** (bits - 10)
+    times = lambda line, *numbers: (line + " ".join(map(str, numbers)), line + " ".join(str(v * k) for v in numbers))
+    lines = [("bits 10 0 1 26", f"bits {bits} 0 1 {width}"), times("clamp ", 32768), times("P ", 512), times("W ", 256, -256, 256), ("G 1024\nG -1024\nG 1024", f"G {1024 * k}\nG {-1024 * k}\nG {1024 * k}")]
+    return sub(CONTROLLER, *lines, times("E ", 1024), times("b ", 1024, 1024, 256), *changes)
+
+
+def parted_rows():
+    """Which controllers of more than 64 bits are written, at the ends of what is asked of them."""
+    for what, controller in {
+        "66 bits in parts": parted(66, 26),
+        "79 bits": parted(79, 26),
+        "16 fraction bits": parted(65, 16),
+        "a factor of 37 bits": parted(79, 26, (f"W {256 * 2**16} ", f"W {2**37 - 1} ")),
+        "a state of 37 bits": parted(79, 26, ("hi 1\n", f"hi {2**11 - 1}\n")),
+        "a state that is always 0, in parts": parted(66, 26, ("hi 1\n", "hi 0\n"), (f"P {512 * 2**16}", f"P {-(2**127)}")),
+    }.items():
+        yield f"c: {what}", compiles(controller)
+    for what, controller, width in (
+        ("80 bits", parted(80, 26), 80),
+        ("15 fraction bits", parted(65, 15), 65),
+        ("a factor of 38 bits", parted(79, 26, (f"W {256 * 2**16} ", f"W {2**37} ")), 79),
+        ("a state of 38 bits", parted(79, 26, ("hi 1\n", f"hi {2**11}\n")), 79),
+        ("a sum of a run of 64 bits", parted(79, 26, ("steps 4", f"steps {2**20}"), ("T 0", f"T {2**44}")), 79),
+    ):
+        yield f"c: {what}", refused(C, {"c": controller, "t": "old"}, 22, f"too-wide-c {width}")
+
+
 def rows():
     second = lambda exponents, *changes: sub(CONTROLLER, ("mpc-controller 1", "mpc-controller 2"), ("words 6\n", f"words 6\nexps {exponents}\n"), *changes)
     wide = lambda width: sub(CONTROLLER, ("bits 10 0 1 26", f"bits 10 0 1 {width}"))
@@ -35,6 +64,7 @@ def rows():
     yield "c: 64 bits", compiles(wide(64))
     for width in (65, 128):
         yield f"c: {width} bits", refused(C, {"c": wide(width), "t": "old"}, 22, f"too-wide-c {width}")
+    yield from parted_rows()
     yield "c: no controller", refused(C, {}, 3, "read-fault 1")
     yield "c: a long controller", refused(C, {"c": CONTROLLER + "\n" * 4194305}, 13, "long 1")
     yield "c: a controller with a zero before its steps", refused(C, {"c": sub(CONTROLLER, ("steps 4", "steps 04")), "h": "old"}, 11, "controller 1 line 4")

@@ -1,4 +1,4 @@
-"""What a run of the C of a controller costs on a Cortex-M4: cycles, flash and RAM. Of at most 64 bits that is the straight C of `straight_costs`; else C with tables, by its sizes and by the words that it takes.
+"""What a run of the C of a controller costs on a Cortex-M4: cycles, flash and RAM. Where `c` writes it that is the straight C of `straight_costs`; else C with tables, by its sizes and by the words that it takes.
 
 RAM is exact, and so are the tables in flash. Cycles and the bytes of the code are sums of shares that were fitted to what `bench/target/costs.py` measured of controllers of many
 sizes (gcc 12 -O2, cycles by the processor's table without wait states). That script says how near they come: cycles within 16 %, mostly 8, where there are two words a third; flash within a quarter.
@@ -10,7 +10,7 @@ from .c_words import LONG, NARROW, PARTS, WIDE, Form
 from .design_text import plain
 from .libraries import Refusal
 from .machines import accelerated_steps, is_accelerated
-from .straight_costs import HELD, MOST_WIDTH, STEP, AcceleratedCosts, StraightCosts
+from .straight_costs import HELD, MOST_WIDTH, STEP, AcceleratedCosts, StraightCosts, is_written
 
 # cycles of a step for each product of the plan's entries, and for each entry
 ENTRIES = {NARROW: (3.9, 16), "two": (3.4, 30), "four": (2.9, 44), LONG: (14, 20), WIDE: (55, 190)}
@@ -21,7 +21,7 @@ START = {NARROW: (11, 15), "two": (17, 18), "four": (11, 230), LONG: (11, 15), W
 # bytes of code: of everything, more by the words of entries and of rows, for each product that is written out, and for loops
 CODE, ENTRY_CODE, ROW_CODE = 800, {NARROW: 0, "two": 190, "four": 80, LONG: 60, WIDE: 230}, {NARROW: 0, "two": 80, "four": 780, LONG: 100, WIDE: 1100}
 PRODUCT_CODE, SINGLES_CODE, COUNTS_CODE = 15, 92, 61
-# cycles that each row and a step take more in an accelerated run of more than 64 bits, of which no C is written: the division of means, and two lists more
+# cycles that each row and a step take more in an accelerated run of which no C is written: the division of means, and two lists more
 ACCELERATED_ROW, ACCELERATED_STEP = 115, 40
 # steps of the plain machine with which the accelerated one takes less, however much more of its own each takes
 MOST_PAYING = 10**6
@@ -104,7 +104,7 @@ def rounded(value):
 
 def costs_of(controller):
     """The costs of the C of a controller of the plain machine; Refusal where there is none."""
-    return StraightCosts(controller) if controller.width <= MOST_WIDTH else Costs(controller)
+    return StraightCosts(controller) if is_written(controller) else Costs(controller)
 
 
 def plain_cycles(controller, steps):
@@ -115,7 +115,7 @@ def plain_cycles(controller, steps):
 def accelerated_cycles(controller, steps):
     """And one of the accelerated machine."""
     c = replace(controller, version=3, steps=steps)
-    if c.width <= MOST_WIDTH:
+    if is_written(c):
         return AcceleratedCosts(c).cycles
     form = Form(replace(c, version=2))
     return steps * (Costs(replace(c, version=2)).step_cycles() + ACCELERATED_ROW * (len(form.rows) + len(form.seconds)) + ACCELERATED_STEP)
@@ -131,19 +131,19 @@ def c_words(controller, period, clock):
 
 def plain_words(controller, period, clock):
     costs = costs_of(controller)
-    yield straight_words(costs.rows) if controller.width <= MOST_WIDTH else table_words(costs.form)
+    yield straight_words(costs.rows) if is_written(controller) else table_words(costs.form)
     yield f"{cycle_words(controller, costs.cycles, period, clock)}; {size_words(costs)}"
 
 
 def accelerated_words(controller, period, clock):
-    """The same of a controller of version 3; of one of more than 64 bits an estimate."""
+    """The same of a controller of version 3; of one that `c` doesn't write an estimate."""
     cycles = cycle_words(controller, accelerated_cycles(controller, controller.steps), period, clock)
-    if controller.width <= MOST_WIDTH:
+    if is_written(controller):
         costs = AcceleratedCosts(controller)
         yield straight_words(costs.rows)
         yield f"{cycles}; {size_words(costs)}"
     else:
-        yield f"{cycles}; an estimate, since of version 3 no C of more than {MOST_WIDTH} bits is written: each row takes {ACCELERATED_ROW} cycles more than in the plain machine"
+        yield f"{cycles}; an estimate, since no C is written of it: each row takes {ACCELERATED_ROW} cycles more than in the plain machine"
 
 
 def size_words(costs):
@@ -186,7 +186,8 @@ def straight_words(rows):
     c = rows.c
     products = sum(row[i] != 0 for row in rows.gains for i in rows.left if i not in rows.seconds) + sum(v != 0 for i in rows.left if i not in rows.seconds for v in c.G[i])
     never = f"; {c.rows - len(rows.left)} of {c.rows} rows bind from no state" if len(rows.left) < c.rows and c.steps > 1 else ""
-    return f"as C (./mpc c): no tables; {products} products a step{shared_words(len(rows.firsts))}{never}"
+    parts = " in two parts" * (c.width > MOST_WIDTH)
+    return f"as C (./mpc c): no tables; {products} products a step{parts}{shared_words(len(rows.firsts))}{never}"
 
 
 def table_words(form):

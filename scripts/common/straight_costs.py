@@ -11,8 +11,8 @@ from .machines import Accelerated
 from .strict_texts import absolute_sums, ceil_div
 from .texts import Controller
 
-# the widest that `c` writes
-MOST_WIDTH = 64
+# the widest that `c` writes whose sums are made at once, and the widest whose sums are made in two parts, cut at this bit, of factors below this
+MOST_WIDTH, MOST_PARTED_WIDTH, PART, MOST_FACTOR = 64, 79, 16, 2**37
 # multipliers below these have their means by a reciprocal, in one round and in two
 ONCE, TWICE = 2**30, 2**56
 # numbers that one instruction has, numbers of the loop that the registers hold, and the most digits of a factor that are shifted
@@ -21,6 +21,7 @@ SHORT, HELD, SHIFTED = range(-256, 65536), 10, 5
 START = {
     "average": (0.0, 192.9, 0.0),
     "average by a shift": (0.0, 15.8, 0.0),
+    "coefficient in parts": (18.8, 28.7, 1.3),
     "coordinate": (2.3, 34.0, 0.8),
     "entry": (12.9, 0.0, 0.0),
     "entry's coefficient": (4.5, 10.7, 0.0),
@@ -32,7 +33,9 @@ STEP = {
     "accelerated mean by a reciprocal, in two rounds": (61.5, 158.4, 6.8),
     "accelerated reach of 64 bits": (20.3, 45.8, 5.9),
     "accelerated reciprocal": (122.8, 18.0, 26.7),
+    "digit of 64 bits in parts": (6.4, 17.9, 1.1),
     "entry": (0.7, 5.1, 12.6),
+    "entry in parts": (18.3, 42.7, 22.2),
     "entry's digit of 64 bits": (6.5, 17.4, 0.6),
     "entry's product": (4.9, 13.7, 0.1),
     "entry's product of 64 bits": (14.3, 39.7, 3.5),
@@ -41,10 +44,15 @@ STEP = {
     "entry's sum of 64 bits": (5.4, 26.0, 3.5),
     "number beyond the registers": (1.2, 3.8, 0.3),
     "pair": (9.5, 10.0, 0.0),
+    "pair in parts": (8.4, 102.5, 0.0),
     "pair of 64 bits": (21.8, 34.9, 3.7),
+    "product in parts": (4.5, 14.9, 0.0),
+    "product of 64 bits in parts": (13.0, 38.2, 1.5),
+    "product, long factor in parts": (4.5, 14.9, 0.0),
     "residual of 64 bits": (4.5, 7.8, 1.6),
     "residual of 64 bits, shifted": (5.9, 21.6, 2.4),
     "row": (0.0, 0.0, 6.4),
+    "row in parts": (40.8, 44.2, 27.6),
     "row of 64 bits": (9.3, 15.6, 8.5),
     "row's digit of 64 bits": (4.3, 14.5, 0.0),
     "row's product": (3.2, 12.4, 0.8),
@@ -52,6 +60,8 @@ STEP = {
     "row's product, long factor": (4.9, 13.1, 0.2),
     "row's sum": (4.4, 30.3, 1.0),
     "row's sum of 64 bits": (5.4, 26.0, 4.0),
+    "sum in parts": (4.4, 13.7, 0.1),
+    "sum of 64 bits in parts": (5.4, 26.0, 3.5),
     "sum of a run of 64 bits": (3.3, 22.7, 4.8),
 }
 
@@ -115,6 +125,18 @@ class Rows:
             left |= found
 
 
+def has_parts(c: Controller) -> bool:
+    """Whether each part of each sum of a controller fits 64 bits, as each variable does."""
+    reach, _, _, _, moved, sums = absolute_sums(c)
+    factors = [abs(v) << c.step - exponent for row in c.W for v, exponent in zip(row, c.exps)] + [abs(v) for row in c.G for v in row]
+    return c.width <= MOST_PARTED_WIDTH and c.bits >= PART and max(reach + factors) < MOST_FACTOR and max(moved + sums) < 2**63
+
+
+def is_written(c: Controller) -> bool:
+    """Whether `c` writes a controller."""
+    return c.width <= MOST_WIDTH or has_parts(c)
+
+
 def digits(factor: int) -> int:
     """How many powers of two a factor is the fewest sum or difference of."""
     triple = 3 * abs(factor)
@@ -133,6 +155,9 @@ def product(factor: int, is_wide: bool) -> list[str]:
 class StraightCosts:
     """Cycles of a run, bytes of flash and of RAM, the stack's among them."""
 
+    # whether gcc has a factor's high part in 64 bits: it has, where it knows that it fits 32, as it knows of all that is clamped
+    has_long_parts = True
+
     def __init__(self, c: Controller):
         self.c, self.rows = c, Rows(c)
         self.reach, _, self.plan, _, self.moved, self.sums = absolute_sums(c)
@@ -144,12 +169,28 @@ class StraightCosts:
     def counted_start(self) -> Counter[str]:
         c = self.c
         count = Counter({"entry": c.entries, "coordinate": c.states, "average by a shift" if c.steps & (c.steps - 1) == 0 else "average": c.inputs})
-        count["entry's coefficient"] = sum(map(self.of_state, c.P))
-        count["row's coefficient"] = sum(self.of_state(c.E[i]) for i in self.rows.left)
+        of_entries, of_rows = sum(map(self.of_state, c.P)), sum(self.of_state(c.E[i]) for i in self.rows.left)
+        if c.width > MOST_WIDTH:
+            count["coefficient in parts"] = of_entries + of_rows
+        else:
+            count["entry's coefficient"], count["row's coefficient"] = of_entries, of_rows
+        return count
+
+    def counted_parts(self) -> Counter[str]:
+        """Of a step whose sums are made in two parts."""
+        c, rows = self.c, self.rows
+        count = Counter({"entry in parts": c.entries, "row in parts": len(rows.left), "pair in parts": len(rows.firsts)})
+        own = [i for i in rows.left if i not in rows.seconds]
+        factors = [row[i] for row in rows.gains for i in own if row[i]] + [v for i in own for v, most in zip(c.G[i], self.plan) if v * most]
+        for is_wide in (False, self.has_long_parts):
+            count.update(what + " in parts" for v in factors for what in product(v, is_wide))
+        count["sum of a run of 64 bits"] = sum(map(is_long, self.sums))
         return count
 
     def counted_step(self) -> Counter[str]:
         c, rows, count = self.c, self.rows, Counter({"entry": self.c.entries})
+        if c.width > MOST_WIDTH:
+            return self.counted_parts()
         for row in rows.gains:
             count.update("entry's " + what for i in rows.left if row[i] and i not in rows.seconds for what in product(row[i], is_long(rows.tops[i])))
         for i in rows.left:
@@ -186,6 +227,8 @@ class StraightCosts:
 
 class AcceleratedCosts(StraightCosts):
     """The same of a controller of version 3: gcc leaves out no row, since it doesn't follow a mean."""
+
+    has_long_parts = False
 
     def __init__(self, c: Controller):
         self.c, self.rows = c, Rows(c)

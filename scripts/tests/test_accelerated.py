@@ -195,9 +195,9 @@ class Explained(unittest.TestCase):
         # a gain of 1 is a sum
         one = AcceleratedCosts(controller_of(controller.replace("W 128 -128 128", "W 1 -128 128").replace("exps 0 1 1", "exps 1 1 1")))
         self.assertEqual((one.step["entry's sum"], one.cycles > 0, one.flash > 0, one.ram > 0), (1, True, True, True))
-        # of more than 64 bits no C is written
+        # of one that `c` doesn't write
         wide = "\n".join(self.told(controller=controller.replace("bits 9 0 1 22", "bits 9 0 1 65")))
-        self.assertRegex(wide, rf"an estimate, since of version 3 no C of more than 64 bits is written: each row takes {c_costs.ACCELERATED_ROW} cycles more")
+        self.assertRegex(wide, rf"an estimate, since no C is written of it: each row takes {c_costs.ACCELERATED_ROW} cycles more")
         self.assertFalse("as C" in wide or "flash" in wide)
 
     def test_what_the_plain_machine_would_take(self):

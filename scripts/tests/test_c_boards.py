@@ -52,7 +52,7 @@ class Boards(unittest.TestCase):
             cycles, flash = costs.ratios(controller)
             self.assertAlmostEqual(cycles, 1, delta=0.35 if name == "two words" else 0.2, msg=name)
             self.assertAlmostEqual(flash, 1, delta=0.25, msg=name)
-            if controller.width <= straight_costs.MOST_WIDTH:
+            if straight_costs.is_written(controller):
                 for ratio in costs.straight_ratios(controller):
                     self.assertAlmostEqual(ratio, 1, delta=0.15, msg=f"{name}, straight")
 

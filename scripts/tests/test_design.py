@@ -1,12 +1,12 @@
 """From a model to a judged picture: loops that leave and where they go, coordinates in which they stay, and the one command that goes the whole way."""
 import contextlib
+import dataclasses
 import io
 import os
 import signal
 import subprocess
 import time
 import tomllib
-import types
 import unittest
 import unittest.mock
 
@@ -207,7 +207,7 @@ class WholeWay(unittest.TestCase):
             return design.Step(int(words[0] == "lean" and last == ["--accelerated"] and not third), "")
 
         given = design.Namespace(generate="--generate" in options, accelerated="--accelerated" in options, plain="--plain" in options, gap=0.1)
-        read = lambda text: types.SimpleNamespace(version=3, width=width) if text == third else controller_of(text)
+        read = lambda text: dataclasses.replace(controller_of(FIRST_LEAN_CONTROLLER), version=3, width=width) if text == third else controller_of(text)
         with unittest.mock.patch.object(design.Steps, "run", run), unittest.mock.patch.object(design, "controller_of", read), contextlib.redirect_stdout(io.StringIO()) as said:
             design.make(design.Steps(folder), paths["model"], given, False)
         return [line.split(" --gap 0.1")[1].strip() for line in ran if line.startswith("draft")], said.getvalue(), ran
@@ -225,7 +225,7 @@ class WholeWay(unittest.TestCase):
         self.assertEqual(self.machines(50, "--accelerated")[:2], (both[1:], ""))
         # where it is too wide for `c`, or refused, the plain one
         drafts, said, _ = self.machines(20000, width=65)
-        self.assertEqual((drafts, "its sums take more than 64 bits: so the plain machine is kept" in said), ([*both, *plain], True))
+        self.assertEqual((drafts, "no C is written of it (docs/C.md): so the plain machine is kept" in said), ([*both, *plain], True))
         drafts, said, _ = self.machines(20000, third="")
         self.assertEqual((drafts, "./mpc lean ended with status 1: what stands above says why: so the plain machine is kept" in said), ([*both, *plain], True))
         wide = FIRST_LEAN_CONTROLLER.replace("bits 6 0 1 16", "bits 6 0 1 65").replace("steps 1\n", "steps 20000\n")

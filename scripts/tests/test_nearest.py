@@ -72,8 +72,8 @@ class Fallback(unittest.TestCase):
         self.assertIn("int small_nearest_inputs(const int32_t state[2], int64_t inputs[1]);", header)
 
     def test_wide_controllers(self):
-        with self.assertRaisesRegex(Refusal, "a controller of at most 64 bits is expected, since `./mpc c` refuses others, and this one has 65"):
-            nearest.texts_of("small", "controller.txt", replace(controller(), width=65))
+        with self.assertRaisesRegex(Refusal, "a controller that `./mpc c` writes is expected \(docs/C.md\), and this one has 128 bits"):
+            nearest.texts_of("small", "controller.txt", replace(controller(), width=128))
 
     def told(self, *words, status):
         with unittest.mock.patch("sys.argv", ["nearest.py", *words]), contextlib.redirect_stderr(io.StringIO()) as told:

@@ -1,4 +1,5 @@
 """The model of `c`: its texts, what it refuses, and the programs themselves, compiled and run beside the machine."""
+import collections
 import os
 import random
 import shutil
@@ -169,6 +170,17 @@ class Programs(unittest.TestCase):
             if c.w <= compiled.MOST_WIDTH:
                 self.runs_as_the_machine(c, pick, 2, ["-fsanitize=undefined", "-fno-sanitize-recover"])
                 tried += 1
+
+    def test_parts(self):
+        """Sums above 64 bits in two parts, of both machines."""
+        pick, tried = random.Random(9), collections.Counter()
+        while min(tried[version] for version in (1, 2, 3)) < 4:
+            _, c = cases.random_controller(pick, versions=(1, 2, 3))
+            c.steps = pick.choice([1, 2, 3, 7, 20])
+            c.w = control.least_width(c) or 128
+            if c.w > compiled.MOST_WIDTH and compiled.is_written(c):
+                self.runs_as_the_machine(c, pick, 2, ["-fsanitize=undefined", "-fno-sanitize-recover"])
+                tried[c.version] += 1
 
     def test_what_is_left_out(self):
         """Rows that move no plan entry, and coordinates that move nothing, leave no variable that isn't used."""
