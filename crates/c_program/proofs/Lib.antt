@@ -8,6 +8,7 @@ pub mod Reciprocal
 pub mod Amounts
 pub mod Pairs
 pub mod Parts
+pub mod PartedNumbers
 pub mod PartedSums
 -- ---- runs
 pub mod Before

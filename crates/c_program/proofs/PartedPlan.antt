@@ -23,7 +23,8 @@ use Rattle.c_program.proofs.Pairs.{Stand, AreMultipliers}
 use Rattle.c_program.proofs.Before.{held_bases, kinds, runs_next, runs_one, put, put_when, skip_when, put_where, skip_where}
 use Rattle.c_program.proofs.Planning.{made_at, Differs, differences_run, StaysBeside, StaysByMoves}
 use Rattle.c_program.proofs.PartedBefore.{parted_bases, HaveKinds, runs_as, kinds_groups}
-use Rattle.c_program.proofs.PartedSums.{PartedReady, high_fits, low_fits, high_made, low_made, gained, gained_held, gained_le, ArePartedGains, parted_entry_made, IsPartedPlan, planned_high, planned_low, gradient_high_made, gradient_low_made, ArePartedShared, parted_row_made, parted_row_fits}
+use Rattle.c_program.proofs.PartedNumbers.{high_fits, low_fits, high_made, low_made}
+use Rattle.c_program.proofs.PartedSums.{PartedReady, gained, gained_held, gained_le, ArePartedGains, parted_entry_made, IsPartedPlan, planned_high, planned_low, gradient_high_made, gradient_low_made, ArePartedShared, parted_row_made, parted_row_fits}
 
 -- ---- the differences and their parts
 -- the multipliers or the means that a plan is made at; so many have their parts

@@ -17,14 +17,14 @@ parted_worked_lines = refl
 
 -- ---- what it does
 -- from the state 1, which the machine runs from to the same sum; and 2 lies outside the box
-solved : outcome_of (parted_program Accelerated parted) (pos 1 ∷ []) ≡ Solved (negsuc 81308342 ∷ [])
+solved : outcome_of (parted_program Accelerated parted) (pos 1 ∷ []) ≡ Solved (negsuc 75878585 ∷ [])
 unfolding groups partner is_first is_second any_below is_row_needed is_coordinate_needed is_entry_needed is_any_quick all_done repeated
 solved = refl
 
 refused : outcome_of (parted_program Accelerated parted) (pos 2 ∷ []) ≡ Refused 1
 refused = refl
 
--- of -81308343 / 9 the nearest is -9034260
-averaged : averages_of (parted_program Accelerated parted) (negsuc 81308342 ∷ []) ≡ negsuc 9034259 ∷ []
+-- of -75878586 / 9 the nearest is -8430954
+averaged : averages_of (parted_program Accelerated parted) (negsuc 75878585 ∷ []) ≡ negsuc 8430953 ∷ []
 unfolding count_trailing_zeros all_weights
 averaged = refl
