@@ -27,7 +27,7 @@ import tempfile
 
 HERE = pathlib.Path(__file__).resolve().parent
 TOP = HERE.parents[1]
-TRIALS = ("trials_definitions", "trials_split", "trials_stay", "trials_listing")
+TRIALS = ("trials_definitions", "trials_makers", "trials_command")
 # the start of a line's module in any of them
 IN_TRIALS = rf"Rattle\.(?:{'|'.join(TRIALS)})\.proofs\."
 # so many changes share a check of their lines

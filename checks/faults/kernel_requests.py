@@ -1,4 +1,4 @@
-"""Counts how often a kernel asks for memory, by tests of `trials_kernel` that run alone under an allocator that counts.
+"""Counts how often a kernel asks for memory, by tests of `trials_number` that run alone under an allocator that counts.
 
     python3 -m checks.faults.kernel_requests [--build]
 
@@ -12,7 +12,7 @@ import tempfile
 
 from . import allocations
 
-CRATE = "trials_kernel"
+CRATE = "trials_number"
 # the plan entries and the rows of the tests' controllers
 ENTRIES, ROWS = 1, 3
 # by width: what `prepare` asks for, and a run

@@ -1,6 +1,6 @@
 """The texts of worked designs, whose numbers were computed by hand or by another program.
 
-Those that tests in Rattle read, too, stand there, in `trials_worked_designs`.
+Those that tests in Rattle read, too, stand there, in `trials_worked`.
 """
 import os
 import re
@@ -9,8 +9,8 @@ TOP = os.path.dirname(os.path.dirname(os.path.dirname(os.path.abspath(__file__))
 
 
 def shared():
-    """The constants of `trials_worked_designs`."""
-    with open(os.path.join(TOP, "crates", "trials_worked_designs", "src", "texts.rt"), encoding="utf-8") as file:
+    """The constants of `trials_worked`."""
+    with open(os.path.join(TOP, "crates", "trials_worked", "src", "texts.rt"), encoding="utf-8") as file:
         found = re.findall(r'^pub const (\w+): &str = "([^"]*)";$', file.read(), re.MULTILINE)
     return {name: text.replace(r"\n", "\n") for name, text in found}
 

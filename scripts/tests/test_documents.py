@@ -248,7 +248,7 @@ class FilesOfTheGate(unittest.TestCase):
             self.assertEqual(text_of(f"crates/mpc_generate/data/{name}"), text_of(f"examples/first/{name}"))
 
     def test_report(self):
-        self.assertIn(f'pub const REPORT: &str = "{text_of("crates/mpc_generate/stdout")}";', text_of("crates/trials_worked_designs/src/texts.rt"))
+        self.assertIn(f'pub const REPORT: &str = "{text_of("crates/mpc_generate/stdout")}";', text_of("crates/trials_worked/src/texts.rt"))
 
 
 class Architecture(unittest.TestCase):

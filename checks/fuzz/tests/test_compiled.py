@@ -9,6 +9,7 @@ import unittest
 
 from checks.fuzz import cases, compiled, control
 from checks.rows.texts import sub
+from checks.rows.worked_texts import SHARED
 
 from .worked import CONTROLLER, told
 
@@ -42,28 +43,8 @@ BODY = """    for (int32_t step = 0; step < 4; step++) {
         int32_t d0 = (int32_t)((int64_t)l0 - (int64_t)l1);
         int32_t u0 = (int32_t)(INT64_C(0) - (((int64_t)a0 + (INT64_C(256) * (int64_t)d0) + (INT64_C(256) * (int64_t)l2)) >> 11));
 """
-# a worked controller of the accelerated machine: a row with an exponent of its own, and a pair; and the head of a step of its program
-FAST = b"""mpc-controller 3
-size 1 1 1 3
-bits 9 0 1 22
-steps 3
-clamp 2048
-words 12
-exps 0 1 1
-lo 0
-hi 1
-P 256
-T 0
-W 128 -128 128
-G 512
-G -512
-G 512
-E 0
-E 0
-E 512
-b 512 512 128
-end
-"""
+# the worked controller of the accelerated machine: a row with an exponent of its own, and a pair; and the head of a step of its program
+FAST = SHARED["FAST_CONTROLLER"].encode()
 FAST_BODY = """    for (int32_t step = 0; step < 3; step++) {
         int32_t b0 = (int32_t)((((int64_t)k0 - INT64_C(1)) * ((int64_t)k0 + INT64_C(2))));
         int32_t c0 = (int32_t)(INT64_C(1) + ((((int64_t)b0 * INT64_C(1073741824)) - (int64_t)p0) >> 63));

@@ -1,36 +1,13 @@
-// What the program answers over one store, and that the right answers come after all of these. The plans and the boxes are those of the model in exact fractions.
+// What the program answers over one store, and that the right answers come after all of these. The plans and the boxes are those of the model in exact fractions,
+// the lines of `list` and `play` those of the model of `checks/fuzz/program.py`.
 use crate::whole::Whole;
 use std::alloc::{AllocError, Global};
 use std::test::Fail;
-use trials_memory_edge::MemStore;
-use trials_stores::{generates, given, solves, tells, tells_rows};
-use trials_worked_designs::{
-    CONTROLLER, CONTROLLER_OF_TWO, DEMO_OF_SEVEN, DESIGN, LEAN_CONTROLLER,
+use trials_stores::{MemStore, generates, given, holds, solves, tells, tells_rows};
+use trials_worked::{
+    CONTROLLER, CONTROLLER_OF_TWO, DEMO_OF_SEVEN, DESIGN, FAST_CONTROLLER, LEAN_CONTROLLER,
+    LISTING, PLANS,
 };
-
-// The controller of the accelerated machine of the first worked design at closer targets, at 3 steps: its plan at 1 is followed by hand, by the weights 2, 3 and 4
-// -256, -272 and -288, and over 9 * 512.
-const FAST: &str = "mpc-controller 3
-size 1 1 1 3
-bits 9 0 1 22
-steps 3
-clamp 2048
-words 12
-exps 0 1 1
-lo 0
-hi 1
-P 256
-T 0
-W 128 -128 128
-G 512
-G -512
-G 512
-E 0
-E 0
-E 512
-b 512 512 128
-end
-";
 
 // u = -x/2 between -1 and 1, from a box of 40 over 2^4 to both sides: no multiplier moves from -31 to 32.
 const HALF: &str = "mpc-controller 1
@@ -56,7 +33,7 @@ end
 static FILES: [(&str, &str); 11] = [
     ("two", CONTROLLER_OF_TWO),
     ("pairs", "1,-2\n3,4"),
-    ("fast", FAST),
+    ("fast", FAST_CONTROLLER),
     ("turned", "1\n0\n"),
     ("outside", "1\n2"),
     ("shifts", "1\n0\n"),
@@ -68,7 +45,7 @@ static FILES: [(&str, &str); 11] = [
 ];
 
 // Files of a worked text, with this part in that one's place.
-static CHANGED: [(&str, &str, &str, &str); 12] = [
+static CHANGED: [(&str, &str, &str, &str); 18] = [
     ("third", DESIGN, "version = 1", "version = 3"),
     ("halves", DESIGN, "grid = 0", "grid = 1"),
     ("triples", DESIGN, "a = [[1]]", "a = [[3]]"),
@@ -92,15 +69,21 @@ static CHANGED: [(&str, &str, &str, &str); 12] = [
         "1\nsize 1 1 1 3\nbits 6 0 1 16\nsteps 1\nclamp 256\nwords 6\n",
         "3\nsize 1 1 1 3\nbits 6 0 1 16\nsteps 1\nclamp 256\nwords 12\nexps 0 1 1\n",
     ),
-    ("endless", FAST, "steps 3", "steps 65535"),
-    ("few", FAST, "words 12", "words 6"),
-    ("narrow", FAST, "1 22", "1 21"),
+    ("endless", FAST_CONTROLLER, "steps 3", "steps 65535"),
+    ("few", FAST_CONTROLLER, "words 12", "words 6"),
+    ("narrow", FAST_CONTROLLER, "1 22", "1 21"),
     (
         "fast_half",
         HALF,
         "1\nsize 1 1 1 2\nbits 11 4 1 40\nsteps 9\nclamp 65536\nwords 5\n",
         "3\nsize 1 1 1 2\nbits 11 4 1 40\nsteps 9\nclamp 65536\nwords 9\nexps 1 0\n",
     ),
+    ("l", LISTING, "mpc-listing 1", "mpc-listing 1"),
+    ("l-cut", LISTING, "end\n", ""),
+    ("l-narrow", LISTING, "word 26", "word 21"),
+    ("l-narrower", LISTING, "word 26", "word 10"),
+    ("l-long", LISTING, "addm 4", "addm 6"),
+    ("l-wide", LISTING, "hi 1", "hi 3"),
 ];
 
 // Arguments, and what they tell, with a comma for each line feed but the last.
@@ -128,6 +111,20 @@ settle wide half borne ends: turn 6,state 1 -4 4
 settle wide fast_half rest: turn 5,state 1 -2 2,cost 1 3 -4 4
 settle wide fast_half borne ends: turn 6,state 1 -4 4
 settle wide fast_half moving: error 23 moves 1 4194304 4194304
+list gone out: error 3 read-fault 1
+play gone s: error 3 read-fault 1
+play l gone: error 3 read-fault 2
+list c gone: error 4 write-fault 2
+play l d: error 5 text 2 number 1 1
+list l out: error 11 controller 1 line 1
+play l outside: error 12 outside-box 2 0 1
+play l-narrow outside: error 12 outside-box 2 0 1
+play c s: error 20 listing 1 1
+play l-cut s: error 20 listing 1 48
+play l-long s: error 20 listing 1 46
+play l-narrow s: error 21 trap 2 1 4,4096 0
+play l-narrower s: error 21 trap 1 1 13
+play l-wide outside: 4096 -2224,4096 -4582
 ";
 
 // Holds a changed text.
@@ -151,10 +148,20 @@ fn hold_all(alloc: Global, store: &mut MemStore) -> Result<(), AllocError> {
     Ok(())
 }
 
+// Whether `list` writes the listing, and `play` prints of it what `solve` prints of the controller.
+fn is_listed(alloc: Global, store: &mut MemStore) -> Result<bool, AllocError> {
+    Ok(
+        tells::<Whole>(alloc, "list c out", store, "")?
+            && holds(alloc, store, "out", LISTING.as_bytes())?
+            && tells::<Whole>(alloc, "play out s", store, PLANS)?,
+    )
+}
+
 // Whether the commands answer as over the store that is given alone.
 fn are_right(alloc: Global, store: &mut MemStore) -> Result<bool, AllocError> {
     Ok(
-        solves::<Whole>(alloc, store)?
+        is_listed(alloc, store)?
+            && solves::<Whole>(alloc, store)?
             && generates::<Whole>(alloc, store)?
             && tells::<Whole>(alloc, "demo 7", store, DEMO_OF_SEVEN)?,
     )

@@ -3,8 +3,7 @@ use command_line::Status;
 use command_run::run;
 use io_edge::Words;
 use std::alloc::Global;
-use trials_memory_edge::{MemSink, MemStore};
-use trials_stores::Program;
+use trials_stores::{MemSink, MemStore, Program};
 
 // The whole program.
 pub(crate) struct Whole;

@@ -54,7 +54,7 @@ fn files(rt: HostRuntime) -> Result<(), Fail> {
 #[test]
 fn longer_file(rt: HostRuntime) {
     let read = reads_back(&rt, rt.alloc(), "io_edge_real_longer", 10000, 9999);
-    assert_eq!(rt; read, Err(ReadRefusal::Long));
+    assert!(rt; read == Err(ReadRefusal::Long));
 }
 
 // What is written anew is all that the file holds.
@@ -62,7 +62,7 @@ fn longer_file(rt: HostRuntime) {
 fn shorter_file(rt: HostRuntime) -> Result<(), Fail> {
     let long = reads_back(&rt, rt.alloc(), "io_edge_real_shorter", 10000, 10000)?;
     let short = reads_back(&rt, rt.alloc(), "io_edge_real_shorter", 5, 10000)?;
-    assert_eq!(rt; (long, short), (true, true));
+    assert!(rt; long && short);
     Ok(())
 }
 
@@ -71,7 +71,7 @@ fn shorter_file(rt: HostRuntime) -> Result<(), Fail> {
 fn no_file(rt: HostRuntime) -> Result<(), Fail> {
     let mut store = HostStore::new(&rt);
     let read = store.read_all(rt.alloc(), "io_edge_no_such_file", 9).err();
-    assert_eq!(rt; read, Some(ReadRefusal::Failed));
+    assert!(rt; read == Some(ReadRefusal::Failed));
     Ok(())
 }
 
@@ -79,7 +79,7 @@ fn no_file(rt: HostRuntime) -> Result<(), Fail> {
 #[test]
 fn no_folder(rt: HostRuntime) -> Result<(), Fail> {
     let written = HostStore::new(&rt).write_all("io_edge_no_such_folder/file", b"1");
-    assert_eq!(rt; written, Err(Failed));
+    assert!(rt; written == Err(Failed));
     Ok(())
 }
 
@@ -87,17 +87,15 @@ fn no_folder(rt: HostRuntime) -> Result<(), Fail> {
 #[test]
 fn full_device(rt: HostRuntime) -> Result<(), Fail> {
     let mut store = HostStore::new(&rt);
-    let written = [
-        store.write_all("/dev/full", b"1"),
-        store.write_all("/dev/full", b""),
-    ];
-    assert_eq!(rt; written, [Err(Failed), Ok(())]);
+    let byte = store.write_all("/dev/full", b"1");
+    let none = store.write_all("/dev/full", b"");
+    assert!(rt; byte == Err(Failed) && none == Ok(()));
     Ok(())
 }
 
 #[test]
 fn real_output(rt: HostRuntime) -> Result<(), Fail> {
     let put = StdSink::new(&rt).put(b"to the standard output\n");
-    assert_eq!(rt; put, Ok(()));
+    assert!(rt; put == Ok(()));
     Ok(())
 }

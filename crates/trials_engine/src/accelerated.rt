@@ -7,7 +7,7 @@ use policy_file::read_policy;
 use qp_model::{Bounds, Design, Policy, Refusal};
 use std::alloc::{AllocError, Global};
 use std::test::Fail;
-use trials_worked_designs::{Changed, DESIGN, FINE_STILL, FORCED, changed_design};
+use trials_worked::{Changed, DESIGN, FINE_STILL, FORCED, changed_design};
 
 // The first worked design, whose rows have step exponents of their own.
 const WORKED: Changed = (DESIGN, &[("version = 1", "version = 2")]);

@@ -9,7 +9,7 @@ use mat_int::Mat;
 use qp_model::{Design, Quantity};
 use std::alloc::{AllocError, Global};
 use std::test::Fail;
-use trials_worked_designs::{Changed, DESIGN, FINE_STILL, LIMITS, changed_design, has_rows};
+use trials_worked::{Changed, DESIGN, FINE_STILL, LIMITS, changed_design, has_rows};
 
 // 2^126
 const MOST: i128 = 85070591730234615865843651857942052864;

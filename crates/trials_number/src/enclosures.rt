@@ -51,19 +51,15 @@ static FRACTIONS: [(i128, i128, Option<Numbers>); 12] = [
     (MIN, 1, None),
 ];
 
-// The first fraction that something else encloses.
-fn first_other_fraction(cases: &[(i128, i128, Option<Numbers>)]) -> Option<(i128, i128)> {
-    for &(num, den, made) in cases {
-        if den < 1 || enclose(num, den).map(numbers) != made {
-            return Some((num, den));
-        }
-    }
-    None
+fn is_enclosed(num: i128, den: i128, made: Option<Numbers>) -> bool {
+    den >= 1 && enclose(num, den).map(numbers) == made
 }
 
 #[test]
 fn fractions(rt: HostRuntime) {
-    assert_eq!(rt; first_other_fraction(&FRACTIONS), None);
+    for &(num, den, made) in &FRACTIONS {
+        assert!(rt; is_enclosed(num, den, made));
+    }
 }
 
 // Two enclosures and their sum.
@@ -77,19 +73,15 @@ static SUMS: [(Numbers, Numbers, Option<Numbers>); 7] = [
     ((MIN, MAX), (0, 0), None),
 ];
 
-// The first two with another sum.
-fn first_other_sum(cases: &[(Numbers, Numbers, Option<Numbers>)]) -> Option<(Numbers, Numbers)> {
-    for &(a, b, sum) in cases {
-        if a.1 < 0 || b.1 < 0 || add(enc(a.0, a.1), enc(b.0, b.1)).map(numbers) != sum {
-            return Some((a, b));
-        }
-    }
-    None
+fn is_sum(a: Numbers, b: Numbers, sum: Option<Numbers>) -> bool {
+    a.1 >= 0 && b.1 >= 0 && add(enc(a.0, a.1), enc(b.0, b.1)).map(numbers) == sum
 }
 
 #[test]
 fn sums(rt: HostRuntime) {
-    assert_eq!(rt; first_other_sum(&SUMS), None);
+    for &(a, b, sum) in &SUMS {
+        assert!(rt; is_sum(a, b, sum));
+    }
 }
 
 // Two enclosures and their product.
@@ -117,21 +109,15 @@ static PRODUCTS: [(Numbers, Numbers, Option<Numbers>); 9] = [
     ((0, 0), (MAX, MAX), Some((0, 0))),
 ];
 
-// The first two with another product.
-fn first_other_product(
-    cases: &[(Numbers, Numbers, Option<Numbers>)],
-) -> Option<(Numbers, Numbers)> {
-    for &(a, b, product) in cases {
-        if a.1 < 0 || b.1 < 0 || mul(enc(a.0, a.1), enc(b.0, b.1)).map(numbers) != product {
-            return Some((a, b));
-        }
-    }
-    None
+fn is_product(a: Numbers, b: Numbers, product: Option<Numbers>) -> bool {
+    a.1 >= 0 && b.1 >= 0 && mul(enc(a.0, a.1), enc(b.0, b.1)).map(numbers) == product
 }
 
 #[test]
 fn products(rt: HostRuntime) {
-    assert_eq!(rt; first_other_product(&PRODUCTS), None);
+    for &(a, b, product) in &PRODUCTS {
+        assert!(rt; is_product(a, b, product));
+    }
 }
 
 // An enclosure, a fraction, and whether it lies inside, none where there is no room.
@@ -150,21 +136,15 @@ static CONTENTS: [(Numbers, i128, i128, Option<bool>); 12] = [
     ((MIN, 0), 0, 1, None),
 ];
 
-// The first enclosure and fraction with another answer.
-fn first_other_content(
-    cases: &[(Numbers, i128, i128, Option<bool>)],
-) -> Option<(Numbers, i128, i128)> {
-    for &(a, num, den, answer) in cases {
-        if den < 1 || a.1 < 0 || contains(enc(a.0, a.1), num, den) != answer {
-            return Some((a, num, den));
-        }
-    }
-    None
+fn is_content(a: Numbers, num: i128, den: i128, answer: Option<bool>) -> bool {
+    den >= 1 && a.1 >= 0 && contains(enc(a.0, a.1), num, den) == answer
 }
 
 #[test]
 fn contents(rt: HostRuntime) {
-    assert_eq!(rt; first_other_content(&CONTENTS), None);
+    for &(a, num, den, answer) in &CONTENTS {
+        assert!(rt; is_content(a, num, den, answer));
+    }
 }
 
 // Two coefficients, two enclosures, a divisor, and what they make.
@@ -192,25 +172,21 @@ fn combined(coeffs: [i128; 2], a: Enc, b: Enc, den: i128) -> Option<Numbers>
     combine(&coeffs, &[a, b], den).map(numbers)
 }
 
-// The first coefficients and enclosures that make something else.
-fn first_other_combination(
-    cases: &[([i128; 2], Numbers, Numbers, i128, Option<Numbers>)],
-) -> Option<([i128; 2], Numbers, Numbers)> {
-    for &(coeffs, a, b, den, made) in cases {
-        if den < 1
-            || a.1 < 0
-            || b.1 < 0
-            || combined(coeffs, enc(a.0, a.1), enc(b.0, b.1), den) != made
-        {
-            return Some((coeffs, a, b));
-        }
-    }
-    None
+fn is_combination(
+    coeffs: [i128; 2],
+    a: Numbers,
+    b: Numbers,
+    den: i128,
+    made: Option<Numbers>,
+) -> bool {
+    den >= 1 && a.1 >= 0 && b.1 >= 0 && combined(coeffs, enc(a.0, a.1), enc(b.0, b.1), den) == made
 }
 
 #[test]
 fn combinations(rt: HostRuntime) {
-    assert_eq!(rt; first_other_combination(&COMBINATIONS), None);
+    for &(coeffs, a, b, den, made) in &COMBINATIONS {
+        assert!(rt; is_combination(coeffs, a, b, den, made));
+    }
 }
 
 // A row of two columns.
@@ -309,21 +285,20 @@ static GRAMS: [(Square, [i128; 2], Option<Square>); 4] = [
     ((((0, 0), (0, ROOT)), ((0, 0), (0, 0))), [2, 1], None),
 ];
 
-// The place of the first columns and weights with other products.
-fn first_other_gram(
+// Whether these are the products of two columns.
+fn are_products(
     alloc: Global,
-    cases: &[(Square, [i128; 2], Option<Square>)],
-) -> Result<Option<usize>, Fail> {
-    for (i, (rows, weights, made)) in cases.iter().enumerate() {
-        if products_of_columns(alloc, *rows, *weights)? != *made {
-            return Ok(Some(i));
-        }
-    }
-    Ok(None)
+    rows: Square,
+    weights: [i128; 2],
+    made: Option<Square>,
+) -> Result<bool, Fail> {
+    Ok(products_of_columns(alloc, rows, weights)? == made)
 }
 
 #[test]
 fn grams(rt: HostRuntime) -> Result<(), Fail> {
-    assert_eq!(rt; first_other_gram(rt.alloc(), &GRAMS)?, None);
+    for &(rows, weights, made) in &GRAMS {
+        assert!(rt; are_products(rt.alloc(), rows, weights, made)?);
+    }
     Ok(())
 }

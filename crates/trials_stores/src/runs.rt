@@ -1,10 +1,12 @@
 // Runs over stores and outputs in memory.
-use crate::stores::{ROOM, holds, told_by};
+use crate::mem_sink::MemSink;
+use crate::mem_store::MemStore;
+use crate::stores::{ROOM, held, holds, told_by};
 use command_line::{Status, status_line};
 use io_edge::Words;
 use std::alloc::{AllocError, Global};
-use trials_memory_edge::{MemSink, MemStore};
-use trials_worked_designs::{CONTROLLER, PLANS, REPORT};
+use std::test::Fail;
+use trials_worked::{CONTROLLER, PLANS, REPORT};
 
 /// What answers to arguments: the whole program, or commands of it.
 pub trait Program {
@@ -85,6 +87,22 @@ pub fn ends_with<P: Program>(
     store.fail_write(fails.write, fails.keep)?;
     let mut out = MemSink::with(alloc, ROOM, &[fails.put])?;
     leaves::<P>(alloc, arguments, store, &mut out, line, printed)
+}
+
+/// Whether a run over a store, in which a call fails, ends with this line of its answer, prints nothing, and leaves these bytes under the names `out` and `r`: none, where a name holds nothing.
+pub fn leaves_both<P: Program>(
+    alloc: Global,
+    arguments: &str,
+    store: &mut MemStore,
+    fails: &Fails,
+    line: &str,
+    texts: (&[u8], &[u8]),
+) -> Result<bool, Fail> {
+    Ok(
+        ends_with::<P>(alloc, arguments, store, fails, line, "")?
+            && held(alloc, store, "out")?.as_slice() == texts.0
+            && held(alloc, store, "r")?.as_slice() == texts.1,
+    )
 }
 
 // Whether a run tells this.

@@ -1,9 +1,9 @@
 // Stores in memory, and the texts that they hold.
+use crate::mem_store::MemStore;
 use io_edge::ReadRefusal;
 use std::alloc::{AllocError, Global};
 use std::test::Fail;
-use trials_memory_edge::MemStore;
-use trials_worked_designs::{CONTROLLER, DESIGN, POLICY, STATES, changed_text};
+use trials_worked::{CONTROLLER, DESIGN, POLICY, STATES, changed_text};
 
 /// The bytes that are read, written or printed in one run at most, with room for any text of the trials.
 pub const ROOM: usize = 65536;
@@ -109,4 +109,9 @@ pub fn told_by(alloc: Global, row: &str) -> Result<String, AllocError> {
     let mut told = row.replace(alloc, ",", "\n")?;
     told.push('\n')?;
     Ok(told)
+}
+
+/// The first bytes of a text, so many where it has them.
+pub fn part(text: &str, count: usize) -> &[u8] {
+    &text.as_bytes()[..count.min(text.len())]
 }

@@ -5,7 +5,7 @@ use overflow_check::{Controller, FastController};
 use qp_model::ControllerParts;
 use std::alloc::{AllocError, Global};
 use std::test::Fail;
-use trials_worked_designs::{
+use trials_worked::{
     CONTROLLER, CONTROLLER_OF_TWO, Changed, LEAN_CONTROLLER, changed_text, has_rows,
 };
 

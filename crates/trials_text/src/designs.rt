@@ -5,7 +5,7 @@ use number_text::TextFault;
 use qp_model::DesignParts;
 use std::alloc::{AllocError, Global};
 use std::test::Fail;
-use trials_worked_designs::{DESIGN, changed_text, design};
+use trials_worked::{DESIGN, changed_text, design};
 
 // Whether a matrix has this row.
 fn has_row(m: &Mat, i: usize, row: &[i128]) -> bool {

@@ -1,0 +1,2 @@
+mod SplitWorked
+mod StayedWorked
