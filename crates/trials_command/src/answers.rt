@@ -45,7 +45,7 @@ static FILES: [(&str, &str); 11] = [
 ];
 
 // Files of a worked text, with this part in that one's place.
-static CHANGED: [(&str, &str, &str, &str); 18] = [
+static CHANGED: [(&str, &str, &str, &str); 19] = [
     ("third", DESIGN, "version = 1", "version = 3"),
     ("halves", DESIGN, "grid = 0", "grid = 1"),
     ("triples", DESIGN, "a = [[1]]", "a = [[3]]"),
@@ -89,6 +89,7 @@ static CHANGED: [(&str, &str, &str, &str); 18] = [
 // Arguments, and what they tell, with a comma for each line feed but the last.
 const ANSWERS: &str = "solve two pairs: 1792 0 329,1792 -7 -462
 solve fast s: 4608 0,4608 -2480
+solve broad s: 4608 0,4608 -2480
 solve once turned: 128 -64,128 0
 solve endless s: error 11 controller 1 line 4
 solve few s: error 11 controller 1 line 6
