@@ -16,7 +16,7 @@ use Rattle.qp_model.specs.declared.refusal.Refusal.TheVariants.{Memory}
 use Rattle.cell_split.specs.Cells.{cell_low, cell_high}
 use Rattle.cell_split.proofs.Designs.{from_numbers}
 use Rattle.cell_maker.specs.declared.cell.MadeCell.{MadeCell}
-use Rattle.cell_maker.specs.Made.{IsCellDesign, PassesSomeBy, IsMadeBy, IsCellMade, IsCellRefused, Generates, GeneratesBy, GeneratesCell}
+use Rattle.cell_maker.specs.Made.{IsCellDesign, PassesSomeBy, IsMadeOnMachine, IsCellMade, IsCellRefused, Generates, GeneratesBy, GeneratesCell}
 
 -- ---- sizes
 fits_by : (p q : DesignParts) (plans : Plans) → q.states ≡ p.states → q.stages ≡ p.stages → q.inputs ≡ p.inputs → IsPolicyFor (design_of p) plans → IsPolicyFor (design_of q) plans
@@ -94,13 +94,22 @@ module _ {M : Type 0} (Made : MadeCell → Type 0) (Cause : Refusal → Type 0) 
       passed (Err o) is (inl ok) = absurd (let no : ⊥ = cc in no)
       passed (Err o) is (inr memory) = inr (let one : e ≡ Memory = cc in ap refusal one)
 
+-- of a design and plans, by a machine
+module _ {M : Type 0} (fast : Bool) (p : DesignParts) (plans : Plans) (r : Result M Refusal) (tells : (e : Refusal) → CauseBy fast (design_of p) (targets_of p) plans e → Tells r e) where
+  pub by_ok : (x : M) (y : MadeCell) → r ≡ Ok x → IsMadeOnMachine fast p plans y.controller (printed y.bounds) → GeneratesBy fast p plans (Ok y)
+  by_ok x y is made = generates_ok (λ m. IsMadeOnMachine fast p plans m.controller (printed m.bounds)) _ _ r tells x y is made
+
+  pub by_err : (e : Refusal) → r ≡ Err e → (e ≡ Memory) ⊎ CauseBy fast (design_of p) (targets_of p) plans e →
+      (PassesSomeBy fast (design_of p) (targets_of p) plans → IsOk r ⊎ (r ≡ Err Memory)) → GeneratesBy fast p plans (Err e)
+  by_err e is why accepts = generates_err (λ m. IsMadeOnMachine fast p plans m.controller (printed m.bounds)) _ _ r tells e is why accepts
+
 -- of the design of a cell it is said of the cell
 module _ (p : DesignParts) (fast : Bool) (cuts : List (List ℤ)) (k : ℕ) (plans : Plans) (q : DesignParts) (cell : IsCellDesign p cuts k q) where
   tells_cell : (r : Result MadeCell Refusal) → ((e : Refusal) → CauseBy fast (design_of q) (targets_of q) plans e → Tells r e) →
       (e : Refusal) → IsCellRefused p fast cuts k plans e → Tells r e
   tells_cell r tells e h = tells e (of_numbers (λ d t. CauseBy fast d t plans e) h.design q (cell_numbers p cuts k h.design q h.cell cell) h.cause)
 
-  made_of : (r : Result MadeCell Refusal) → IfOk r (λ m. IsMadeBy fast q plans m.controller (printed m.bounds)) → ((e : Refusal) → IsCellRefused p fast cuts k plans e → Tells r e) →
+  made_of : (r : Result MadeCell Refusal) → IfOk r (λ m. IsMadeOnMachine fast q plans m.controller (printed m.bounds)) → ((e : Refusal) → IsCellRefused p fast cuts k plans e → Tells r e) →
       IfOk r (λ m. IsCellMade p fast cuts k plans m.controller (printed m.bounds))
   made_of (Ok m) made tells = record { design = q; cell = cell; made = made; accepted = λ e h. not_told m e (tells e h) }
   made_of (Err e) made tells = tt

@@ -1,5 +1,5 @@
 -- What is made of the cells of a design's box.
-use Rattle.std.specs.Prelude.{◌≡◌, ◌⊎◌, ℕ, ◌+◌, ◌-◌, ◌<◌, ◌≤◌, ℤ, Bool, true, false, List, length, get_or, Option, None, Result, Err, IsOk, IfOk, IfErr, IfSome, IsSomeAnd}
+use Rattle.std.specs.Prelude.{◌≡◌, ◌⊎◌, ℕ, ◌+◌, ◌-◌, ◌<◌, ◌≤◌, ℤ, Bool, true, false, List, length, get_or, Option, None, Result, Err, IsOk, IfOk, IfErr, IfSome, IsSomeAnd, map}
 use Rattle.integer_algebra.specs.Sums.{at}
 use Rattle.qp_model.specs.problem.Box.{IsGridState}
 use Rattle.qp_model.specs.problem.Design.{Design}
@@ -13,7 +13,7 @@ use Rattle.qp_model.specs.declared.design_parts.DesignParts.{DesignParts}
 use Rattle.design_engine.specs.Targets.{Targets, targets_of, IsWithinTargets}
 use Rattle.qp_model.specs.declared.refusal.Refusal.{Refusal}
 use Rattle.qp_model.specs.declared.refusal.Refusal.TheVariants.{Memory}
-use Rattle.fast_bounds.specs.ByMachine.{CauseBy, PassesBy, IsBuiltBy}
+use Rattle.fast_bounds.specs.ByMachine.{CauseBy, PassesAllBy, IsBuiltBy}
 use Rattle.fast_bounds.specs.FastCertified.{IsFastCertifiedAt}
 use Rattle.controller_file.specs.AnyText.{any_numbers}
 use Rattle.controller_file.specs.declared.any_controller.AnyController.{AnyController}
@@ -22,6 +22,7 @@ use Rattle.cell_split.specs.Cells.{cell_low, cell_high, cell_count, IsCell}
 use Rattle.cell_split.specs.PoliciesText.{covered}
 use Rattle.cell_maker.specs.declared.cell.MadeCell.{MadeCell}
 use Rattle.cell_maker.specs.declared.make.CellRefusal.{CellRefusal}
+use Rattle.cell_maker.specs.declared.make.MadeCells.{MadeCells}
 
 -- this is the design of cell k, from 1: the same with the cell's box
 pub record IsCellDesign (p : DesignParts) (cuts : List (List ℤ)) (k : ℕ) (q : DesignParts) : Type 0 where
@@ -46,7 +47,7 @@ IsCertifiedBy d (Fast c) = IsFastCertifiedAt d c
 
 -- some numbers pass every test of a machine
 abbrev pub PassesSomeBy : (fast : Bool) → Design → Targets → Plans → Type 0
-PassesSomeBy fast d t plans = (m : Margin) × (s : ℕ) × (f : ℕ) × PassesBy fast d t plans m s f
+PassesSomeBy fast d t plans = (m : Margin) × (s : ℕ) × (f : ℕ) × PassesAllBy fast d t plans m s f
 
 -- ---- refusals; the machine is that which the design asks for
 -- the design of cell k with its plans is refused so
@@ -79,7 +80,7 @@ pub record IsOnlyRefused (p : DesignParts) (fast : Bool) (cuts : List (List ℤ)
 
 -- ---- controllers
 -- a controller of the machine and its bounds are built of the design and the plans, certified at each grid state of its box, and within its targets
-pub record IsMadeBy (fast : Bool) (p : DesignParts) (plans : Plans) (c : AnyController) (b : Printed) : Type 0 where
+pub record IsMadeOnMachine (fast : Bool) (p : DesignParts) (plans : Plans) (c : AnyController) (b : Printed) : Type 0 where
   pub machine : is_fast c ≡ fast
   pub built : IsBuiltBy fast p plans (any_numbers c) b
   pub certified : (xi : List ℤ) → length xi ≡ p.states → IsGridState (design_of p) (at xi) → IsCertifiedBy (design_of p) c b xi
@@ -89,7 +90,7 @@ pub record IsMadeBy (fast : Bool) (p : DesignParts) (plans : Plans) (c : AnyCont
 pub record IsCellMade (p : DesignParts) (fast : Bool) (cuts : List (List ℤ)) (k : ℕ) (plans : Plans) (c : AnyController) (b : Printed) : Type 0 where
   pub design : DesignParts
   pub cell : IsCellDesign p cuts k design
-  pub made : IsMadeBy fast design plans c b
+  pub made : IsMadeOnMachine fast design plans c b
   pub accepted : IsCellAccepted p fast cuts k plans
 
 -- ---- an answer
@@ -103,7 +104,7 @@ pub record Generates (Made : MadeCell → Type 0) (Cause : Refusal → Type 0) (
 
 -- of a design and plans by a machine
 abbrev pub GeneratesBy : (fast : Bool) → DesignParts → Plans → Result MadeCell Refusal → Type 0
-GeneratesBy fast p plans = Generates (λ m. IsMadeBy fast p plans m.controller (printed m.bounds)) (CauseBy fast (design_of p) (targets_of p) plans)
+GeneratesBy fast p plans = Generates (λ m. IsMadeOnMachine fast p plans m.controller (printed m.bounds)) (CauseBy fast (design_of p) (targets_of p) plans)
     (PassesSomeBy fast (design_of p) (targets_of p) plans)
 
 -- of the design of cell k
@@ -122,3 +123,6 @@ pub record AreMadeTo (p : DesignParts) (fast : Bool) (cuts : List (List ℤ)) (p
 -- all cells
 abbrev pub AreCellsMade : DesignParts → (fast : Bool) → List (List ℤ) → List (Option Plans) → List AnyController → List Printed → Type 0
 AreCellsMade p fast cuts policies controllers bounds = AreMadeTo p fast cuts policies (cell_count cuts) controllers bounds
+
+abbrev pub AreMadeCells : DesignParts → (fast : Bool) → List (List ℤ) → List (Option Plans) → MadeCells → Type 0
+AreMadeCells p fast cuts policies m = AreCellsMade p fast cuts policies m.controllers.items (map printed m.bounds.items)

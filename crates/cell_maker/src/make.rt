@@ -3,9 +3,8 @@ ghost use Rattle.std.specs.Prelude.{◌≡◌, ◌⊎◌, ◌+◌, ◌<◌, ◌+
 ghost use Rattle.std.specs.Option.{option_map};
 ghost use Rattle.qp_model.specs.problem.Parts.{design_of};
 ghost use Rattle.qp_model.specs.problem.Policy.{plans_of, IsPolicyFor};
-ghost use Rattle.qp_model.specs.bounds.Printed.{printed};
 ghost use Rattle.cell_split.specs.Cells.{cell_count, AreCutsFor};
-ghost use Rattle.cell_maker.specs.Made.{AreCellsMade, IsOnlyRefused};
+ghost use Rattle.cell_maker.specs.Made.{AreMadeCells, IsOnlyRefused};
 
 use crate::cell::{MadeCell, make_cell};
 use cell_split::Cuts;
@@ -42,7 +41,7 @@ pub fn make_cells(
     requires cuts { AreCutsFor (design_of design.now) cuts.now }
     requires count { length policies.now ≡ cell_count cuts.now }
     requires sized { All (λ o. IfSome o (λ p. IsPolicyFor (design_of design.now) (plans_of p))) policies.now }
-    ensures made { IfOk result (λ m. AreCellsMade design.now fast cuts.now (map (option_map plans_of) policies.now) m.controllers.items (map printed m.bounds.items)) }
+    ensures made { IfOk result (AreMadeCells design.now fast cuts.now (map (option_map plans_of) policies.now)) }
     ensures refused { IfErr result (λ e. (e.refusal ≡ Refusal.Memory) ⊎ IsOnlyRefused design.now fast cuts.now (map (option_map plans_of) policies.now) e) }
 {
     let mut all = MadeCells {

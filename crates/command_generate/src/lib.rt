@@ -7,6 +7,6 @@ mod texts;
 
 pub use command::generate;
 // Handed on with `texts_made`, which takes what is made: a crate above that names fewer others is stamped on fewer paths.
-pub use design_engine::{Made, row_violations};
+pub use design_engine::{Made, violations_after};
 pub use made::make_controller;
 pub use texts::{report_for, texts_made};

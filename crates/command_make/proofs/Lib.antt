@@ -1,12 +1,8 @@
 -- ---- what is called for
 pub mod Calling
 -- ---- a controller that was made, with reference plans or without
-pub mod LeanPassing
 pub mod FastPassing
 pub mod Excesses
-pub mod LeanExcesses
-pub mod FastExcesses
-pub mod Facts
 -- ---- the commands by their names and their scripts, and what is written
 pub mod Asking
 pub mod Written

@@ -6,8 +6,6 @@ use Rattle.qp_model.specs.problem.Design.{Design, rows}
 use Rattle.qp_model.specs.problem.Parts.{design_of}
 use Rattle.qp_model.specs.problem.Policy.{Plans}
 use Rattle.qp_model.specs.declared.design_parts.DesignParts.{DesignParts}
-use Rattle.qp_model.specs.machine.Controller.{Numbers}
-use Rattle.qp_model.specs.bounds.Printed.{Printed}
 use Rattle.stay_check.specs.FaceForms.{FaceNumbers}
 use Rattle.stay_check.specs.Answers.{IsStayFault, Stays}
 use Rattle.stay_check.specs.Staying.{KeepsInBox}
@@ -40,15 +38,10 @@ pub record IsCaughtWith (d : Design) (excess : ℕ → ℤ) (faces : FaceNumbers
   pub is : s ≡ stay_status fault
 
 -- ---- both texts of what was made so, with a number for each row: these are stated, and no others are, and faces that hold with them show that its loops stay
-pub record IsPricedBy (d : Design) (IsText : List ℕ → Numbers → Type 0) (Made : Numbers → Printed → Type 0) (Keeps : Numbers → Printed → (range : Matrix) → Type 0)
-    (AreStated : List ℤ → Type 0) (report_name : List ℕ) (x : Priced) : Type 0 where
-  pub texts : AreTextsBy IsText (λ c b. Made c b × ((faces : FaceNumbers) (range : Matrix) → IsKeptWith d (at x.excess.items) faces range → Keeps c b range))
+pub record IsPricedOf (p : DesignParts) (plans : Plans) (reference : Option Plans) (fast : Bool) (report_name : List ℕ) (x : Priced) : Type 0 where
+  pub texts : AreTextsBy (IsTextBy fast) (λ c b. IsMadeByPlans p plans reference fast c b
+      × ((faces : FaceNumbers) (range : Matrix) → IsKeptWith (design_of p) (at x.excess.items) faces range → KeepsLoopsOf p fast c b range))
       report_name x.texts.first.items x.texts.second.items
-  pub long : length x.excess.items ≡ rows d
-  pub stated : AreStated x.excess.items
-  pub one : (other : List ℤ) → AreStated other → other ≡ x.excess.items
-
-abbrev pub IsPricedOf : DesignParts → Plans → (reference : Option Plans) → (fast : Bool) → (report_name : List ℕ) → Priced → Type 0
-IsPricedOf p plans reference fast =
-    IsPricedBy (design_of p) (IsTextBy fast) (IsMadeByPlans p plans reference fast) (KeepsLoopsOf p fast)
-    (AreStatedExcesses (design_of p) (targets_of p) plans reference fast)
+  pub long : length x.excess.items ≡ rows (design_of p)
+  pub stated : AreStatedExcesses (design_of p) (targets_of p) plans reference fast x.excess.items
+  pub one : (other : List ℤ) → AreStatedExcesses (design_of p) (targets_of p) plans reference fast other → other ≡ x.excess.items

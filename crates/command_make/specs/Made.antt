@@ -25,7 +25,12 @@ use Rattle.command_generate.specs.Engine.Refusals.{HasCause, PassesAll}
 use Rattle.command_generate.specs.Made.{CallsFor, IsMadeOf}
 
 -- ---- the answer
--- of the accelerated machine: every test is passed with these
+-- every test is passed with these
+abbrev pub PassesPlainBy : Design → Targets → Plans → (reference : Option Plans) → Margin → (s f : ℕ) → Type 0
+PassesPlainBy d t plans None = PassesAll d t plans
+PassesPlainBy d t plans (Some references) = PassesLean d t plans references
+
+-- those of the accelerated machine
 abbrev pub PassesFastBy : Design → Targets → Plans → (reference : Option Plans) → Margin → (s k : ℕ) → (exponents : List ℕ) → (f : ℕ) → Type 0
 PassesFastBy d t plans None = PassesFastMargin d t plans
 PassesFastBy d t plans (Some references) = PassesFast d t plans references
@@ -43,8 +48,7 @@ CauseOf d t plans (Some references) true = HasFastCause d t plans references
 
 -- they pass every test
 abbrev pub PassesOf : Design → Targets → Plans → (reference : Option Plans) → (fast : Bool) → (Margin → (s f : ℕ) → Type 0)
-PassesOf d t plans None false = PassesAll d t plans
-PassesOf d t plans (Some references) false = PassesLean d t plans references
+PassesOf d t plans reference false = PassesPlainBy d t plans reference
 PassesOf d t plans reference true = PassesFastWith d t plans reference
 
 abbrev pub MakingCallsWith : Design → Targets → Plans → (reference : Option Plans) → (fast : Bool) → Status → Type 0

@@ -10,7 +10,7 @@ ghost use Rattle.cell_maker.specs.Controllers.AnyText.{any_numbers};
 ghost use Rattle.cell_maker.specs.Controllers.declared.any_controller.AnyController.{AnyController};
 ghost use Rattle.cell_split.specs.Cells.{cell_count, AreCutsFor};
 ghost use Rattle.cell_split.specs.PoliciesText.{covered};
-ghost use Rattle.cell_maker.specs.Made.{AreCellsMade};
+ghost use Rattle.cell_maker.specs.Made.{AreMadeCells};
 ghost use Rattle.cell_file.specs.Cells.{AreAlike};
 ghost use Rattle.cell_file.specs.Text.{IsCellsText};
 ghost use Rattle.command_split.specs.Cells.{CellsCall};
@@ -51,7 +51,7 @@ fn cells_made(
     requires count { length policies.now ≡ cell_count cuts.now }
     requires sized { All (λ o. IfSome o (λ p. IsPolicyFor (design_of wanted.now.design) (plans_of p))) policies.now }
     ensures { Makes (CellsCall wanted.now.design wanted.now.fast cuts.now (map (option_map plans_of) policies.now))
-        (λ m. AreCellsMade wanted.now.design wanted.now.fast cuts.now (map (option_map plans_of) policies.now) m.controllers.items (map printed m.bounds.items)) result }
+        (AreMadeCells wanted.now.design wanted.now.fast cuts.now (map (option_map plans_of) policies.now)) result }
 {
     match make_cells(alloc, &wanted.design, wanted.fast, cuts, policies) {
         Ok(made) => Ok(made),

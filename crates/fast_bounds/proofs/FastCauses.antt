@@ -1,29 +1,29 @@
 -- A cause is what a list of tests tells, and so there is one at most.
-use Rattle.std.proofs.Common.{◌≡◌, inl, inr, ℕ, ◌<◌, ◌≤◌, List, ℤ, pos, unsigned_abs, arith, rules, refl, ap, sym, ◌∙◌}
+use Rattle.std.proofs.Common.{◌≡◌, inl, inr, ℕ, ◌<◌, ◌≤◌, List, ℤ, pos, unsigned_abs, arith, rules, ap, sym, ◌∙◌}
 use Rattle.std.proofs.lemmas.Bool.{cases_lt}
 use Rattle.qp_model.specs.form.Class.{form_of}
 use Rattle.qp_model.specs.problem.Design.{Design}
 use Rattle.qp_model.specs.problem.Parts.{IsDesign, design_of}
 use Rattle.qp_model.specs.problem.Policy.{Plans}
 use Rattle.qp_model.specs.declared.design_parts.DesignParts.{DesignParts}
-use Rattle.qp_model.specs.declared.quantity.Quantity.TheVariants.{Multiplier, Excess, Error, Descent, Width}
+use Rattle.qp_model.specs.declared.quantity.Quantity.TheVariants.{Error, Descent, Width}
 use Rattle.qp_model.specs.declared.refusal.Refusal.{Refusal}
 use Rattle.qp_model.specs.declared.refusal.Refusal.TheVariants.{Memory, TooManySteps, TooFine}
 use Rattle.controller_maker.specs.Widest.{fast_width_size}
 use Rattle.lean_engine.specs.Engine.RowExponents.{AreExponentsOf}
-use Rattle.dual_bounds.specs.FastSteps.{quarter_steps, IsLeastQuarter}
+use Rattle.dual_bounds.specs.FastSteps.{quarter_steps, fast_multiplier_size, IsLeastQuarter}
 use Rattle.step_error.specs.CarriedErrors.{run_sums_of}
 use Rattle.step_error.proofs.SumFacts.{floor_range}
 use Rattle.overflow_check.specs.FastController.{most_fast_steps}
-use Rattle.lean_engine.specs.Engine.Stages.{Nothing, Sized, Finds, OfForm}
+use Rattle.lean_engine.specs.Engine.Stages.{Nothing, Sized, Finds}
 use Rattle.lean_engine.specs.Engine.Targets.{Targets}
 use Rattle.lean_engine.specs.Engine.declared.aimed.Aim.{Aim}
 use Rattle.lean_engine.proofs.Engine.TestLaws.{IsOne, IsNone, IsApart, nothing_one, nothing_none, sized_one, sized_none, sized_apart, finds_one, finds_none}
 use Rattle.lean_engine.proofs.Engine.OneOfEach.{one_choice, no_choice, one_exponents}
-use Rattle.lean_engine.proofs.Engine.StageLaws.{form_one, form_none, form_apart, corners_one, corners_none, corners_apart}
+use Rattle.lean_engine.proofs.CauseLaws.{one_by, none_by, apart_by}
 use Rattle.lean_engine.specs.Refusals.{aim_at}
 use Rattle.fast_bounds.specs.FastRefusals.{AreStepsFor, AreFastBitsOf, AfterFastBits, IsFastFine, AfterExponents, IsFastLong, HasFastAimCause, PassesFastAim}
-use Rattle.fast_bounds.specs.FastRefusals.{AfterFastExponent, HasFastCause, FastCausesLaw, FastPassingLaw}
+use Rattle.fast_bounds.specs.FastRefusals.{HasFastCause, FastCausesLaw, FastPassingLaw}
 
 -- ---- the steps
 pub one_quarter : (n a b : ℕ) → IsLeastQuarter n a → IsLeastQuarter n b → a ≡ b
@@ -89,19 +89,12 @@ fast_aim_apart d a s e memory (inr h) = exponents h.0 e memory h.2
 
 -- ---- a design with a policy and reference plans
 pub one_cause : FastCausesLaw
-one_cause p plans references t e other design policy =
-    let d = design_of p in
-    corners_one p plans (λ m. OfForm d (AfterFastExponent d t plans references m)) design policy (λ m. form_one d (AfterFastExponent d t plans references m)
-    (λ s h. sized_one Excess _ _ (sized_one Multiplier _ _ (fast_aim_one p (aim_at d t plans references m) design s)))) e other
+one_cause p plans references t e other design policy = one_by fast_multiplier_size HasFastAimCause p plans references t design policy (λ a. fast_aim_one p a design) e other
 
 pub no_cause : FastPassingLaw
 no_cause p plans references t m s k es f e design policy h =
-    let d = design_of p in
-    corners_none p plans (λ m. OfForm d (AfterFastExponent d t plans references m)) design policy m h.margin.room h.margin.margin h.margin.slack
-    (form_none d (AfterFastExponent d t plans references m) s h.form h.exponent
-    (sized_none Excess _ _ h.excess (sized_none Multiplier _ _ h.multiplier (fast_aim_none p (aim_at d t plans references m) design s k es f h.aim)))) e
+    none_by fast_multiplier_size HasFastAimCause p plans references t m s design policy h.margin h.form h.exponent h.excess h.multiplier
+    (fast_aim_none p (aim_at (design_of p) t plans references m) design s k es f h.aim) e
 
 pub memory_apart : (d : Design) (t : Targets) (plans references : Plans) → HasFastCause d t plans references Memory → ⊥
-memory_apart d t plans references = corners_apart d plans (λ m. OfForm d (AfterFastExponent d t plans references m))
-    (λ m. form_apart d (AfterFastExponent d t plans references m)
-    (λ s. sized_apart Excess _ _ (sized_apart Multiplier _ _ (fast_aim_apart d (aim_at d t plans references m) s)))) Memory refl
+memory_apart d t plans references = apart_by fast_multiplier_size HasFastAimCause d t plans references (fast_aim_apart d)

@@ -18,9 +18,9 @@ CauseBy false d t plans = HasCause d t plans
 CauseBy true d t plans = HasFastMarginCause d t plans
 
 -- they pass every test: by the accelerated machine with some steps and exponents of the rows
-abbrev pub PassesBy : (fast : Bool) → Design → Targets → Plans → Margin → (s f : ℕ) → Type 0
-PassesBy false d t plans m s f = PassesAll d t plans m s f
-PassesBy true d t plans m s f = (k : ℕ) × (exponents : List ℕ) × PassesFastMargin d t plans m s k exponents f
+abbrev pub PassesAllBy : (fast : Bool) → Design → Targets → Plans → Margin → (s f : ℕ) → Type 0
+PassesAllBy false d t plans m s f = PassesAll d t plans m s f
+PassesAllBy true d t plans m s f = (k : ℕ) × (exponents : List ℕ) × PassesFastMargin d t plans m s k exponents f
 
 -- the controller and the bounds are those of them
 abbrev pub IsBuiltBy : (fast : Bool) → DesignParts → Plans → Numbers → Printed → Type 0

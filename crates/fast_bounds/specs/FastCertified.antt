@@ -1,10 +1,10 @@
 -- What a controller of the accelerated machine is certified for, and what that rests on: in each bound k (k + 3) stands for the k steps of the plain machine,
 -- and each step exponent is greater by two.
-use Rattle.std.specs.Prelude.{◌≡◌, ℕ, ◌+◌, ◌^◌, ◌≤◌, ℤ, pos, ◌≤ℤ◌, List, length, unsigned_abs, true}
+use Rattle.std.specs.Prelude.{◌≡◌, ℕ, ◌+◌, ◌^◌, ◌≤◌, ℤ, pos, ◌≤ℤ◌, List, length, unsigned_abs}
 use Rattle.integer_algebra.specs.Sums.{at}
 use Rattle.qp_model.specs.problem.Design.{Design}
 use Rattle.qp_model.specs.problem.Parts.{IsDesign, design_of}
-use Rattle.qp_model.specs.problem.Policy.{Plans, IsPolicyFor}
+use Rattle.qp_model.specs.problem.Policy.{Plans}
 use Rattle.qp_model.specs.problem.Box.{IsGridState}
 use Rattle.qp_model.specs.form.Class.{form_of, hessian_quantity}
 use Rattle.qp_model.specs.form.Form.{Form, IsFormFor}
@@ -12,9 +12,7 @@ use Rattle.qp_model.specs.machine.Controller.{Numbers}
 use Rattle.qp_model.specs.bounds.Built.{IsDerivedFrom}
 use Rattle.qp_model.specs.bounds.Certified.{KeepsBounds}
 use Rattle.qp_model.specs.bounds.Choices.{row_violation_bound, violation_bound, lean_row_violation}
-use Rattle.qp_model.specs.bounds.CornerClass.{IsMargin}
 use Rattle.qp_model.specs.bounds.Errors.{StepErrors}
-use Rattle.qp_model.specs.bounds.Excess.{excess_of}
 use Rattle.qp_model.specs.bounds.Printed.{Printed}
 use Rattle.qp_model.specs.bounds.RealErrors.{real_errors}
 use Rattle.qp_model.specs.declared.design_parts.DesignParts.{DesignParts}
@@ -24,10 +22,10 @@ use Rattle.lean_engine.specs.Engine.RowExponents.{AreExponentsOf}
 use Rattle.lean_engine.specs.Steps.{IsExponentOf}
 use Rattle.step_error.specs.Choice.{IsChoice}
 use Rattle.lean_engine.specs.Engine.Bounds.{AreBoundsWith}
-use Rattle.lean_engine.specs.Engine.Targets.{targets_of, violation_target, IsWithinTargets}
+use Rattle.lean_engine.specs.Engine.Targets.{targets_of, IsWithinTargets}
 use Rattle.lean_engine.specs.Engine.Threshold.{HasRepairs, IsEnoughOf}
 use Rattle.lean_engine.specs.Engine.declared.aimed.Aim.{Aim}
-use Rattle.lean_engine.specs.Lean.{bound_of, lean_aim}
+use Rattle.lean_engine.specs.Lean.{IsLeanBuiltBy}
 use Rattle.overflow_check.specs.FastMachine.{fast_denominator, fast_plan}
 use Rattle.overflow_check.specs.FastController.{IsFastController, greatest_fast_sum}
 use Rattle.fast_machine.specs.FastValues.{FastRunFits}
@@ -94,24 +92,10 @@ pub record IsFastMadeWith (p : DesignParts) (a : Aim) (c : Numbers) : Type 0 whe
       (unsigned_abs a.error_target) c.fraction_bits
   pub width : IsWidth (greatest_fast_sum c) c.width
 
--- R, of the printed slack and excess
-abbrev pub printed_bound : DesignParts → Printed → ℕ
-printed_bound p b = bound_of (targets_of p) (unsigned_abs b.margin) (unsigned_abs b.cost)
-
--- the controller and the bounds are those of a design, a policy and reference plans: the bounds print the least slack of the policy's plans, and the excess that
--- the reference plans show of them
-pub record IsFastBuilt (p : DesignParts) (plans references : Plans) (c : Numbers) (b : Printed) : Type 0 where
-  pub policy : IsPolicyFor (design_of p) plans
-  pub reference : IsPolicyFor (design_of p) references
-  -- the greatest cost of the corners is in no bound
-  pub greatest_cost : ℤ
-  pub margin : IsMargin (design_of p) plans (record { units = b.margin; cost = greatest_cost })
-  pub slack : pos 1 ≤ℤ b.margin
-  pub excess : b.cost ≡ pos (excess_of (design_of p) (form_of (design_of p)) plans references)
-  pub made : IsFastMadeWith p (lean_aim (targets_of p) (unsigned_abs b.margin) (unsigned_abs b.cost)) c
-  pub lean : b.lean ≡ true
-  pub bounds : AreFastThresholdBoundsOf c b (printed_bound p b) (violation_target (targets_of p))
-      (cost_for p (form_of (design_of p)) (printed_bound p b) c (real_errors (design_of p) (form_of (design_of p)) (printed_bound p b) c))
+-- the controller and the bounds are those of a design, a policy and reference plans, as a lean controller of the plain machine and its bounds are
+abbrev pub IsFastBuilt : DesignParts → (plans references : Plans) → Numbers → Printed → Type 0
+IsFastBuilt p = IsLeanBuiltBy (IsFastMadeWith p)
+    (λ c b r threshold. AreFastThresholdBoundsOf c b r threshold (cost_for p (form_of (design_of p)) r c (real_errors (design_of p) (form_of (design_of p)) r c))) p
 
 -- it keeps the whole promise of its bounds, which meet the targets
 pub record KeepsFastPromise (p : DesignParts) (c : Numbers) (b : Printed) : Type 0 where

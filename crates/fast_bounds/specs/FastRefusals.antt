@@ -9,7 +9,7 @@ use Rattle.qp_model.specs.problem.Parts.{IsDesign, design_of}
 use Rattle.qp_model.specs.declared.design_parts.DesignParts.{DesignParts}
 use Rattle.qp_model.specs.bounds.Errors.{epsilon}
 use Rattle.qp_model.specs.declared.bounds.Margin.{Margin}
-use Rattle.qp_model.specs.declared.quantity.Quantity.TheVariants.{Multiplier, Excess, Error, Descent, Width}
+use Rattle.qp_model.specs.declared.quantity.Quantity.TheVariants.{Error, Descent, Width}
 use Rattle.controller_maker.specs.Widest.{fast_width_size}
 use Rattle.lean_engine.specs.Steps.{IsExponentOf}
 use Rattle.lean_engine.specs.Engine.RowExponents.{AreExponentsOf}
@@ -18,11 +18,11 @@ use Rattle.step_error.specs.Choice.{IsChoice}
 use Rattle.step_error.specs.CarriedErrors.{run_sums_of}
 use Rattle.step_error.specs.RunSums.{run_error_size}
 use Rattle.lean_engine.specs.Engine.Targets.{Targets, floor_target}
-use Rattle.lean_engine.specs.Engine.Stages.{Nothing, Sized, Finds, OfForm, OfCorners}
+use Rattle.lean_engine.specs.Engine.Stages.{Nothing, Sized, Finds}
 use Rattle.lean_engine.specs.Engine.Tests.{PassesForm}
 use Rattle.lean_engine.specs.Engine.Refusals.{PassesMargin}
 use Rattle.lean_engine.specs.Engine.declared.aimed.Aim.{Aim}
-use Rattle.lean_engine.specs.Refusals.{policy_excess, policy_excess_size, aim_at}
+use Rattle.lean_engine.specs.Refusals.{policy_excess, policy_excess_size, aim_at, HasLeanCauseBy}
 use Rattle.overflow_check.specs.FastController.{most_fast_steps}
 use Rattle.qp_model.specs.declared.refusal.Refusal.{Refusal}
 use Rattle.qp_model.specs.declared.refusal.Refusal.TheVariants.{TooManySteps, TooFine}
@@ -68,14 +68,9 @@ HasFastAimCause d a s = Finds ℕ (IsFastLong a s) (λ k. AreStepsFor a s k × (
 abbrev pub fast_multiplier_size_at : Design → Targets → (plans references : Plans) → Margin → ℕ
 fast_multiplier_size_at d t plans references m = fast_multiplier_size (unsigned_abs m.units) (policy_excess d plans references) (floor_target t)
 
--- the tests after the step exponent: of the excess, of R, and of the aim
-abbrev pub AfterFastExponent : Design → Targets → (plans references : Plans) → Margin → ℕ → Refusal → Type 0
-AfterFastExponent d t plans references m s = Sized Excess (policy_excess_size d plans references) (Sized Multiplier (fast_multiplier_size_at d t plans references m)
-    (HasFastAimCause d (aim_at d t plans references m) s))
-
 -- Why this refusal is the answer. Out of memory has no cause in the design, the policy and the reference plans.
 abbrev pub HasFastCause : Design → Targets → (plans references : Plans) → Refusal → Type 0
-HasFastCause d t plans references = OfCorners d plans (λ m. OfForm d (AfterFastExponent d t plans references m))
+HasFastCause = HasLeanCauseBy fast_multiplier_size HasFastAimCause
 
 -- ---- how far a design with a policy and reference plans gets
 -- its steps, the exponents of its rows and its bits are those of the aim, and the systems and the controller's sums are within their limits

@@ -1,12 +1,12 @@
 -- What is made with a slack, an excess and R.
-use Rattle.std.proofs.Common.{◌≡◌, ℕ, ◌<◌, ◌≤◌, List, length, ℤ, pos, ◌≤ℤ◌, unsigned_abs, arith, subst, sym, ◌∙◌, Result}
+use Rattle.std.proofs.Common.{◌≡◌, ℕ, ◌<◌, ◌≤◌, List, length, ℤ, pos, ◌≤ℤ◌, unsigned_abs, arith, subst, sym, ◌∙◌, Result, true}
 use Rattle.std.proofs.lemmas.Int.{ints}
 use Rattle.qp_model.specs.form.Class.{form_of}
 use Rattle.qp_model.specs.problem.Parts.{design_of}
 use Rattle.qp_model.specs.problem.Policy.{Plans, IsPolicyFor}
 use Rattle.qp_model.specs.problem.Runs.{Holds}
 use Rattle.qp_model.specs.bounds.CornerClass.{IsMargin}
-use Rattle.qp_model.specs.bounds.Choices.{lean_row_violation}
+use Rattle.qp_model.specs.bounds.Choices.{lean_multiplier_size, lean_row_violation}
 use Rattle.qp_model.specs.bounds.RealErrors.{real_cost}
 use Rattle.qp_model.specs.bounds.Printed.{Printed, printed}
 use Rattle.qp_model.specs.machine.Controller.{Numbers}
@@ -21,11 +21,12 @@ use Rattle.design_engine.specs.Aims.{IsMadeWith}
 use Rattle.design_engine.specs.Bounds.{stated_cost, AreThresholdBoundsOf}
 use Rattle.design_engine.specs.Tests.{PassesAim, HasAimCause}
 use Rattle.design_engine.specs.Terms.{IsMadeBy, Tells}
+use Rattle.design_engine.specs.declared.aimed.Aim.{Aim}
 use Rattle.design_engine.specs.declared.bounds.Terms.{Terms}
 use Rattle.design_engine.specs.declared.generation.Made.{Made}
 use Rattle.design_engine.proofs.AnswerLaws.{told_as}
 use Rattle.design_engine.proofs.PrintedFacts as printed_facts
-use Rattle.lean_engine.specs.Lean.{bound_of, lean_aim, lean_terms, IsLeanBuiltAs}
+use Rattle.lean_engine.specs.Lean.{bound_of, lean_aim, lean_terms, IsLeanBuiltBy, IsLeanBuiltAs}
 use Rattle.lean_engine.specs.Refusals.{policy_excess, PassesBound, PassesSomeLean, HasLeanCause}
 use Rattle.lean_engine.proofs.RefusalFacts.{aim_caused}
 
@@ -34,34 +35,34 @@ module _ (p : DesignParts) (plans references : Plans) (m : Margin) (policy : IsP
   abbrev pub Priced : Terms
   Priced = lean_terms (targets_of p) (unsigned_abs m.units) (policy_excess (design_of p) plans references)
 
-  lean_built : (made : Made) → IsMargin (design_of p) plans m → pos 1 ≤ℤ m.units → IsMadeBy p Priced made → IsLeanBuiltAs p plans references made
-  lean_built made margin slack h = record {
-    built = record {
-      policy = policy;
-      reference = reference;
-      greatest_cost = m.cost;
-      margin = subst (λ (u : ℤ). IsMargin (design_of p) plans (record { units = u; cost = m.cost })) (sym same) margin;
-      slack = subst (λ (u : ℤ). pos 1 ≤ℤ u) (sym same) slack;
-      excess = h.bounds.corners;
-      made = subst (λ a. IsMadeWith p a c) (λ i. lean_aim (targets_of p) (unsigned_abs (sym h.bounds.units i)) (unsigned_abs (sym h.bounds.corners i))) h.controller;
-      lean = h.bounds.lean;
-      bounds = subst (λ (r : ℕ). AreThresholdBoundsOf c b r (violation_target (targets_of p)) (real_cost (design_of p) (form_of (design_of p)) r c))
-          (λ i. bound_of (targets_of p) (unsigned_abs (sym h.bounds.units i)) (unsigned_abs (sym h.bounds.corners i))) h.bounds.bounds;
-    };
-    errors = h.errors ∙ (λ i. pos (stated_cost (design_of p) (unsigned_abs (sym h.bounds.bounds.multiplier i)) c.fraction_bits));
+  -- by a machine
+  pub built_by : (Made : Aim → Numbers → Type 0) (AreBounds : Numbers → Printed → (r threshold : ℕ) → Type 0) (c : Numbers) (b : Printed) → IsMargin (design_of p) plans m → pos 1 ≤ℤ m.units →
+      b.margin ≡ Priced.units → b.cost ≡ Priced.cost → b.lean ≡ true → Made Priced.aim c → AreBounds c b (unsigned_abs Priced.aim.r) (violation_target (targets_of p)) →
+      IsLeanBuiltBy Made AreBounds p plans references c b
+  built_by Made AreBounds c b margin slack units corners lean made bounds = record {
+    policy = policy;
+    reference = reference;
+    greatest_cost = m.cost;
+    margin = subst (λ (u : ℤ). IsMargin (design_of p) plans (record { units = u; cost = m.cost })) (sym same) margin;
+    slack = subst (λ (u : ℤ). pos 1 ≤ℤ u) (sym same) slack;
+    excess = corners;
+    made = subst (λ a. Made a c) (λ i. lean_aim (targets_of p) (unsigned_abs (sym units i)) (unsigned_abs (sym corners i))) made;
+    lean = lean;
+    bounds = subst (λ (r : ℕ). AreBounds c b r (violation_target (targets_of p))) (λ i. bound_of (targets_of p) (unsigned_abs (sym units i)) (unsigned_abs (sym corners i))) bounds;
   }
     where
-      c : Numbers
-      c = made.controller
-
-      b : Printed
-      b = printed made.bounds
-
       whole : (z : ℤ) → pos 1 ≤ℤ z → pos (unsigned_abs z) ≡ z
       whole z l = omega (arith, ints, l)
 
       same : b.margin ≡ m.units
-      same = h.bounds.units ∙ whole m.units slack
+      same = units ∙ whole m.units slack
+
+  lean_built : (made : Made) → IsMargin (design_of p) plans m → pos 1 ≤ℤ m.units → IsMadeBy p Priced made → IsLeanBuiltAs p plans references made
+  lean_built made margin slack h = record {
+    built = built_by (IsMadeWith p) (λ c b r threshold. AreThresholdBoundsOf c b r threshold (real_cost (design_of p) (form_of (design_of p)) r c)) made.controller (printed made.bounds)
+        margin slack h.bounds.units h.bounds.corners h.bounds.lean h.controller h.bounds.bounds;
+    errors = h.errors ∙ (λ i. pos (stated_cost (design_of p) (unsigned_abs (sym h.bounds.bounds.multiplier i)) made.controller.fraction_bits));
+  }
 
   -- what is told of them is told of the policy and the reference plans
   pub lean_told : (s : ℕ) (x : Terms) (r : Result Made Refusal) → PassesBound (design_of p) (targets_of p) plans references m s → x ≡ Priced →
@@ -69,7 +70,8 @@ module _ (p : DesignParts) (plans references : Plans) (m : Margin) (policy : IsP
       Tells (IsLeanBuiltAs p plans references) (PassesSomeLean (design_of p) (targets_of p) plans references) (HasLeanCause (design_of p) (targets_of p) plans references) r
   lean_told s x r passes is h =
       told_as (IsMadeBy p Priced) _ _ _ _ _ r (λ made. lean_built made passes.before.margin.margin passes.before.margin.slack)
-      (λ k. (m, s, k.0, record { before = passes; aim = k.1 })) (aim_caused (design_of p) (targets_of p) plans references m s passes)
+      (λ k. (m, s, k.0, record { before = passes; aim = k.1 }))
+      (aim_caused lean_multiplier_size HasAimCause (design_of p) (targets_of p) plans references m s passes.before passes.excess passes.multiplier)
       (subst (λ (y : Terms). Tells (IsMadeBy p y) ((f : ℕ) × PassesAim (design_of p) y.aim s f) (HasAimCause (design_of p) y.aim s) r) is h)
 
 -- the violations of a controller's rows, by the list of its exponents

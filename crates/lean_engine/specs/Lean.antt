@@ -36,8 +36,9 @@ abbrev pub lean_terms : Targets → (units excess : ℕ) → Terms
 lean_terms t units excess = record { aim = lean_aim t units excess; units = pos units; cost = pos excess; target = Some (pos (violation_target t)) }
 
 -- the controller and the bounds are those of a design, a policy and reference plans: the bounds print the least slack of the policy's plans, and the excess that
--- the reference plans show of them
-pub record IsLeanBuilt (p : DesignParts) (plans references : Plans) (c : Numbers) (b : Printed) : Type 0 where
+-- the reference plans show of them; by a machine, for which this says what is made with an aim, and what are the bounds by R and a threshold
+pub record IsLeanBuiltBy (Made : Aim → Numbers → Type 0) (AreBounds : Numbers → Printed → (r threshold : ℕ) → Type 0) (p : DesignParts) (plans references : Plans)
+    (c : Numbers) (b : Printed) : Type 0 where
   pub policy : IsPolicyFor (design_of p) plans
   pub reference : IsPolicyFor (design_of p) references
   -- the greatest cost of the corners is in no bound
@@ -45,10 +46,12 @@ pub record IsLeanBuilt (p : DesignParts) (plans references : Plans) (c : Numbers
   pub margin : IsMargin (design_of p) plans (record { units = b.margin; cost = greatest_cost })
   pub slack : pos 1 ≤ℤ b.margin
   pub excess : b.cost ≡ pos (excess_of (design_of p) (form_of (design_of p)) plans references)
-  pub made : IsMadeWith p (lean_aim (targets_of p) (unsigned_abs b.margin) (unsigned_abs b.cost)) c
+  pub made : Made (lean_aim (targets_of p) (unsigned_abs b.margin) (unsigned_abs b.cost)) c
   pub lean : b.lean ≡ true
-  pub bounds : AreThresholdBoundsOf c b (bound_of (targets_of p) (unsigned_abs b.margin) (unsigned_abs b.cost)) (violation_target (targets_of p))
-      (real_cost (design_of p) (form_of (design_of p)) (bound_of (targets_of p) (unsigned_abs b.margin) (unsigned_abs b.cost)) c)
+  pub bounds : AreBounds c b (bound_of (targets_of p) (unsigned_abs b.margin) (unsigned_abs b.cost)) (violation_target (targets_of p))
+
+abbrev pub IsLeanBuilt : DesignParts → (plans references : Plans) → Numbers → Printed → Type 0
+IsLeanBuilt p = IsLeanBuiltBy (IsMadeWith p) (λ c b r threshold. AreThresholdBoundsOf c b r threshold (real_cost (design_of p) (form_of (design_of p)) r c)) p
 
 -- so is what is made, with what is stated of the errors of its steps
 pub record IsLeanBuiltAs (p : DesignParts) (plans references : Plans) (m : Made) : Type 0 where

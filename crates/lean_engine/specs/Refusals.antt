@@ -1,6 +1,6 @@
 -- Why a design with a policy and reference plans has no lean controller: the first of these tests, in their order, that it fails. The excess is made of the
 -- condensed form's numbers, and so it and R come after the step exponent.
-use Rattle.std.specs.Prelude.{◌≡◌, ◌⊎◌, ℕ, ◌^◌, ◌≤◌, unsigned_abs}
+use Rattle.std.specs.Prelude.{ℕ, ◌^◌, ◌≤◌, unsigned_abs}
 use Rattle.qp_model.specs.form.Class.{form_of}
 use Rattle.qp_model.specs.problem.Design.{Design}
 use Rattle.qp_model.specs.problem.Policy.{Plans}
@@ -15,7 +15,6 @@ use Rattle.design_engine.specs.Tests.{PassesForm, PassesAim, HasAimCause}
 use Rattle.design_engine.specs.Refusals.{PassesMargin}
 use Rattle.design_engine.specs.declared.aimed.Aim.{Aim}
 use Rattle.qp_model.specs.declared.refusal.Refusal.{Refusal}
-use Rattle.qp_model.specs.declared.refusal.Refusal.TheVariants.{Memory}
 use Rattle.lean_engine.specs.Lean.{lean_aim}
 
 -- X, and the quantity `excess`
@@ -56,15 +55,16 @@ abbrev pub PassesSomeLean : Design → Targets → (plans references : Plans) �
 PassesSomeLean d t plans references = (m : Margin) × (s : ℕ) × (f : ℕ) × PassesLean d t plans references m s f
 
 -- ---- the causes
--- the tests after the step exponent: of the excess, of R, and of the aim
-abbrev pub AfterExponent : Design → Targets → (plans references : Plans) → Margin → ℕ → Refusal → Type 0
-AfterExponent d t plans references m s = Sized Excess (policy_excess_size d plans references) (Sized Multiplier (multiplier_size_at d t plans references m)
-    (HasAimCause d (aim_at d t plans references m) s))
+-- By a machine: `size` is its quantity `multiplier` of a slack, an excess and a share, and `Aims` says why an aim is missed with a step exponent.
+module _ (size : (units excess share : ℕ) → ℕ) (Aims : Design → Aim → ℕ → Refusal → Type 0) where
+  -- the tests after the step exponent: of the excess, of R, and of the aim
+  abbrev pub AfterExponent : Design → Targets → (plans references : Plans) → Margin → ℕ → Refusal → Type 0
+  AfterExponent d t plans references m s = Sized Excess (policy_excess_size d plans references)
+      (Sized Multiplier (size (unsigned_abs m.units) (policy_excess d plans references) (floor_target t)) (Aims d (aim_at d t plans references m) s))
+
+  abbrev pub HasLeanCauseBy : Design → Targets → (plans references : Plans) → Refusal → Type 0
+  HasLeanCauseBy d t plans references = OfCorners d plans (λ m. OfForm d (AfterExponent d t plans references m))
 
 -- Why this refusal is the answer. Out of memory has no cause in the design, the policy and the reference plans.
 abbrev pub HasLeanCause : Design → Targets → (plans references : Plans) → Refusal → Type 0
-HasLeanCause d t plans references = OfCorners d plans (λ m. OfForm d (AfterExponent d t plans references m))
-
--- out of memory, or with its cause
-abbrev pub IsRefusedLean : Design → Targets → (plans references : Plans) → Refusal → Type 0
-IsRefusedLean d t plans references e = (e ≡ Memory) ⊎ HasLeanCause d t plans references e
+HasLeanCause = HasLeanCauseBy lean_multiplier_size HasAimCause

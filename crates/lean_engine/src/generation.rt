@@ -1,5 +1,5 @@
 // From a design, a policy and reference plans to a lean controller and its bounds.
-ghost use Rattle.std.specs.Prelude.{◌≡◌, ◌⊎◌, ◌≤ℤ◌, ◌≤◌, ◌^◌, ℕ, pos, unsigned_abs, IfOk, IfErr, IsOk, Err};
+ghost use Rattle.std.specs.Prelude.{◌≡◌, ◌⊎◌, ◌≤ℤ◌, ◌≤◌, ◌^◌, ℕ, pos, unsigned_abs, IfOk, OnOk, IfErr, IsOk, Err};
 ghost use Rattle.qp_model.specs.problem.Parts.{IsDesign, design_of};
 ghost use Rattle.qp_model.specs.problem.Policy.{plans_of, IsPolicyFor};
 ghost use Rattle.qp_model.specs.bounds.Choices.{lean_multiplier_size};
@@ -112,6 +112,8 @@ pub fn generate_lean(
     ensures targets { IfOk result (λ made. IsWithinTargets (targets_of design.now) (printed made.bounds)) }
     ensures errors { IfOk result (λ made.
         made.eps ≡ pos (stated_cost (design_of design.now) (unsigned_abs made.bounds.multiplier) made.controller.fraction_bits)) }
+
+    ensures passes { OnOk result (PassesSomeLean (design_of design.now) (targets_of design.now) (plans_of policy.now) (plans_of reference.now)) }
 
     // The cause of a refusal; and the other way round, with nothing but out of memory in between.
     ensures refused { IfErr result (λ e. (e ≡ Refusal.Memory) ⊎

@@ -14,7 +14,7 @@ use Rattle.command_make.specs.Loops.Looping.{looping_of_fast, state_by}
 use Rattle.command_line.specs.Answers.{FileHolds}
 use Rattle.command_files.specs.Texts.{RangeRight}
 use Rattle.command_make.specs.FastEngine.FastCertified.{IsFastCertifiedAt}
-use Rattle.command_make.specs.Excess.{made_fast_excess}
+use Rattle.command_make.specs.Excess.{made_excess}
 use Rattle.command_make.specs.Stay.{LoopsStay, FastLoopsStay}
 
 abbrev named : List (List ℕ)
@@ -58,9 +58,9 @@ fast_as_loop_runs : (files : Files) (p : DesignParts) (c : Numbers) (b : Printed
 fast_as_loop_runs files p c b it start inside turns = (it.undisturbed refl start inside turns).inside
 
 -- the number of a row with the step exponent 1, where R is 2: half the target, 2^44 / (18 * 21) of the steps, and a quarter of what the errors cost
-excess_of_a_row : (c : Numbers) → exponent_of c 0 ≡ 1 → c.steps ≡ 18 → made_fast_excess (Some (pos 109951162777)) c (pos 2) (pos 8078352384) 0 ≡ pos 103535344206
+excess_of_a_row : (c : Numbers) → exponent_of c 0 ≡ 1 → c.steps ≡ 18 → made_excess true (Some (pos 109951162777)) c (pos 2) (pos 8078352384) 0 ≡ pos 103535344206
 excess_of_a_row c exponent steps = rw (exponent, steps) refl
 
 -- without reference plans, where R is 8: the printed violation, of the printed gap
-excess_by_margin : (c : Numbers) → exponent_of c 0 ≡ 1 → c.step_exponent ≡ 1 → c.steps ≡ 50 → made_fast_excess None c (pos 8) (pos 180409860096) 0 ≡ pos 75659718684
+excess_by_margin : (c : Numbers) → exponent_of c 0 ≡ 1 → c.step_exponent ≡ 1 → c.steps ≡ 50 → made_excess true None c (pos 8) (pos 180409860096) 0 ≡ pos 75659718684
 excess_by_margin c row exponent steps = rw (row, exponent, steps) refl

@@ -1,24 +1,19 @@
-use Rattle.std.proofs.Common.{ℕ, ◌+◌, ◌<◌, ◌≤◌, pos, Option, Some, None, length, unsigned_abs, rules, arith, ap, refl, sym, subst, ◌∙◌}
+use Rattle.std.proofs.Common.{ℕ, ◌+◌, ◌<◌, ◌≤◌, pos, length, unsigned_abs, rules, ap, refl, sym, subst, ◌∙◌}
 use Rattle.std.specs.Int.{w128}
-use Rattle.std.proofs.lemmas.Int.{ints, to_z-of_z}
+use Rattle.std.proofs.lemmas.Int.{to_z-of_z}
 use Rattle.std.proofs.lemmas.Result.{IfOk-weaker}
 use mir.Val.{SFits}
-use Rattle.qp_model.specs.problem.Policy.{Plans}
 use Rattle.qp_model.specs.machine.Controller.{Numbers}
 use Rattle.qp_model.specs.machine.Machine.{exponent_of}
 use Rattle.dual_bounds.specs.FastSteps.{quarter_steps}
 use Rattle.overflow_check.specs.FastController.{IsFastController}
 use Rattle.command_generate.specs.Engine.RowExponents.{exponent_in}
-use Rattle.command_generate.specs.Engine.Targets.{Targets, targets_of}
+use Rattle.command_generate.specs.Engine.Targets.{targets_of}
 use Rattle.command_generate.specs.Engine.Terms.{row_bound, IsTarget}
 use Rattle.fast_bounds.proofs.FastPrinted.{below, listed, run_of}
 use Rattle.command_make.specs.Made.{reference_of}
-use Rattle.command_make.specs.Excess.{target_by}
+use Rattle.command_make.proofs.Excesses.{is_target}
 use Rattle.command_make.proofs.excess.fast_excess.Goals as goal
-
-is_target : (t : Targets) (reference : Option Plans) → IsTarget (target_by t reference)
-is_target t None = tt
-is_target t (Some references) = omega (arith, ints)
 
 pub fast_violations_after-requires-clause-run : goal.fast_violations_after-requires-clause-run
 fast_violations_after-requires-clause-run c =

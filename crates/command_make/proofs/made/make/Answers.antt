@@ -1,7 +1,8 @@
+use Rattle.std.proofs.Common.{ℕ, pos, unsigned_abs, ap, sym, ◌∙◌}
+use Rattle.qp_model.specs.problem.Parts.{design_of}
 use Rattle.qp_model.specs.problem.Policy.{plans_of}
-use Rattle.qp_model.specs.bounds.Printed.{printed}
 use Rattle.command_line.proofs.TwoTexts.{both_ok}
-use Rattle.command_make.proofs.Excesses.{by_printed}
+use Rattle.command_generate.specs.Engine.Bounds.{stated_cost}
 use Rattle.command_make.proofs.made.make.Goals as goal
 
 pub make_lean-requires : goal.make_lean-requires
@@ -15,5 +16,7 @@ returns-in-None c =
     let did = c.make_controller.ensures in
     rw c.in-None.is (record {
       made = did.made;
-      errors = both_ok c.make_controller.result did.made.made did.errors (λ m made is. by_printed c.args.design.now (plans_of c.args.policy.now) m.controller (printed m.bounds) m.eps made.built is);
+      -- by R that is printed, or by that of the controller
+      errors = both_ok c.make_controller.result did.made.made did.errors
+          (λ m made is. is ∙ ap (λ (n : ℕ). pos (stated_cost (design_of c.args.design.now) n m.controller.fraction_bits)) (sym (ap unsigned_abs made.built.bounds.multiplier)));
     })

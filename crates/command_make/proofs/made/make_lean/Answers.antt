@@ -1,12 +1,10 @@
 use Rattle.std.proofs.Common.{refl}
 use Rattle.qp_model.specs.problem.Parts.{design_of}
 use Rattle.qp_model.specs.problem.Policy.{plans_of}
-use Rattle.qp_model.specs.bounds.Printed.{printed}
 use Rattle.lean_engine.specs.Refusals.{HasLeanCause, PassesLean}
 use Rattle.lean_engine.proofs.CauseLaws.{memory_apart}
 use Rattle.command_generate.specs.Engine.Targets.{targets_of}
-use Rattle.command_generate.proofs.Making.{no_cause, done_called, refused_called, none_made}
-use Rattle.command_make.proofs.LeanPassing.{built_passes}
+use Rattle.command_generate.proofs.Making.{done_called, refused_called, none_made}
 use Rattle.command_make.proofs.made.make_lean.Goals as goal
 
 pub returns-in-Ok-clause-made : goal.returns-in-Ok-clause-made
@@ -22,7 +20,7 @@ returns-in-Ok-clause-made c =
     record {
       made = record { built = is.built; certified = is.certified; targets = is.targets };
       called = done_called Cause All apart _ is.every_refusal made refl
-          (built_passes p plans references made.controller (printed made.bounds) (no_cause Cause All apart _ is.every_refusal made refl) is.built);
+          (record { margin = is.passes.0; exponent = is.passes.1; bits = is.passes.2; all = is.passes.3 });
       unmade = tt;
     }
 

@@ -1,11 +1,11 @@
-use Rattle.std.proofs.Common.{refl}
+use Rattle.std.proofs.Common.{true, refl}
 use Rattle.qp_model.specs.problem.Policy.{plans_of}
 use Rattle.qp_model.specs.bounds.Printed.{printed}
 use Rattle.command_line.proofs.Results.{err_same}
 use Rattle.command_line.proofs.TwoTexts.{unmade_memory}
 use Rattle.command_generate.proofs.Making.{none_made}
 use Rattle.command_make.specs.Made.{reference_of}
-use Rattle.command_make.proofs.FastExcesses as fast
+use Rattle.command_make.proofs.Excesses.{small, narrow, priced}
 use Rattle.command_make.proofs.texts.price_fast.Goals as goal
 
 pub returns-in_err-made : goal.returns-in_err-made
@@ -19,8 +19,8 @@ fast_excess-requires c =
     let plans = plans_of c.args.inputs.now.policy in
     let reference = reference_of c.args.inputs.now.reference in
     record {
-      small = fast.small p plans reference m.controller (printed m.bounds) is.made.made m.eps is.errors is.made.called;
-      narrow = fast.narrow p plans reference m.controller (printed m.bounds) is.made.made m.eps is.errors is.made.called;
+      small = small p plans reference true m.controller (printed m.bounds) is.made.made m.eps is.errors is.made.called;
+      narrow = narrow p plans reference true m.controller (printed m.bounds) is.made.made m.eps is.errors is.made.called;
     }
 
 pub returns-in_err-excess : goal.returns-in_err-excess
@@ -31,30 +31,11 @@ returns-in_err-texts c = rw (err_same c.from_residual-in_err-texts.result _ c.fr
 
 pub returns : goal.returns
 returns c =
-    let p = c.args.inputs.now.design in
-    let plans = plans_of c.args.inputs.now.policy in
-    let reference = reference_of c.args.inputs.now.reference in
     let m = c.in_ok-made.made in
-    let b = printed m.bounds in
     let is = c.in_ok-made.ensures in
-    let xs = c.in_ok-excess.excess.items in
-    let holds = c.in_ok-excess.ensures in
-    let own = fast.stated_excess p plans reference m.controller b is.made.made m.eps is.errors is.made.called xs holds in
-    let are = c.in_ok-texts.ensures.texts in
     record {
-      made = record {
-        texts = record {
-          controller = m.controller;
-          bounds = b;
-          made = (is.made.made, fast.loops p plans reference m.controller b is.made.made m.eps is.errors is.made.called xs holds);
-          is_text = are.0;
-          is_report = are.1;
-        };
-        long = own.holds.long;
-        stated = own;
-        one = λ other stated. fast.one_fast_excess p plans reference (fast.design p plans reference m.controller b is.made.made m.eps is.errors)
-            (fast.policy p plans reference m.controller b is.made.made m.eps is.errors) other xs stated own;
-      };
+      made = priced c.args.inputs.now.design (plans_of c.args.inputs.now.policy) (reference_of c.args.inputs.now.reference) true m.controller (printed m.bounds) is.made.made m.eps is.errors is.made.called
+          (record { texts = c.in_ok-texts.texts; excess = c.in_ok-excess.excess }) c.in_ok-excess.ensures c.args.report_name.now c.in_ok-texts.ensures.texts;
       called = is.made.called;
       unmade = tt;
     }

@@ -1,11 +1,11 @@
-use Rattle.std.proofs.Common.{refl, ◌∙◌}
+use Rattle.std.proofs.Common.{false, refl}
 use Rattle.qp_model.specs.problem.Policy.{plans_of}
 use Rattle.qp_model.specs.bounds.Printed.{printed}
 use Rattle.command_line.proofs.Results.{err_same}
 use Rattle.command_line.proofs.TwoTexts.{unmade_memory}
 use Rattle.command_generate.proofs.Making.{none_made}
 use Rattle.command_make.specs.Made.{reference_of}
-use Rattle.command_make.proofs.Facts.{Facts, facts}
+use Rattle.command_make.proofs.Excesses.{small, priced}
 use Rattle.command_make.proofs.texts.price_plain.Goals as goal
 
 pub returns-in_err-made : goal.returns-in_err-made
@@ -15,7 +15,10 @@ pub row_excess-requires : goal.row_excess-requires
 row_excess-requires c =
     let m = c.in_ok-made.made in
     let is = c.in_ok-made.ensures in
-    (facts c.args.inputs.now.design (plans_of c.args.inputs.now.policy) (reference_of c.args.inputs.now.reference) m.controller (printed m.bounds) m.eps is.made.made is.errors is.made.called).small
+    let p = c.args.inputs.now.design in
+    let plans = plans_of c.args.inputs.now.policy in
+    let reference = reference_of c.args.inputs.now.reference in
+    small p plans reference false m.controller (printed m.bounds) is.made.made m.eps is.errors is.made.called
 
 pub returns-in_err-excess : goal.returns-in_err-excess
 returns-in_err-excess c = rw (err_same c.from_residual-in_err-excess.result _ c.from_residual-in_err-excess.ensures.1) (none_made (unmade_memory _ _ refl))
@@ -25,23 +28,11 @@ returns-in_err-texts c = rw (err_same c.from_residual-in_err-texts.result _ c.fr
 
 pub returns : goal.returns
 returns c =
-    let p = c.args.inputs.now.design in
-    let plans = plans_of c.args.inputs.now.policy in
-    let reference = reference_of c.args.inputs.now.reference in
     let m = c.in_ok-made.made in
     let is = c.in_ok-made.ensures in
-    let f : Facts p plans reference m.controller (printed m.bounds) m.eps = facts p plans reference m.controller (printed m.bounds) m.eps is.made.made is.errors is.made.called in
-    let xs = c.in_ok-excess.excess.items in
-    let holds = c.in_ok-excess.ensures in
-    let own = f.stated xs holds in
-    let are = c.in_ok-texts.ensures.texts in
     record {
-      made = record {
-        texts = record { controller = m.controller; bounds = printed m.bounds; made = (is.made.made, f.loops xs holds); is_text = are.0; is_report = are.1 };
-        long = holds.long ∙ f.rows;
-        stated = own;
-        one = f.one xs own;
-      };
+      made = priced c.args.inputs.now.design (plans_of c.args.inputs.now.policy) (reference_of c.args.inputs.now.reference) false m.controller (printed m.bounds) is.made.made m.eps is.errors is.made.called
+          (record { texts = c.in_ok-texts.texts; excess = c.in_ok-excess.excess }) c.in_ok-excess.ensures c.args.report_name.now c.in_ok-texts.ensures.texts;
       called = is.made.called;
       unmade = tt;
     }

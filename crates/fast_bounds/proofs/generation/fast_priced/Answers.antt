@@ -12,15 +12,17 @@ use Rattle.lean_engine.specs.Engine.declared.bounds.Terms.{Terms}
 use Rattle.lean_engine.proofs.Engine.GenerationFacts.{whole_least}
 use Rattle.lean_engine.specs.Lean.{lean_terms}
 use Rattle.lean_engine.proofs.LeanFacts.{lean_ranges}
+use Rattle.lean_engine.proofs.RefusalFacts.{excess_refused, multiplier_refused}
+use Rattle.fast_bounds.specs.FastRefusals.{HasFastAimCause}
 use Rattle.fast_bounds.specs.declared.generation.FastMade.{FastMade}
 use Rattle.fast_bounds.proofs.FastAnswers.{handed}
-use Rattle.fast_bounds.proofs.FastPriced.{room_of, bound_narrow, bound_of_target, excess_refused, multiplier_refused, fast_told}
+use Rattle.fast_bounds.proofs.FastPriced.{room_of, bound_narrow, bound_of_target, fast_told}
 use Rattle.fast_bounds.proofs.generation.fast_priced.Goals as goal
 
 pub returns-in_err-excess : goal.returns-in_err-excess
 returns-in_err-excess c =
     handed FastMade _ _ _ _ c.from_residual.result c.from_residual.ensures.0 c.from_residual.ensures.1
-    (excess_refused (design_of c.args.design.now) (targets_of c.args.design.now) (plans_of c.args.policy.now) (plans_of c.args.reference.now)
+    (excess_refused fast_multiplier_size HasFastAimCause (design_of c.args.design.now) (targets_of c.args.design.now) (plans_of c.args.policy.now) (plans_of c.args.reference.now)
     c.args.margin c.args.stepped.now.s c.requires.scaled _ c.in_err-excess.ensures.refused)
 
 pub returns-in_err-r : goal.returns-in_err-r
@@ -30,7 +32,7 @@ returns-in_err-r c =
     let t : SFits w128 c.floor_target.result = search rules in
     let kept = rw (to_z-of_z w128 _ u, to_z-of_z w128 _ x, to_z-of_z w128 _ t) at c.in_err-r.ensures in
     handed FastMade _ _ _ _ c.from_residual-in_err-r.result c.from_residual-in_err-r.ensures.0 c.from_residual-in_err-r.ensures.1
-    (multiplier_refused (design_of c.args.design.now) (targets_of c.args.design.now) (plans_of c.args.policy.now) (plans_of c.args.reference.now)
+    (multiplier_refused fast_multiplier_size HasFastAimCause (design_of c.args.design.now) (targets_of c.args.design.now) (plans_of c.args.policy.now) (plans_of c.args.reference.now)
     c.args.margin c.args.stepped.now.s c.requires.scaled (unsigned_abs c.in_ok-excess.excess) (unsigned_abs c.floor_target.result) _ c.in_ok-excess.ensures.room
     (ap unsigned_abs c.in_ok-excess.ensures.value)
     (ap unsigned_abs c.floor_target.ensures ∙ ap (λ (p : DesignParts). floor_target (targets_of p)) c.parts-parts.ensures.value) kept.value kept.named)

@@ -30,6 +30,9 @@ returns-clause-targets c =
 pub returns-clause-errors : goal.returns-clause-errors
 returns-clause-errors c = ok_map c.made_leanly.result _ _ c.made_leanly.ensures.made (λ (made : Made) h. h.errors)
 
+pub returns-clause-passes : goal.returns-clause-passes
+returns-clause-passes c = c.made_leanly.ensures.passes
+
 pub returns-clause-refused : goal.returns-clause-refused
 returns-clause-refused c = c.made_leanly.ensures.refused
 

@@ -2,6 +2,8 @@ use Rattle.design_engine.proofs.AnswerLaws.{handed}
 use Rattle.design_engine.proofs.RefusalFacts.{margin_refused}
 use Rattle.design_engine.specs.Stages.{OfForm}
 use Rattle.design_engine.specs.Targets.{targets_of}
+use Rattle.design_engine.specs.Tests.{HasAimCause}
+use Rattle.qp_model.specs.bounds.Choices.{lean_multiplier_size}
 use Rattle.qp_model.specs.problem.Parts.{design_of}
 use Rattle.qp_model.specs.problem.Policy.{plans_of}
 use Rattle.lean_engine.specs.Refusals.{AfterExponent}
@@ -12,14 +14,14 @@ pub returns-in_err-margin : goal.returns-in_err-margin
 returns-in_err-margin c =
     handed _ _ _ _ c.from_residual.result c.from_residual.ensures.0 c.from_residual.ensures.1
     (margin_refused (design_of c.args.design.now) (plans_of c.args.policy.now)
-    (λ m. OfForm (design_of c.args.design.now) (AfterExponent (design_of c.args.design.now) (targets_of c.args.design.now) (plans_of c.args.policy.now) (plans_of c.args.reference.now) m))
+    (λ m. OfForm (design_of c.args.design.now) (AfterExponent lean_multiplier_size HasAimCause (design_of c.args.design.now) (targets_of c.args.design.now) (plans_of c.args.policy.now) (plans_of c.args.reference.now) m))
     c.margins.result _ c.in_err-margin.was c.margins.ensures.wide c.margins.ensures.short)
 
 pub returns-in_err-stepped : goal.returns-in_err-stepped
 returns-in_err-stepped c =
     let margin = c.in_ok-margin.ensures in
     handed _ _ _ _ c.from_residual-in_err-stepped.result c.from_residual-in_err-stepped.ensures.0 c.from_residual-in_err-stepped.ensures.1
-    (λ e f. rw f (form_caused (design_of c.args.design.now) (targets_of c.args.design.now) (plans_of c.args.policy.now) (plans_of c.args.reference.now) c.in_ok-margin.margin (record { room = margin.room; margin = margin.margin; slack = margin.slack }) _ c.in_err-stepped.ensures.refused))
+    (λ e f. rw f (form_caused lean_multiplier_size HasAimCause (design_of c.args.design.now) (targets_of c.args.design.now) (plans_of c.args.policy.now) (plans_of c.args.reference.now) c.in_ok-margin.margin (record { room = margin.room; margin = margin.margin; slack = margin.slack }) _ c.in_err-stepped.ensures.refused))
 
 pub priced-made-requires-clause-plans : goal.priced-made-requires-clause-plans
 priced-made-requires-clause-plans c = c.requires.plans

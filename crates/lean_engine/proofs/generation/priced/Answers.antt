@@ -8,6 +8,7 @@ use Rattle.qp_model.specs.problem.Parts.{design_of}
 use Rattle.qp_model.specs.problem.Policy.{plans_of}
 use Rattle.design_engine.specs.Targets.{targets_of, floor_target}
 use Rattle.design_engine.specs.Terms.{AreTerms}
+use Rattle.design_engine.specs.Tests.{HasAimCause}
 use Rattle.design_engine.proofs.AnswerLaws.{handed}
 use Rattle.design_engine.proofs.GenerationFacts.{whole_least}
 use Rattle.lean_engine.specs.Lean.{lean_terms}
@@ -19,7 +20,7 @@ use Rattle.lean_engine.proofs.generation.priced.Goals as goal
 pub returns-in_err-excess : goal.returns-in_err-excess
 returns-in_err-excess c =
     handed _ _ _ _ c.from_residual.result c.from_residual.ensures.0 c.from_residual.ensures.1
-    (excess_refused (design_of c.args.design.now) (targets_of c.args.design.now) (plans_of c.args.policy.now) (plans_of c.args.reference.now)
+    (excess_refused lean_multiplier_size HasAimCause (design_of c.args.design.now) (targets_of c.args.design.now) (plans_of c.args.policy.now) (plans_of c.args.reference.now)
     c.args.margin c.args.stepped.now.s c.requires.scaled _ c.in_err-excess.ensures.refused)
 
 pub returns-in_err-r : goal.returns-in_err-r
@@ -29,7 +30,7 @@ returns-in_err-r c =
     let t : SFits w128 c.floor_target.result = search rules in
     let kept = rw (to_z-of_z w128 _ u, to_z-of_z w128 _ x, to_z-of_z w128 _ t) at c.in_err-r.ensures in
     handed _ _ _ _ c.from_residual-in_err-r.result c.from_residual-in_err-r.ensures.0 c.from_residual-in_err-r.ensures.1
-    (multiplier_refused (design_of c.args.design.now) (targets_of c.args.design.now) (plans_of c.args.policy.now) (plans_of c.args.reference.now)
+    (multiplier_refused lean_multiplier_size HasAimCause (design_of c.args.design.now) (targets_of c.args.design.now) (plans_of c.args.policy.now) (plans_of c.args.reference.now)
     c.args.margin c.args.stepped.now.s c.requires.scaled (unsigned_abs c.in_ok-excess.excess) (unsigned_abs c.floor_target.result) _ c.in_ok-excess.ensures.room
     (ap unsigned_abs c.in_ok-excess.ensures.value)
     (ap unsigned_abs c.floor_target.ensures ∙ ap (λ (p : DesignParts). floor_target (targets_of p)) c.parts-parts.ensures.value) kept.value kept.named)
