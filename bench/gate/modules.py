@@ -39,7 +39,9 @@ def main():
         said = subprocess.run(check, cwd=crate, capture_output=True, text=True)
         if said.returncode:
             sys.exit(said.stdout[-2000:] + f"{name} isn't proved")
+        # the folder stays, empty: without it a check begins with what another checkout kept of the same text
         shutil.rmtree(f"{crate}/out/incremental")
+        os.mkdir(f"{crate}/out/incremental")
         began = time.time()
         before = os.times()
         subprocess.run(check, cwd=crate, capture_output=True, check=True)

@@ -9,16 +9,24 @@ use std::fmt;
 use thiserror::Error;
 
 /// Why a policy shows no margin.
-#[derive(Clone, Copy, PartialEq, Eq, Error)]
+#[derive(Clone, Copy, Error)]
 pub enum MarginFault {
-    #[error("memory")]
     Memory,
     /// The quantity is above `2^126`.
-    #[error("too wide")]
     TooWide { quantity: Quantity },
     /// The first corner, and in it the first row, with less slack than `2^-16`, both counted from 1, and that slack.
-    #[error("no margin")]
     NoMargin { corner: u32, row: u32, slack: Frac },
+}
+
+// One write of the words: of derived words each variant writes its own.
+impl fmt::Display for MarginFault {
+    fn fmt<W: fmt::Write>(&self, f: &mut fmt::Formatter<W>) -> fmt::Result {
+        f.write_str(match self {
+            MarginFault::Memory => "memory",
+            MarginFault::TooWide { .. } => "too wide",
+            MarginFault::NoMargin { .. } => "no margin",
+        })
+    }
 }
 
 // An error type has `Debug`, and nothing here prints by it: to write what `Display` does is proved in half the time of a derived one.

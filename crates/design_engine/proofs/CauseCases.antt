@@ -1,5 +1,5 @@
 -- What holds of each quantity that a test of the corners or of the form can name holds of all that it names.
-use Rattle.std.proofs.Common.{◌≡◌, inl, inr, ◌⊎◌, ◌↔◌, ℕ, Result, Err}
+use Rattle.std.proofs.Common.{◌≡◌, inl, inr, ◌↔◌, ℕ, Result, Err}
 use Rattle.frac_scaled.specs.declared.fraction.Frac.{Frac}
 use Rattle.qp_model.specs.problem.Design.{Design}
 use Rattle.qp_model.specs.problem.Policy.{Plans}

@@ -1,24 +1,19 @@
 -- Why a controller that is made for a design keeps the whole promise.
-use Rattle.std.proofs.Common.{◌≡◌, ℕ, ◌+◌, ◌*◌, ◌^◌, ◌≤◌, ◌<◌, ℤ, pos, ◌+ℤ◌, ◌*ℤ◌, ◌≤ℤ◌, ◌<ℤ◌, List, length, unsigned_abs, [], ◌∷◌, arith, ap, refl, sym, ◌∙◌}
-use Rattle.std.proofs.lemmas.Int.{ints, by_lt_z}
-use Rattle.std.specs.Int.Signed.{≤ℤ_refl}
-use Rattle.std.proofs.lemmas.Nat.{pow_pos, pow-add}
+use Rattle.std.proofs.Common.{◌≡◌, ℕ, ◌+◌, ◌*◌, ◌^◌, ◌≤◌, ◌<◌, ℤ, pos, ◌+ℤ◌, ◌*ℤ◌, ◌≤ℤ◌, List, length, unsigned_abs, [], ◌∷◌, arith, ap, refl, sym, ◌∙◌}
+use Rattle.std.proofs.lemmas.Int.{ints}
+use Rattle.std.proofs.lemmas.Nat.{pow_pos}
 use Rattle.std.proofs.lemmas.List.Elements.{All-get_or}
 use Rattle.std.proofs.Math.Nat.{one-le-mul, mul-le-mul_left}
-use Rattle.integer_algebra.specs.Sums.{at, none, total, dot, square}
+use Rattle.integer_algebra.specs.Sums.{at}
 use Rattle.integer_algebra.proofs.Quoting.{by_ring, quotes}
-use Rattle.qp_model.specs.method.Dual.{InBox}
 use Rattle.integer_algebra.specs.Division.{ceil_div}
-use Rattle.integer_algebra.proofs.OrderLaws.{pos_positive, le_of_lt_z, add-le-add_z, le_by, cancel-le_z, mul_nonneg_z, mul_pos_z, mul-le-mul_left_z}
-use Rattle.integer_algebra.proofs.PowerLaws.{pow_positive}
+use Rattle.integer_algebra.proofs.OrderLaws.{le_of_lt_z, add-le-add_z, le_by, cancel-le_z, mul-le-mul_left_z}
 use Rattle.integer_algebra.proofs.DivisionLaws.{le-mul-ceil_div}
-use Rattle.qp_model.specs.problem.Design.{Design, rows}
+use Rattle.qp_model.specs.problem.Design.{Design}
 use Rattle.qp_model.specs.problem.Parts.{IsDesign, design_of}
 use Rattle.qp_model.specs.problem.Range.{IsPositive}
 use Rattle.qp_model.specs.problem.Sound.{IsSound}
 use Rattle.qp_model.specs.problem.Box.{IsGridState}
-use Rattle.qp_model.specs.problem.Cost.{cost, cost_scale}
-use Rattle.qp_model.specs.problem.Residual.{residual, residual_scale, IsFeasible}
 use Rattle.qp_model.specs.problem.Policy.{Plans, IsPolicyFor}
 use Rattle.qp_model.specs.bounds.Margin.{BoundsCorners}
 use Rattle.qp_model.specs.bounds.CornerClass.{shown, IsMargin}
@@ -28,9 +23,8 @@ use Rattle.qp_model.specs.machine.Machine as machine
 use Rattle.qp_model.specs.form.Form.{Form}
 use Rattle.qp_model.specs.bounds.Errors.{StepErrors, cost_of_errors}
 use Rattle.qp_model.specs.bounds.Built.{HasSizesOf}
-use Rattle.qp_model.specs.bounds.Choices.{violation_bound, row_violation_bound, multiplier_of, lean_multiplier, lean_row_violation}
+use Rattle.qp_model.specs.bounds.Choices.{multiplier_of, lean_multiplier}
 use Rattle.qp_model.specs.machine.ValuesMet.{RunFits}
-use Rattle.qp_model.specs.bounds.Certified.{ExceedsAtMost, CostsAtMost, HasFeasible, IsCertifiedAt}
 use Rattle.qp_model.specs.declared.bounds.Margin.{Margin}
 use Rattle.qp_model.specs.declared.design_parts.DesignParts.{DesignParts}
 use Rattle.qp_model.specs.bounds.Printed.{Printed}
@@ -38,16 +32,13 @@ use Rattle.overflow_check.proofs.ValuesMet.{values_law}
 use Rattle.design_engine.proofs.CornerLaws.{shown_law}
 use Rattle.dual_bounds.specs.Corners.{KeepsMargin, KeepsExcess}
 use Rattle.dual_bounds.proofs.MixLaws.{repair_law, threshold_law}
-use Rattle.dual_bounds.proofs.RowBounds.{row_below}
-use Rattle.step_error.specs.MachineLaws.{IsRunOf, MachineRunLaw}
+use Rattle.step_error.specs.MachineLaws.{MachineRunLaw}
 use Rattle.design_engine.specs.Targets.{targets_of, violation_target, floor_target}
-use Rattle.design_engine.specs.Bounds.{margin_of, AreThresholdBoundsOf}
+use Rattle.design_engine.specs.Bounds.{margin_of}
 use Rattle.design_engine.specs.Promise.{IsBacked, CertifiedLaw}
 use Rattle.design_engine.specs.Threshold.{HasRepairs, IsSupported, CoverLaw, RepairsLaw, ThresholdCertifiedLaw, multiplier_above, MeetsTargets, MadeAboveLaw}
 use Rattle.design_engine.proofs.TargetLaws.{some_of, floor_fits, threshold_targets_law}
-use Rattle.design_engine.proofs.PromiseFacts.{power_mono, power_more, gap_closed, row_part, greatest_within, threshold_within, row_within, row_closed, row_shared, row_widened, row_over, first_part, second_part, shared_part, half_part, error_part, enough_left, lesser}
 use Rattle.design_engine.proofs.RunPromise.{Point, kept_at, left_kept, threshold_kept}
-use Rattle.design_engine.proofs.RowChoice.{at_row, dot_single, squares_single, row_in_box, dot_none, squares_none, none_in_box, greatest_row}
 
 -- ---- a design's numbers
 -- each input's weight is at least 1

@@ -1,5 +1,5 @@
 -- A list of tests, one after the other, each of which tells a refusal where it fails: it tells at most one, and none where all are passed.
-use Rattle.std.proofs.Common.{◌≡◌, inl, inr, ◌⊎◌, ℕ, ◌^◌, ◌<◌, ◌≤◌, arith, rules, refl, sym, ◌∙◌, subst}
+use Rattle.std.proofs.Common.{◌≡◌, inl, inr, ℕ, ◌^◌, ◌<◌, ◌≤◌, arith, rules, refl, sym, ◌∙◌, subst}
 use Rattle.std.proofs.lemmas.Bool.{cases_lt}
 use Rattle.qp_model.specs.declared.quantity.Quantity.{Quantity}
 use Rattle.qp_model.specs.declared.refusal.Refusal.{Refusal}

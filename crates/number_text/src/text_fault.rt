@@ -8,22 +8,30 @@ use thiserror::Error;
 /// The first fault of a design text, a policy text or a states text. Places are those of the keys, entries and fields count from 1.
 #[derive(Clone, Copy, PartialEq, Eq, Error)]
 pub enum TextFault {
-    #[error("not toml")]
     NotToml,
-    #[error("key")]
     Key { place: u32 },
-    #[error("shape")]
     Shape { place: u32 },
-    #[error("range")]
     Range { place: u32 },
-    #[error("fields")]
     Fields { entry: u32 },
-    #[error("number")]
     Number { entry: u32, field: u32 },
-    #[error("count")]
     Count { entries: u32 },
-    #[error("memory")]
     Memory,
+}
+
+// One write of the words: of derived words each variant writes its own.
+impl fmt::Display for TextFault {
+    fn fmt<W: fmt::Write>(&self, f: &mut fmt::Formatter<W>) -> fmt::Result {
+        f.write_str(match self {
+            TextFault::NotToml => "not toml",
+            TextFault::Key { .. } => "key",
+            TextFault::Shape { .. } => "shape",
+            TextFault::Range { .. } => "range",
+            TextFault::Fields { .. } => "fields",
+            TextFault::Number { .. } => "number",
+            TextFault::Count { .. } => "count",
+            TextFault::Memory => "memory",
+        })
+    }
 }
 
 // An error type has `Debug`, and nothing here prints by it: to write what `Display` does is proved in half the time of a derived one.

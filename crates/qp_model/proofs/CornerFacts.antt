@@ -1,6 +1,5 @@
 -- The quantities of the corners: what stays below the limit where they do.
-use Rattle.std.proofs.Common.{◌≡◌, ℕ, zero, suc, ◌+◌, ◌-◌, ◌*◌, ◌^◌, ◌%◌, ◌<◌, ◌≤◌, max, ℤ, pos, ◌≤ℤ◌, List, [], length, get_or, unsigned_abs, arith, ap, sym, subst, refl, ◌∙◌}
-use Rattle.std.specs.Prelude.{All}
+use Rattle.std.proofs.Common.{◌≡◌, ℕ, zero, suc, ◌*◌, ◌^◌, ◌%◌, ◌<◌, ◌≤◌, ℤ, pos, List, [], length, get_or, unsigned_abs, arith, ap, refl, ◌∙◌}
 use Rattle.std.proofs.lemmas.Int.{ints}
 use Rattle.std.proofs.lemmas.List.{get_or_read_under}
 use Rattle.std.proofs.lemmas.Nat.{pow_pos, one_shl}
@@ -13,7 +12,7 @@ use Rattle.qp_model.specs.problem.Design.{Design, entries}
 use Rattle.qp_model.specs.problem.Parts.{design_of, IsDesign}
 use Rattle.qp_model.specs.problem.Policy.{Plans, IsPlanDenominator, IsPlanNumerator, IsPolicyFor}
 use Rattle.qp_model.specs.form.Quantities.{greatest, growth, limit_width, cost_width, weight_sum, prediction_size}
-use Rattle.qp_model.specs.bounds.CornerSizes.{box_magnitude, corner_magnitude, policy_magnitude, corner_slack_size, corner_cost_size}
+use Rattle.qp_model.specs.bounds.CornerSizes.{corner_magnitude, policy_magnitude, corner_slack_size, corner_cost_size}
 use Rattle.qp_model.proofs.SizeFacts.{positive, greatest_term, factor_under, side_under, some_limit, some_cost, some_weight}
 
 -- ---- sizes of a plan's numbers

@@ -1,14 +1,12 @@
 -- Counted cost rows along runs.
-use Rattle.std.proofs.Common.{◌≡◌, inl, inr, ℕ, zero, suc, ◌+◌, ◌-◌, ◌*◌, ◌/◌, ◌%◌, ◌^◌, ◌<◌, ◌≤◌, ℤ, pos, ◌*ℤ◌, if◌then◌else◌, unsigned_abs, arith, ap, ◌∙◌, refl}
+use Rattle.std.proofs.Common.{◌≡◌, inl, inr, ℕ, zero, suc, ◌+◌, ◌-◌, ◌*◌, ◌/◌, ◌%◌, ◌^◌, ◌<◌, ◌≤◌, ℤ, pos, ◌*ℤ◌, unsigned_abs, arith, ◌∙◌, refl}
 use Rattle.std.proofs.lemmas.Int.{unsigned_abs-mul}
 use Rattle.std.proofs.lemmas.Bool.{cases_lt, lt-ltb, le-ltb}
 use Rattle.std.proofs.Math.Nat.{mul-le-mul_left, pow-le-pow_left}
-use Rattle.integer_algebra.specs.Sums.{dot}
 use Rattle.integer_algebra.specs.Sizes.{size, product_size}
 use Rattle.integer_algebra.proofs.SizeLaws.{total_size, size_same}
 use Rattle.qp_model.specs.problem.Design.{Design, CostRow, entries}
-use Rattle.qp_model.specs.problem.Trajectory.{lift}
-use Rattle.qp_model.specs.problem.Runs.{run, counted, counts, cost_run, BoundsGrowth, HasNarrowCosts, CostBoundLaw}
+use Rattle.qp_model.specs.problem.Runs.{run, counted, counts, cost_run, BoundsGrowth, CostBoundLaw}
 use Rattle.qp_model.proofs.RunLaws.{run_within, product_within, plan_inside}
 use Rattle.qp_model.proofs.RowLaws.{lift_power, stage_inside, remainder_inside}
 use Rattle.qp_model.proofs.SizeFacts.{size_append}

@@ -1,8 +1,6 @@
 -- How the cost of a design bends: its expansion along a step, its curvature, and averages of plans.
-use Rattle.std.proofs.Common.{◌≡◌, ℕ, zero, suc, ◌+◌, ◌-◌, ◌*◌, ◌^◌, ◌<◌, ◌≤◌, [], ◌∷◌, ℤ, pos, ◌+ℤ◌, ◌-ℤ◌, ◌*ℤ◌, ◌≤ℤ◌, ◌<ℤ◌, neg_ℤ, arith, ap, sym, ◌∙◌, refl}
+use Rattle.std.proofs.Common.{◌≡◌, ℕ, zero, suc, ◌+◌, ◌*◌, ◌^◌, ◌<◌, [], ◌∷◌, ℤ, pos, ◌+ℤ◌, ◌-ℤ◌, ◌*ℤ◌, ◌≤ℤ◌, ◌<ℤ◌, neg_ℤ, arith, ap, sym, ◌∙◌, refl}
 use Rattle.std.proofs.lemmas.Int.{ints}
-use Rattle.std.proofs.lemmas.Nat.{pow_pos}
-use Rattle.std.proofs.Math.Nat.{one-le-mul}
 use Rattle.std.proofs.Math.IntN.{*ℤ-zero}
 use Rattle.integer_algebra.specs.Sums.{total, dot, image, square, none}
 use Rattle.qp_model.specs.method.Objective.{Objective, bend, twice_cost, gradient, IsUpward}
@@ -17,11 +15,11 @@ use Rattle.qp_model.specs.form.Curvature.{untargeted, curvature}
 use Rattle.qp_model.specs.problem.CostShape.{ExpansionLaw, HessianLaw, CurvatureLaw, AverageLaw}
 use Rattle.qp_model.proofs.CostLaws.{condensing}
 use Rattle.qp_model.proofs.ScalingLaws.{cost_scaled}
-use Rattle.integer_algebra.proofs.OrderLaws.{pos_positive, add-le-add_z, difference_nonneg, le_by, mul_nonneg_z, square_nonneg_z, mul-le-mul_left_z, cancel-le_z, le_of_lt_z}
+use Rattle.integer_algebra.proofs.OrderLaws.{pos_positive, add-le-add_z, difference_nonneg, le_by, mul_nonneg_z, square_nonneg_z, mul-le-mul_left_z, cancel-le_z}
 use Rattle.integer_algebra.proofs.RingLaws.{mul_assoc_z}
 use Rattle.integer_algebra.proofs.SumLaws.{total_same, total_zero, total_add, total_neg, total_scale, total_mono, total_nonneg}
 use Rattle.integer_algebra.proofs.VectorLaws.{dot_comm, dot_same, dot_neg_right, image_none, matrix_scale, quadratic_scale, image_neg, quadratic_neg}
-use Rattle.integer_algebra.proofs.PowerLaws.{pow-two, pow_positive}
+use Rattle.integer_algebra.proofs.PowerLaws.{pow-two}
 use Rattle.integer_algebra.proofs.Quoting.{by_ring, quotes}
 use Rattle.integer_algebra.proofs.BlockLaws.{total_blocks}
 

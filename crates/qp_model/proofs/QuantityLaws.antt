@@ -1,12 +1,11 @@
 -- What a design's quantities bound.
-use Rattle.std.proofs.Common.{◌≡◌, inl, inr, ℕ, suc, ◌+◌, ◌-◌, ◌*◌, ◌/◌, ◌%◌, ◌^◌, ◌<◌, ◌≤◌, max, Bool, true, false, ℤ, pos, ◌*ℤ◌, nat_eq, if◌then◌else◌, unsigned_abs, arith}
+use Rattle.std.proofs.Common.{◌≡◌, inl, inr, ℕ, ◌+◌, ◌-◌, ◌*◌, ◌%◌, ◌^◌, ◌<◌, ◌≤◌, Bool, true, false, pos, nat_eq, if◌then◌else◌, unsigned_abs, arith}
 use Rattle.std.proofs.lemmas.Bool.{cases_lt, lt-ltb, le-ltb}
 use Rattle.std.proofs.Math.Nat.{mul-le-mul_left, pow-le-pow_left}
 use Rattle.integer_algebra.specs.Sums.{none}
 use Rattle.integer_algebra.specs.Sizes.{size}
-use Rattle.integer_algebra.proofs.PowerLaws.{pow_positive}
-use Rattle.qp_model.specs.problem.Design.{Design, entries, rows}
-use Rattle.qp_model.specs.form.Quantities.{greatest, plant_width, cost_row_width, limit_row_width, growth, cost_width, limit_width, weight_sum, prediction_size, response_size, limit_entry_size}
+use Rattle.qp_model.specs.problem.Design.{Design, rows}
+use Rattle.qp_model.specs.form.Quantities.{plant_width, cost_row_width, limit_row_width, growth, cost_width, limit_width, weight_sum, prediction_size, response_size, limit_entry_size}
 use Rattle.qp_model.specs.problem.Runs.{unit, bound_at, row_at, counted, counts, cost_run, BoundsGrowth, HasNarrowLimits, HasNarrowCosts}
 use Rattle.qp_model.proofs.RowLaws.{remainder_inside, row_bound_law}
 use Rattle.qp_model.proofs.CountLaws.{counted_all, counted_size, cost_bound_law}

@@ -1,5 +1,5 @@
 -- Numbers of a design's tables.
-use Rattle.std.proofs.Common.{inl, inr, ℕ, ◌^◌, ◌<◌, List, [], length, All, pos, unsigned_abs, arith}
+use Rattle.std.proofs.Common.{inl, inr, ℕ, ◌^◌, ◌<◌, [], length, All, pos, unsigned_abs, arith}
 use Rattle.std.proofs.lemmas.Bool.{cases_lt}
 use Rattle.std.proofs.lemmas.List.{get_or_past}
 use Rattle.mat_int.specs.Matrix.{Matrix, entry_of, row_of}

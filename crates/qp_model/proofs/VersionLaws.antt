@@ -1,5 +1,5 @@
 -- Controllers by the version of their text: the greatest sizes of all versions, and the first version, where each row has the greatest exponent.
-use Rattle.std.proofs.Common.{◌≡◌, ℕ, ◌-◌, ◌*◌, ◌/◌, ◌^◌, ◌<◌, ◌≤◌, ℤ, pos, negsuc, ◌*ℤ◌, List, length, map, get_or, replicate, arith, ap, ◌∙◌, le_refl, le_trans, Bool, true, false, ◌==◌, if◌then◌else◌}
+use Rattle.std.proofs.Common.{◌≡◌, ℕ, ◌*◌, ◌^◌, ◌<◌, ◌≤◌, ℤ, pos, negsuc, ◌*ℤ◌, List, length, map, get_or, arith, ap, ◌∙◌, le_refl, Bool, true, false, ◌==◌, if◌then◌else◌}
 use Rattle.std.specs.List.{range_with_len}
 use Rattle.std.proofs.Math.Nat.{div-one, mul-le-mul}
 use Rattle.std.proofs.lemmas.Int.{ints}
@@ -7,7 +7,7 @@ use Rattle.std.proofs.lemmas.List.{get_or-replicate, same_lists, get_or_default}
 use Rattle.std.proofs.lemmas.List.FromFn.{length-map-range_with_len, get_or-map-range_with_len}
 use Rattle.integer_algebra.specs.Division.{floor_of}
 use Rattle.integer_algebra.specs.Sums.{at}
-use Rattle.qp_model.specs.problem.Limits.{text_version, most_states, most_stages, most_rows}
+use Rattle.qp_model.specs.problem.Limits.{text_version}
 use Rattle.qp_model.specs.declared.design_parts.DesignParts.{DesignParts}
 use Rattle.qp_model.specs.problem.Design.{rows}
 use Rattle.qp_model.specs.problem.Parts.{IsDesign, design_of}

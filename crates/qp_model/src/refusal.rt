@@ -10,23 +10,31 @@ use thiserror::Error;
 /// Why a design with a policy has no controller.
 #[derive(Clone, Copy, PartialEq, Eq, Error)]
 pub enum Refusal {
-    #[error("memory")]
     Memory,
     /// The plan of that corner has less slack than `2^-16` in that row, both counted from 1; it is the first.
-    #[error("no margin")]
     NoMargin { corner: u32, row: u32, slack: Frac },
     /// No exponent of the step is at most 40.
-    #[error("curvature")]
     Curvature,
     /// A run would need `k` steps, more than 4194304.
-    #[error("too many steps")]
     TooManySteps { k: i128 },
     /// The errors of a step cost `eps` over `2^40` with the most bits, which is more than the targets leave.
-    #[error("too fine")]
     TooFine { eps: i128 },
     /// The quantity is above `2^126`.
-    #[error("too wide")]
     TooWide { quantity: Quantity },
+}
+
+// One write of the words: of derived words each variant writes its own.
+impl fmt::Display for Refusal {
+    fn fmt<W: fmt::Write>(&self, f: &mut fmt::Formatter<W>) -> fmt::Result {
+        f.write_str(match self {
+            Refusal::Memory => "memory",
+            Refusal::NoMargin { .. } => "no margin",
+            Refusal::Curvature => "curvature",
+            Refusal::TooManySteps { .. } => "too many steps",
+            Refusal::TooFine { .. } => "too fine",
+            Refusal::TooWide { .. } => "too wide",
+        })
+    }
 }
 
 // An error type has `Debug`, and nothing here prints by it: to write what `Display` does is proved in half the time of a derived one.

@@ -12,7 +12,7 @@ use std::fmt;
 use thiserror::Error;
 
 /// A number of fraction bits, and what the errors of a step cost with it.
-#[derive(Clone, Copy, PartialEq, Eq)]
+#[derive(Clone, Copy)]
 pub struct Choice {
     /// f, the fraction bits.
     pub f: u32,
@@ -21,7 +21,7 @@ pub struct Choice {
 }
 
 /// Even with 48 fraction bits the errors of a step cost `eps` over `2^40`, which is too much.
-#[derive(Clone, Copy, PartialEq, Eq, Error)]
+#[derive(Clone, Copy, Error)]
 #[error("too fine")]
 pub struct TooFine {
     pub eps: i128,

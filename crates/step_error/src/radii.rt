@@ -15,7 +15,7 @@ use mat_int::{Mat, absolute_sum};
 use qp_model::DesignParts;
 
 /// The sums of a form's radii.
-#[derive(Clone, Copy, PartialEq, Eq)]
+#[derive(Clone, Copy)]
 pub struct Radii {
     /// The greatest sum of the radii of a row of the hessian, over `2^40 * cost_scale`.
     pub h_rad: u128,

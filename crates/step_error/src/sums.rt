@@ -22,7 +22,7 @@ use qp_model::{Design, DesignParts, Quantity, Wide, box_magnitude};
 
 /// What the bounds of the rounding errors at each number of fraction bits f are made of, for a condensed form of a design and multipliers
 /// up to `2 R`.
-#[derive(Clone, Copy, PartialEq, Eq)]
+#[derive(Clone, Copy)]
 pub struct ErrorSums {
     /// What the squares of the gradient's errors cost, over `4^f`.
     pub first: u128,

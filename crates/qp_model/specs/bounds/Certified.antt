@@ -1,6 +1,6 @@
 -- What a controller is certified for: the promise of the whole program. It speaks of the plant's trajectories, costs and limits, of all plans over
 -- any denominator, and of the run of the machine; of why its method works it says nothing.
-use Rattle.std.specs.Prelude.{◌≡◌, ℕ, ◌*◌, ◌^◌, ◌<◌, ℤ, pos, ◌+ℤ◌, ◌*ℤ◌, ◌≤ℤ◌, ◌<ℤ◌, List, length}
+use Rattle.std.specs.Prelude.{◌≡◌, ℕ, ◌^◌, ◌<◌, ℤ, pos, ◌+ℤ◌, ◌*ℤ◌, ◌≤ℤ◌, ◌<ℤ◌, List, length}
 use Rattle.integer_algebra.specs.Sums.{at, square}
 use Rattle.qp_model.specs.problem.Design.{Design, rows}
 use Rattle.qp_model.specs.problem.Cost.{cost, cost_scale}

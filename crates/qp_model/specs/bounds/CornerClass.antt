@@ -3,7 +3,7 @@ use Rattle.std.specs.Prelude.{ℕ, ◌^◌, max, Bool, true, false, nat_lt}
 use Rattle.qp_model.specs.problem.Design.{Design, rows}
 use Rattle.qp_model.specs.problem.Sound.{IsSound}
 use Rattle.qp_model.specs.problem.Policy.{Plans, IsPolicyFor}
-use Rattle.qp_model.specs.form.Quantities.{prediction_size, input_floor}
+use Rattle.qp_model.specs.form.Quantities.{prediction_size}
 use Rattle.qp_model.specs.form.Class.{prediction_in}
 use Rattle.qp_model.specs.bounds.CornerSizes.{corner_slack_size, corner_cost_size, fine_corner_slack_size, fine_corner_cost_size}
 use Rattle.qp_model.specs.bounds.Margin.{Shown, simulated, BoundsCorners, IsMarginOf}

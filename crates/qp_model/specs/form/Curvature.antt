@@ -1,5 +1,5 @@
 -- The curvature of the cost, and exponents of the step.
-use Rattle.std.specs.Prelude.{ℕ, ◌-◌, ◌*◌, ◌^◌, ◌<◌, ◌≤◌, ℤ, pos, ◌+ℤ◌, ◌-ℤ◌, ◌*ℤ◌, ◌≤ℤ◌}
+use Rattle.std.specs.Prelude.{ℕ, ◌-◌, ◌*◌, ◌^◌, ◌<◌, ◌≤◌, ℤ, pos, ◌-ℤ◌, ◌*ℤ◌, ◌≤ℤ◌}
 use Rattle.integer_algebra.specs.Sums.{total, square, none}
 use Rattle.qp_model.specs.problem.Design.{Design, CostRow, rows}
 use Rattle.qp_model.specs.problem.Cost.{cost_by, cost_scale}

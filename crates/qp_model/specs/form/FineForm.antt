@@ -1,5 +1,5 @@
 -- The condensed form of a design in enclosures: midpoints and radii over 2^40, for designs whose exact numbers are too long.
-use Rattle.std.specs.Prelude.{◌≡◌, ℕ, zero, suc, ◌+◌, ◌-◌, ◌*◌, ◌/◌, ◌%◌, ◌^◌, ◌<◌, ℤ, pos, negsuc, ◌-ℤ◌, ◌*ℤ◌, unsigned_abs, nat_eq, nat_lt, if◌then◌else◌}
+use Rattle.std.specs.Prelude.{ℕ, zero, suc, ◌+◌, ◌-◌, ◌*◌, ◌/◌, ◌%◌, ◌^◌, ℤ, pos, negsuc, ◌-ℤ◌, ◌*ℤ◌, unsigned_abs, nat_eq, nat_lt, if◌then◌else◌}
 use Rattle.std.specs.Int.{int_min}
 use Rattle.integer_algebra.specs.Sums.{none}
 use Rattle.integer_algebra.specs.Sizes.{amount}
@@ -7,7 +7,7 @@ use Rattle.frac_scaled.specs.Enclosures.{Enclosure, exactly, sum_of, multiple}
 use Rattle.mat_int.specs.Enclosures.{combined, weighted_gram}
 use Rattle.qp_model.specs.problem.Design.{Design, CostRow, LimitRow, entries, rows}
 use Rattle.qp_model.specs.form.Quantities.{greatest, input_floor}
-use Rattle.qp_model.specs.problem.Runs.{unit, counted, counts, bound_at}
+use Rattle.qp_model.specs.problem.Runs.{unit, counts, bound_at}
 use Rattle.qp_model.specs.form.Form.{Form, EnclosesDesign}
 use Rattle.qp_model.specs.problem.Sound.{IsSound}
 

@@ -4,7 +4,7 @@ use Rattle.integer_algebra.specs.Division.{ceil_div}
 use Rattle.qp_model.specs.problem.Design.{Design, entries, rows}
 use Rattle.qp_model.specs.form.Quantities.{growth, cost_width, limit_width, weight_sum, prediction_size, hessian_size, rows_size, input_floor}
 use Rattle.qp_model.specs.problem.Sound.{IsSound}
-use Rattle.qp_model.specs.form.Form.{Form, exact_form, IsFormFor}
+use Rattle.qp_model.specs.form.Form.{exact_form, IsFormFor}
 use Rattle.qp_model.specs.form.CurvatureSize.{covering_exponent, curvature_of}
 use Rattle.qp_model.specs.form.FineForm.{fine_form, hessian_radius}
 

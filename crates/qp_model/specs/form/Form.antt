@@ -1,7 +1,6 @@
 -- The condensed form as it is held: numbers that may be rounded, and how far each may be from the exact one.
-use Rattle.std.specs.Prelude.{◌≡◌, ◌⊎◌, ℕ, ◌+◌, ◌*◌, ◌^◌, ◌<◌, ◌≤◌, min, Bool, true, false, ℤ, pos, ◌+ℤ◌, ◌-ℤ◌, ◌*ℤ◌, ◌≤ℤ◌, unsigned_abs}
+use Rattle.std.specs.Prelude.{◌≡◌, ◌⊎◌, ℕ, ◌+◌, ◌*◌, ◌^◌, ◌<◌, ◌≤◌, min, Bool, true, false, ℤ, pos, ◌-ℤ◌, ◌*ℤ◌, unsigned_abs}
 use Rattle.integer_algebra.specs.Bounds.{IsWithin}
-use Rattle.integer_algebra.specs.Sums.{total, dot, image, square}
 use Rattle.integer_algebra.specs.Sizes.{amount}
 use Rattle.qp_model.specs.problem.Design.{Design, entries, rows}
 use Rattle.qp_model.specs.form.Condensed.{Condensed}

@@ -1,5 +1,5 @@
 -- The numbers of a design that must not pass 2^126, so that no number that is made of it leaves 128 bits.
-use Rattle.std.specs.Prelude.{ℕ, zero, suc, ◌+◌, ◌*◌, ◌^◌, max, min, ℤ, unsigned_abs}
+use Rattle.std.specs.Prelude.{ℕ, zero, suc, ◌+◌, ◌*◌, ◌^◌, max, min, unsigned_abs}
 use Rattle.integer_algebra.specs.Sizes.{size}
 use Rattle.qp_model.specs.problem.Design.{Design, CostRow, LimitRow, entries, rows}
 

@@ -1,5 +1,5 @@
 -- The absolute sums of a controller, which bound each value that its machine meets.
-use Rattle.std.specs.Prelude.{◌≡◌, ℕ, ◌+◌, ◌-◌, ◌*◌, max, ◌^◌, ◌≤◌, ◌<◌, ℤ, List, [], ◌∷◌, ◌++◌, length, map, replicate, unsigned_abs, slice_index_or}
+use Rattle.std.specs.Prelude.{ℕ, ◌+◌, ◌-◌, ◌*◌, max, ◌^◌, ◌≤◌, ℤ, List, [], ◌∷◌, ◌++◌, length, map, replicate, unsigned_abs, slice_index_or}
 use Rattle.std.specs.List.{range_with_len}
 use Rattle.integer_algebra.specs.Division.{ceil_div}
 use Rattle.integer_algebra.specs.Sums.{at}

@@ -1,5 +1,5 @@
 -- The box of initial states.
-use Rattle.std.specs.Prelude.{◌≡◌, ℕ, ◌-◌, ◌/◌, ◌%◌, ◌^◌, ◌<◌, ◌==◌, if◌then◌else◌, ℤ, ◌≤ℤ◌}
+use Rattle.std.specs.Prelude.{ℕ, ◌-◌, ◌/◌, ◌%◌, ◌^◌, ◌<◌, ◌==◌, if◌then◌else◌, ℤ, ◌≤ℤ◌}
 use Rattle.qp_model.specs.problem.Design.{Design}
 
 -- a grid state of the box: each coordinate, over 2^grid, lies between its bounds

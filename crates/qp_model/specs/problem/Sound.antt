@@ -1,5 +1,5 @@
 -- A design whose cost bends up along each input.
-use Rattle.std.specs.Prelude.{ℕ, ◌≤◌, ◌<◌, ℤ, pos, ◌≤ℤ◌}
+use Rattle.std.specs.Prelude.{ℕ, ◌≤◌, ◌<◌, pos, ◌≤ℤ◌}
 use Rattle.qp_model.specs.problem.Design.{Design}
 
 -- the denominators and weights of a design are as they should be, and rho is at most each input's weight

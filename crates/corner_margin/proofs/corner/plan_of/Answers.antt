@@ -1,4 +1,4 @@
-use Rattle.std.proofs.Common.{ℤ, pos, get_or, unsigned_abs, rules, ap, ◌∙◌}
+use Rattle.std.proofs.Common.{◌≡◌, ℤ, pos, length, get_or, unsigned_abs, rules, arith, ap, ◌∙◌}
 use Rattle.std.specs.Int.{w128}
 use mir.Val.{SFits}
 use Rattle.std.proofs.lemmas.Int.{to_z-of_z}
@@ -20,3 +20,14 @@ pub over_unit-requires-clause-fits : goal.over_unit-requires-clause-fits
 over_unit-requires-clause-fits c =
     let f : SFits w128 (get_or c.args.numerators.now c.loop-number.number-index (pos 0)) = search rules in
     rw (to_z-of_z w128 _ f) (product_room c.args.unit _ c.requires.unit (c.requires.small c.loop-number.number-index c.loop-number-test.true))
+
+pub over_unit-requires-clause-divisor : goal.over_unit-requires-clause-divisor
+over_unit-requires-clause-divisor c = rw (to_z-of_z w128 _ c.ranges.over) c.requires.divisor
+
+pub over_unit-requires-clause-unit : goal.over_unit-requires-clause-unit
+over_unit-requires-clause-unit c = omega (arith, c.requires.unit)
+
+pub returns : goal.returns
+returns c =
+    let ended : c.loop-number.number-index ≡ length c.args.numerators.now = omega (arith, c.loop-number-test.false, c.loop-number.auto.number-index-end) in
+    rw (← ended) (rw (to_z-of_z w128 _ c.ranges.over) at c.loop-number.invariant)

@@ -44,3 +44,15 @@ returns-clause-margin c =
     (margin_moved (rows (design_of p)) (c.args.c + 1) (shows_same c.args.fine p s c.args.c c.requires.setting.design c.requires.setting.policy c.requires.corner) margin
     (carried (λ p s u n. IsCornerMargin (shown_over u (design_of p) (plans_of s)) (rows (design_of p)) (n + 1) margin) made.0 made.1 (made.2 ∙ c.unit_of-unit.ensures) made.3
     (record { units = c.in_ok-units.ensures.units; cost = c.in_ok-cost.ensures })))
+
+pub unit_of-unit-requires-clause-corner : goal.unit_of-unit-requires-clause-corner
+unit_of-unit-requires-clause-corner c = c.requires.corner
+
+pub unit_of-unit-requires-clause-design : goal.unit_of-unit-requires-clause-design
+unit_of-unit-requires-clause-design c = c.requires.setting.design
+
+pub unit_of-unit-requires-clause-plans : goal.unit_of-unit-requires-clause-plans
+unit_of-unit-requires-clause-plans c = c.requires.setting.policy
+
+pub unit_of-unit-requires-clause-room : goal.unit_of-unit-requires-clause-room
+unit_of-unit-requires-clause-room c = c.requires.setting.room

@@ -1,4 +1,7 @@
-use Rattle.std.proofs.Common.{ap, sym, subst, ◌∙◌}
+use Rattle.std.proofs.Common.{rules, ap, sym, subst, ◌∙◌}
+use Rattle.std.specs.Int.{w128}
+use Rattle.std.proofs.lemmas.Int.{to_z-of_z}
+use mir.Val.{SFits}
 use Rattle.qp_model.specs.problem.Parts.{design_of}
 use Rattle.qp_model.specs.problem.Policy.{plans_of}
 use Rattle.qp_model.specs.declared.design_parts.DesignParts.{DesignParts}
@@ -51,3 +54,18 @@ returns c =
       exponent = c.in_ok-stepped.ensures.stepped.exponent c.args.design.now c.in_ok-stepped.ensures.stepped.form;
     })
     (c.plain_terms-terms.ensures ∙ ap (λ (p : DesignParts). plain_terms (targets_of p) c.in_ok-margin.margin) c.parts.ensures.value) c.made_with-made.ensures
+
+pub margins-requires : goal.margins-requires
+margins-requires c = c.requires
+
+pub multiplier-requires-clause-cost : goal.multiplier-requires-clause-cost
+multiplier-requires-clause-cost c = c.in_ok-margin.ensures.cost
+
+pub multiplier-requires-clause-units : goal.multiplier-requires-clause-units
+multiplier-requires-clause-units c = c.in_ok-margin.ensures.slack
+
+pub plain_terms-terms-requires-clause-bound : goal.plain_terms-terms-requires-clause-bound
+plain_terms-terms-requires-clause-bound c = let r : SFits w128 c.in_ok-r.r = search rules in rw (to_z-of_z w128 _ r) c.in_ok-r.ensures.value.1
+
+pub plain_terms-terms-requires-clause-room : goal.plain_terms-terms-requires-clause-room
+plain_terms-terms-requires-clause-room c = c.in_ok-r.ensures.value.0

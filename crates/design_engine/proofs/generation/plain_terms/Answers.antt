@@ -21,3 +21,6 @@ returns c =
     terms_same (targets_of c.args.parts.now) c.args.margin.now _ _ _ _ _ (to_z-of_z w128 _ c.ranges.r ∙ c.requires.bound) (to_z-of_z w128 _ h ∙ c.half_target.ensures)
     (to_z-of_z w128 _ e ∙ c.error_limit.ensures ∙ ap (λ (n : ℕ). pos (error_limit (targets_of c.args.parts.now) n)) (whole_is c.args.r _ c.ranges.r c.requires.bound))
     (to_z-of_z w128 _ units) (to_z-of_z w128 _ cost)
+
+pub error_limit-requires-clause-design : goal.error_limit-requires-clause-design
+error_limit-requires-clause-design c = c.requires.design

@@ -77,3 +77,6 @@ returns-clause-encloses c =
     subst (λ (e : Enclosure). EnclosesCombination n coeffs xs c.args.den e) (sym (returns-clause-value c))
     (subst (λ (d : ℤ). EnclosesCombination n coeffs xs d (combined n coeffs xs (unsigned_abs c.args.den))) (divisor_is c.args.den c.requires.divisor)
     (combined_law n coeffs xs (unsigned_abs c.args.den) (omega (arith, ints, c.requires.divisor))))
+
+pub divided-requires-clause-divisor : goal.divided-requires-clause-divisor
+divided-requires-clause-divisor c = rw (to_z-of_z w128 _ c.ranges.den) c.requires.divisor

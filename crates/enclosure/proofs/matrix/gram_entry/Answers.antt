@@ -1,6 +1,6 @@
 use Rattle.std.proofs.Common.{◌≡◌, ℕ, ◌+◌, ◌*◌, ◌<◌, ◌≤ℤ◌, ℤ, pos, unsigned_abs, rules, arith, refl, ap, ap₂, sym, ◌∙◌, FitsSigned, length}
 use Rattle.std.specs.Int.{w128}
-use Rattle.std.proofs.lemmas.Int.{to_z-of_z}
+use Rattle.std.proofs.lemmas.Int.{ints, to_z-of_z, to_z_pos}
 use Rattle.integer_algebra.specs.Sums.{at}
 use Rattle.integer_algebra.proofs.SizeLaws.{amount_more}
 use Rattle.frac_scaled.specs.Enclosures.{Enclosure, sum_of, multiple, whole_product}
@@ -90,3 +90,27 @@ returns-clause-room c =
     let end : c.loop-i.i ≡ length c.args.weights.now = omega (arith, c.loop-i-test.false, c.loop-i.auto.i-end) in
     let most = rw (c.loop-i.invariant.magnitude, end) at c.loop-i.sum.limited in
     (λ h. (limit_is _ _ (whole (goal.at.returns-clause-room c).Start)).0 most, λ h. refl)
+
+pub at-requires-clause-row_in : goal.at-requires-clause-row_in
+at-requires-clause-row_in c = omega (arith, c.requires.shape, c.loop-i-test.true)
+
+pub at-requires-clause-col_in : goal.at-requires-clause-col_in
+at-requires-clause-col_in c = c.requires.row
+
+pub at-requires-in-loop-i-clause-row_in : goal.at-requires-in-loop-i-clause-row_in
+at-requires-in-loop-i-clause-row_in c = omega (arith, c.requires.shape, c.loop-i-test.true)
+
+pub at-requires-in-loop-i-clause-col_in : goal.at-requires-in-loop-i-clause-col_in
+at-requires-in-loop-i-clause-col_in c = c.requires.col
+
+pub returns-in_err-weighted_product-clause-value : goal.returns-in_err-weighted_product-clause-value
+returns-in_err-weighted_product-clause-value c = rw c.from_residual.ensures tt
+
+pub returns-in_err-sum-clause-value : goal.returns-in_err-sum-clause-value
+returns-in_err-sum-clause-value c = rw c.from_residual-in_err-sum.ensures tt
+
+pub divided-requires-clause-divisor : goal.divided-requires-clause-divisor
+divided-requires-clause-divisor c = rw (to_z_pos w128 c.args.den (omega (arith, c.requires.small))) (omega (arith, ints, c.requires.some))
+
+pub overflow_cast-den : goal.overflow_cast-den
+overflow_cast-den c = omega (arith, c.requires.small)

@@ -25,3 +25,15 @@ pub returns-clause-value : goal.returns-clause-value
 returns-clause-value c =
     let end : c.loop-j.j ≡ c.args.x.now.mid.cols = omega (arith, c.cols-cols.ensures, c.loop-j.auto.j-end, c.loop-j-test.false) in
     are_all _ _ _ _ (rw end at c.loop-j.invariant.made)
+
+pub gram_row-requires-clause-shape : goal.gram_row-requires-clause-shape
+gram_row-requires-clause-shape c = c.requires.shape
+
+pub gram_row-requires-clause-signs : goal.gram_row-requires-clause-signs
+gram_row-requires-clause-signs c = c.requires.signs
+
+pub gram_row-requires-clause-some : goal.gram_row-requires-clause-some
+gram_row-requires-clause-some c = c.requires.some
+
+pub gram_row-requires-clause-small : goal.gram_row-requires-clause-small
+gram_row-requires-clause-small c = c.requires.small

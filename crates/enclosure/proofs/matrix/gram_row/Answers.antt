@@ -17,3 +17,18 @@ pub returns-clause-made : goal.returns-clause-made
 returns-clause-made c =
     let end : c.loop-l.l ≡ c.args.x.now.mid.cols = omega (arith, c.cols-l-end.ensures, c.loop-l.auto.l-end, c.loop-l-test.false) in
     are_row _ _ _ _ _ (rw end at c.loop-l.invariant.made)
+
+pub gram_entry-requires-clause-shape : goal.gram_entry-requires-clause-shape
+gram_entry-requires-clause-shape c = c.requires.shape
+
+pub gram_entry-requires-clause-signs : goal.gram_entry-requires-clause-signs
+gram_entry-requires-clause-signs c = c.requires.signs
+
+pub gram_entry-requires-clause-some : goal.gram_entry-requires-clause-some
+gram_entry-requires-clause-some c = c.requires.some
+
+pub gram_entry-requires-clause-small : goal.gram_entry-requires-clause-small
+gram_entry-requires-clause-small c = c.requires.small
+
+pub gram_entry-requires-clause-row : goal.gram_entry-requires-clause-row
+gram_entry-requires-clause-row c = c.requires.row

@@ -23,3 +23,6 @@ returns c =
 
 pub overflow_add-parts : goal.overflow_add-parts
 overflow_add-parts c = grind (arith, common_steps)
+
+pub entry_absolute_sum-requires-clause-in_range : goal.entry_absolute_sum-requires-clause-in_range
+entry_absolute_sum-requires-clause-in_range c = c.requires.in_range

@@ -48,3 +48,12 @@ returns-clause-wide c = grind (arith, greatest_steps)
 
 pub returns-clause-greatest : goal.returns-clause-greatest
 returns-clause-greatest c = grind (arith, greatest_steps)
+
+pub entry_absolute_sum-requires-clause-sized : goal.entry_absolute_sum-requires-clause-sized
+entry_absolute_sum-requires-clause-sized c = c.requires.sized
+
+pub entry_absolute_sum-requires-clause-states : goal.entry_absolute_sum-requires-clause-states
+entry_absolute_sum-requires-clause-states c = c.requires.states
+
+pub entry_absolute_sum-requires-clause-clamps : goal.entry_absolute_sum-requires-clause-clamps
+entry_absolute_sum-requires-clause-clamps c = c.requires.clamps

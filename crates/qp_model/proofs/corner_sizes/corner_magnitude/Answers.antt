@@ -1,13 +1,10 @@
-use Rattle.std.proofs.Common.{◌≡◌, ◌≤◌, ◌<◌, ◌*◌, ◌^◌, max, ℕ, ℤ, pos, length, unsigned_abs, rules, arith, ap, ◌∙◌, sym, refl}
+use Rattle.std.proofs.Common.{◌≤◌, ◌^◌, pos, rules, arith, ◌∙◌, sym, refl}
 use Rattle.std.specs.Int.{w128}
 use mir.Val.{SFits}
 use Rattle.std.proofs.lemmas.Int.{to_z-of_z}
 use Rattle.integer_algebra.specs.Sums.{at}
-use Rattle.mat_int.specs.Matrix.{entry_of}
-use Rattle.qp_model.specs.problem.Design.{entries}
 use Rattle.qp_model.specs.problem.Parts.{design_of}
 use Rattle.qp_model.specs.problem.Policy.{plans_of}
-use Rattle.qp_model.specs.form.Quantities.{greatest}
 use Rattle.qp_model.proofs.CornerFacts.{grid_small, grid_is, product_small, denominator_size, over_is, entries_is}
 use Rattle.qp_model.proofs.corner_sizes.corner_magnitude.Goals as goal
 

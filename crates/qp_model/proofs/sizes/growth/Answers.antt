@@ -1,4 +1,4 @@
-use Rattle.std.proofs.Common.{◌≡◌, ◌+◌, max, length, unsigned_abs, arith, rules, refl, ◌∙◌, ap, FitsSigned}
+use Rattle.std.proofs.Common.{◌≡◌, ◌+◌, max, unsigned_abs, arith, rules, refl, ◌∙◌, ap, FitsSigned}
 use Rattle.std.specs.Int.{w128}
 use Rattle.std.proofs.lemmas.Int.{to_z-of_z}
 use Rattle.integer_algebra.specs.Sizes.{size}

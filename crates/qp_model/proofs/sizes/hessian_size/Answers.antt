@@ -1,9 +1,9 @@
-use Rattle.std.proofs.Common.{◌≡◌, ℕ, ◌+◌, ◌*◌, ◌^◌, ◌<◌, ◌≤◌, ◌∙◌, sym, subst, arith, refl}
+use Rattle.std.proofs.Common.{ℕ, ◌+◌, ◌*◌, ◌^◌, ◌<◌, ◌≤◌, ◌∙◌, sym, subst, arith, refl}
 use Rattle.std.proofs.Math.Nat.{mul-le-mul, one-le-mul}
 use Rattle.std.specs.Option.{SomeIff}
 use Rattle.qp_model.specs.problem.Design.{entries}
 use Rattle.qp_model.specs.problem.Parts.{design_of}
-use Rattle.qp_model.specs.form.Quantities.{growth, cost_width, weight_sum, prediction_size, hessian_size}
+use Rattle.qp_model.specs.form.Quantities.{cost_width, weight_sum, prediction_size}
 use Rattle.qp_model.proofs.VersionLaws.{design_states_le, design_entries_le}
 use Rattle.qp_model.proofs.SizeFacts.{hessian_parts, hessian_value, some_weight, some_cost, some_entry}
 use Rattle.qp_model.proofs.sizes.hessian_size.Goals as goal

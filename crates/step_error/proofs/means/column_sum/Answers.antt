@@ -15,3 +15,9 @@ added-sum-requires-clause-whole c =
     let a = c.args in
     let inside : c.loop-i.i < length a.exps.now = omega arith in
     omega (arith, amount_next c.loop-i.i (length a.exps.now) (λ i. farthest_entry a.rows.now a.radii.now i a.j) inside, c.farthest_at.ensures, c.loop-i.invariant.whole, c.requires.small)
+
+pub farthest_at-requires-clause-pair : goal.farthest_at-requires-clause-pair
+farthest_at-requires-clause-pair c = c.requires.pair
+
+pub added-sum-requires-clause-exponent : goal.added-sum-requires-clause-exponent
+added-sum-requires-clause-exponent c = c.requires.exponent

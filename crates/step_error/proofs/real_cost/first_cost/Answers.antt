@@ -25,6 +25,22 @@ squares-requires-clause-small c = under (positive _ c.args.gains.now.made.system
     under : {a b : ℕ} → 1 ≤ a → a * b ≤ 2 ^ 126 → b ≤ 2 ^ 126
     under {a} {b} h k = omega (arith, mul-le-mul_right b h, k)
 
+pub squares-requires-clause-room : goal.squares-requires-clause-room
+squares-requires-clause-room c =
+    let some : c.has_room.result ≡ true = search rules in
+    sym c.has_room.ensures ∙ some
+
+pub overflow_mul-squares : goal.overflow_mul-squares
+overflow_mul-squares c =
+    let g = c.args.gains.now in
+    let h = held g.c.now in
+    let f : SFits w128 g.c.now.weight_den = search rules in
+    let weight = read_size _ _ f c.unsigned_abs.ensures.value in
+    close (within_of (λ i. weight i * c.squares.ensures i) c.requires.small)
+  where
+    close : {a : ℕ} → a ≤ 2 ^ 126 → Fits w128 a
+    close {a} h = omega (arith, h)
+
 pub overflow_mul-e : goal.overflow_mul-e
 overflow_mul-e c = omega (arith, (bounded c.args.e.now c.requires.sums).weight)
 
@@ -55,3 +71,6 @@ overflow_mul-result c = close (within_of (value c) c.requires.cost) (first_room 
 
 pub returns : goal.returns
 returns c = value c
+
+pub squares-requires-clause-means : goal.squares-requires-clause-means
+squares-requires-clause-means c = c.requires.means

@@ -1,6 +1,7 @@
-use Rattle.std.proofs.Common.{rules, ◌≡◌, ℕ, ◌+◌, ◌*◌, ◌^◌, ◌<◌, length, arith, ap, ◌∙◌, sym}
+use Rattle.std.proofs.Common.{rules, ◌≡◌, ℤ, pos, ◌≤ℤ◌, unsigned_abs, ℕ, ◌+◌, ◌*◌, ◌^◌, ◌<◌, length, arith, ap, ◌∙◌, refl, sym}
 use Rattle.std.specs.Int.{w128}
 use mir.Val.{SFits}
+use Rattle.std.proofs.lemmas.Int.{ints}
 use Rattle.integer_algebra.specs.Sizes.{amount}
 use Rattle.integer_algebra.proofs.PowerLaws.{pow-two}
 use Rattle.integer_algebra.proofs.SizeLaws.{amount_next, amount_more}
@@ -11,7 +12,8 @@ use Rattle.condensed_form.specs.Form.{held}
 use Rattle.step_error.specs.CarriedErrors.{mean_error}
 use Rattle.step_error.specs.RunSums.{error_with_mean}
 use Rattle.step_error.proofs.SumFacts.{read_size, within_of}
-use Rattle.step_error.proofs.DesignSums.{hessian_row_small}
+use Rattle.step_error.proofs.Ceilings.{positive_by}
+use Rattle.step_error.proofs.DesignSums.{hessian_pair, square, hessian_row_small, scale_one}
 use Rattle.step_error.proofs.RunLaws.{one_of, square_of, part_of}
 use Rattle.step_error.proofs.runs.mean_squares.Goals as goal
 
@@ -19,6 +21,46 @@ use Rattle.step_error.proofs.runs.mean_squares.Goals as goal
 pub gradient_error-requires-clause-small : goal.gradient_error-requires-clause-small
 gradient_error-requires-clause-small c =
     hessian_row_small (is_fine (design_of c.args.parts.now)) c.args.parts.now c.args.c.now c.requires.form c.loop-j.j (omega (arith, c.loop-j-test.true, c.rows-j-end.ensures.count))
+
+pub gradient_error-requires-clause-pair : goal.gradient_error-requires-clause-pair
+gradient_error-requires-clause-pair c = hessian_pair (is_fine (design_of c.args.parts.now)) c.args.parts.now c.args.c.now c.requires.form
+
+pub gradient_error-requires-clause-square : goal.gradient_error-requires-clause-square
+gradient_error-requires-clause-square c = square (is_fine (design_of c.args.parts.now)) c.args.parts.now c.args.c.now c.requires.form
+
+pub gradient_error-requires-clause-inside : goal.gradient_error-requires-clause-inside
+gradient_error-requires-clause-inside c = omega (arith, c.loop-j-test.true, c.rows-j-end.ensures.count)
+
+pub gradient_error-requires-clause-some : goal.gradient_error-requires-clause-some
+gradient_error-requires-clause-some c =
+    let f : SFits w128 c.args.c.now.hess_den = search rules in
+    positive_by (read_size _ _ f c.unsigned_abs-scale.ensures.value) (scale_one (is_fine (design_of c.args.parts.now)) c.args.parts.now c.args.c.now c.requires.form)
+
+pub gradient_error-requires-clause-scale : goal.gradient_error-requires-clause-scale
+gradient_error-requires-clause-scale c =
+    let f : SFits w128 c.args.c.now.hess_den = search rules in
+    below c.args.c.now.hess_den _ f c.requires.form.denominators.hess_den (read_size _ _ f c.unsigned_abs-scale.ensures.value)
+  where
+    below : (z : ℤ) (n : ℕ) → SFits w128 z → pos 1 ≤ℤ z → n ≡ unsigned_abs z → n < 2 ^ 127
+    below z n f h e = omega (arith, ints, f, h, e)
+
+pub mean_error-requires-clause-form : goal.mean_error-requires-clause-form
+mean_error-requires-clause-form c = c.requires.form
+
+pub mean_error-requires-clause-inside : goal.mean_error-requires-clause-inside
+mean_error-requires-clause-inside c = omega (arith, c.loop-j-test.true, c.rows-j-end.ensures.count)
+
+pub mean_error-requires-clause-count : goal.mean_error-requires-clause-count
+mean_error-requires-clause-count c = c.requires.count
+
+pub mean_error-requires-clause-exponents : goal.mean_error-requires-clause-exponents
+mean_error-requires-clause-exponents c = c.requires.exponents
+
+pub mean_error-requires-clause-exponent : goal.mean_error-requires-clause-exponent
+mean_error-requires-clause-exponent c = c.requires.exponent
+
+pub loop-j-init : goal.loop-j-init
+loop-j-init c = record { is = refl; small = omega arith }
 
 -- ---- no sum, and the reason
 pub returns-in_err-own : goal.returns-in_err-own

@@ -51,3 +51,12 @@ returns-clause-given c =
 
 pub returns-clause-named : goal.returns-clause-named
 returns-clause-named c = rw c.ok_or.ensures.value (named c.sums_of_run.result _ refl)
+
+pub sums_of_run-requires-clause-count : goal.sums_of_run-requires-clause-count
+sums_of_run-requires-clause-count c = c.requires.count
+
+pub sums_of_run-requires-clause-exponents : goal.sums_of_run-requires-clause-exponents
+sums_of_run-requires-clause-exponents c = c.requires.exponents
+
+pub sums_of_run-requires-clause-exponent : goal.sums_of_run-requires-clause-exponent
+sums_of_run-requires-clause-exponent c = c.requires.exponent

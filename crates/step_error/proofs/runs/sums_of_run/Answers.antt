@@ -53,3 +53,30 @@ returns c =
     subst (λ (v : ℕ × ℕ). MatchOption c.carried_sums.result (¬ (run_size_by d h c.args.r v.0 v.1 ≤ 2 ^ 126))
     (λ e. (run_size_by d h c.args.r v.0 v.1 ≤ 2 ^ 126) × (sums_of e ≡ sums_by d h c.args.r v.0 v.1)))
     (λ i. (c.carry_of.ensures.value i, errors i)) c.carried_sums.ensures
+
+pub mean_squares-requires-clause-form : goal.mean_squares-requires-clause-form
+mean_squares-requires-clause-form c = c.requires.form
+
+pub mean_squares-requires-clause-count : goal.mean_squares-requires-clause-count
+mean_squares-requires-clause-count c = c.requires.count
+
+pub mean_squares-requires-clause-exponents : goal.mean_squares-requires-clause-exponents
+mean_squares-requires-clause-exponents c = c.requires.exponents
+
+pub mean_squares-requires-clause-exponent : goal.mean_squares-requires-clause-exponent
+mean_squares-requires-clause-exponent c = c.requires.exponent
+
+pub carried_sums-requires-clause-form : goal.carried_sums-requires-clause-form
+carried_sums-requires-clause-form c = c.requires.form
+
+pub carried_sums-requires-clause-some : goal.carried_sums-requires-clause-some
+carried_sums-requires-clause-some c = c.requires.some
+
+pub carried_sums-requires-clause-narrow : goal.carried_sums-requires-clause-narrow
+carried_sums-requires-clause-narrow c = c.requires.narrow
+
+pub carried_sums-requires-clause-step : goal.carried_sums-requires-clause-step
+carried_sums-requires-clause-step c = c.requires.step
+
+pub carried_sums-requires-clause-room : goal.carried_sums-requires-clause-room
+carried_sums-requires-clause-room c = c.requires.room

@@ -7,7 +7,7 @@ use Rattle.mat_int.specs.Matrix.{entry_of}
 use Rattle.qp_model.specs.form.Form.{farthest}
 use Rattle.qp_model.proofs.SizeFacts.{positive}
 use Rattle.condensed_form.specs.Form.{held}
-use Rattle.step_error.proofs.Ceilings.{quotient_is, ceil_small, ceil_twice}
+use Rattle.step_error.proofs.Ceilings.{quotient_is, ceil_small, ceil_twice, positive_by}
 use Rattle.step_error.proofs.SumFacts.{read_size}
 use Rattle.step_error.specs.Gains.{gain_at, missed_sum}
 use Rattle.step_error.proofs.GainRooms.{sum_small, through}
@@ -56,3 +56,30 @@ overflow_add-result c =
   where
     close : {a b x y : ℕ} → a ≡ x → b ≡ y → x ≤ 2 ^ 125 → y ≤ 2 ^ 126 → Fits w128 (a + b)
     close {a} {b} {x} {y} e g h k = omega (arith, e, g, h, k)
+
+pub missed_sum-requires-clause-entry : goal.missed_sum-requires-clause-entry
+missed_sum-requires-clause-entry c = c.requires.entry
+
+pub missed_sum-requires-clause-room : goal.missed_sum-requires-clause-room
+missed_sum-requires-clause-room c = c.requires.room
+
+pub farthest_row-requires-clause-pair : goal.farthest_row-requires-clause-pair
+farthest_row-requires-clause-pair c = c.args.self.now.made.systems.pair
+
+pub farthest_row-requires-clause-inside : goal.farthest_row-requires-clause-inside
+farthest_row-requires-clause-inside c = omega (arith, c.requires.entry)
+
+pub div_ceil-missed-requires : goal.div_ceil-missed-requires
+div_ceil-missed-requires c =
+    let f : SFits w128 c.args.self.now.c.now.limit_den = search rules in
+    positive_by (read_size _ _ f c.unsigned_abs.ensures.value) (positive _ c.args.self.now.made.systems.limit_den)
+
+pub div_ceil-requires : goal.div_ceil-requires
+div_ceil-requires c =
+    let f : SFits w128 c.args.self.now.c.now.hess_den = search rules in
+    positive_by (read_size _ _ f c.unsigned_abs-hess_den.ensures.value) (positive _ c.args.self.now.made.systems.hess_den)
+
+pub div_ceil-requires-2 : goal.div_ceil-requires-2
+div_ceil-requires-2 c =
+    let f : SFits w128 c.args.self.now.c.now.hess_den = search rules in
+    positive_by (read_size _ _ f c.unsigned_abs-hess_den.ensures.value) (positive _ c.args.self.now.made.systems.hess_den)

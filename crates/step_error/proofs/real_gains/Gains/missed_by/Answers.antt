@@ -18,3 +18,6 @@ overflow_add-sum c =
   where
     close : {s m a b n t : ℕ} → a + b ≤ n → s ≡ a → m ≡ b → 2 * n ≤ t → t ≤ 2 ^ 128 → Fits w128 (s + m)
     close {s} {m} {a} {b} {n} {t} h e g k l = omega (arith, h, e, g, k, l)
+
+pub missed-sum-requires-clause-entry : goal.missed-sum-requires-clause-entry
+missed-sum-requires-clause-entry c = c.requires.entry

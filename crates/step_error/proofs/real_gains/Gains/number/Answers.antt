@@ -56,3 +56,27 @@ row_number-requires-clause-small c =
     let beyond : self.c.now.lin.cols < c.args.i = omega (arith, c.if-i-states.false, c.if-i-states-2.false, c.cols-states.ensures) in
     rw (to_z-of_z w128 _ a, c.at-else-i-states-2.ensures, c.cols-states.ensures, ← (row_number self.c.now c.args.i c.args.j beyond))
     (number_small self.c.now _ _ _ _ _ _ self.made c.args.i c.args.j c.requires.column c.requires.entry)
+
+pub at-requires-clause-row_in : goal.at-requires-clause-row_in
+at-requires-clause-row_in c = omega (arith, c.requires.entry, c.args.self.now.made.systems.shapes.lin.rows)
+
+pub at-requires-clause-col_in : goal.at-requires-clause-col_in
+at-requires-clause-col_in c = omega (arith, c.if-i-states.true, c.cols-states.ensures)
+
+pub overflow_sub-i : goal.overflow_sub-i
+overflow_sub-i c = omega (arith, c.if-i-states.false, c.if-i-states-2.false)
+
+pub at-requires-else-i-states-2-clause-row_in : goal.at-requires-else-i-states-2-clause-row_in
+at-requires-else-i-states-2-clause-row_in c = omega (arith, c.requires.column, c.if-i-states.false, c.if-i-states-2.false, c.cols-states.ensures)
+
+pub at-requires-else-i-states-2-clause-col_in : goal.at-requires-else-i-states-2-clause-col_in
+at-requires-else-i-states-2-clause-col_in c = omega (arith, c.requires.entry, c.args.self.now.made.systems.shapes.g.cols)
+
+pub row_number-requires-clause-weight : goal.row_number-requires-clause-weight
+row_number-requires-clause-weight c = c.args.self.now.made.systems.weight_den
+
+pub row_number-requires-clause-row : goal.row_number-requires-clause-row
+row_number-requires-clause-row c = c.args.self.now.made.systems.cost_row_den
+
+pub row_number-requires-clause-power : goal.row_number-requires-clause-power
+row_number-requires-clause-power c = c.args.self.now.made.systems.power

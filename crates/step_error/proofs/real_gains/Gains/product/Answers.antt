@@ -52,3 +52,6 @@ loop-l-preserved c =
       to_z-of_z w128 _ sum,
       total_more c.loop-l.l (λ k. entry_of self.c.now.hess c.args.j k *ℤ gain_at self.p_mat.now self.t.now self.w_mat.now c.args.i k),
     ) refl
+
+pub gain-requires-clause-column : goal.gain-requires-clause-column
+gain-requires-clause-column c = c.requires.column
