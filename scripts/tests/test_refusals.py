@@ -730,10 +730,13 @@ mkdir -p crates/mpc_generate/out; printf '#!/bin/bash\necho built\n' >crates/mpc
     def test_table_is_the_program_s(self):
         """The table of commands has the words, the counts and the outputs that the program's definitions have, and help lists the same."""
         with open(os.path.join(TOP, "crates/command_line/specs/Words.antt"), encoding="utf-8") as file:
-            records = re.findall(r"pub record Is\w+ .*\n((?:  pub .*\n)+)", file.read())
+            definitions = file.read()
         counts: dict[str, set[int]] = {}
         written: dict[str, set[int]] = {}
-        for record in records:
+        for command, count, places in re.findall(r'= Is(?:Named|Writing) words \(codes "(\w+)"\) (\d+|\(.*?\))((?: \d+)*)$', definitions, re.MULTILINE):
+            counts.setdefault(command, set()).update(int(n) - 1 for n in re.findall(r"\d+", count))
+            written.setdefault(command, set()).update(int(at) for at in places.split())
+        for record in re.findall(r"pub record Is\w+ .*\n((?:  pub .*\n)+)", definitions):
             command = re.search(r'command : word_of words 0 ≡ codes "(\w+)"', record)
             if not command:
                 continue

@@ -8,7 +8,7 @@ use Rattle.serde_json.specs.Data.{depth, items_depth, members_depth}
 use Rattle.serde_json.specs.Read.{max_depth}
 use Rattle.serde_json.specs.Written.{compact_text, items_text, members_text, has_float, items_have_float}
 use Rattle.qp_model.specs.bounds.Printed.{Printed}
-use Rattle.bound_report.specs.Report.{Figure, One, Each, first_members, last_members, json_members, number_string, figure_text, member, report_json}
+use Rattle.bound_report.specs.Report.{Figure, One, Each, json_members, number_string, figure_text, member, report_json}
 use Rattle.bound_report.specs.Document.{strings_of, value_of, members_of, object_of}
 use Rattle.bound_report.proofs.KeyLaws.{plain_by}
 

@@ -19,8 +19,7 @@ use Rattle.plan_lines.proofs.LineByLine.{longer, after}
 use Rattle.plan_lines.proofs.Acting.{lines_told, lines_ended, lines_shown}
 use Rattle.plan_lines.proofs.PlanLines.{line_some, lines_as, no_plan_yet}
 use Rattle.command_line.proofs.Results.{both_some}
-use Rattle.command_demo.specs.Deeds.{demo_deeds}
-use Rattle.command_demo.specs.Demo.{IsShown, IsPrefixShown, IsTextPrinted, PrintsOf, DemoPrints}
+use Rattle.command_demo.specs.Demo.{IsShown, IsPrefixShown, IsTextPrinted, PrintsOf, DemoPrints, demo_deeds}
 use Rattle.command_line.specs.declared.status.Status.{Status}
 use Rattle.command_line.specs.declared.status.Status.TheVariants.{Done, Memory, WriteFault}
 
@@ -112,9 +111,5 @@ module _ (c : Numbers) (b : Printed) (states : Matrix) where
   prints_told number s None last is ends p = tt
 
 -- nothing is printed
-quiet : (number : ℕ) (s : Status) (old : List ℕ) → (s ≡ Done → ⊥) → (s ≡ WriteFault 0 → ⊥) → DemoPrints number s old old
+pub quiet : (number : ℕ) (s : Status) (old : List ℕ) → (s ≡ Done → ⊥) → (s ≡ WriteFault 0 → ⊥) → DemoPrints number s old old
 quiet number s old done fault = record { done = λ is. absurd (done is); fault = λ is. absurd (fault is); memory = λ is. inl refl; other = λ d f m. refl }
-
-pub quiet_told : (number : ℕ) (s : Status) (got : Option (List ℕ)) → (s ≡ Done → ⊥) → (s ≡ WriteFault 0 → ⊥) → IfSome got (λ old. IsSomeAnd got (DemoPrints number s old))
-quiet_told number s (Some old) done fault = quiet number s old done fault
-quiet_told number s None done fault = tt

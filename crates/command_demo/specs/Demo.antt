@@ -15,6 +15,8 @@ use Rattle.design_maker.specs.Texts.{design_text, policy_text, states_text}
 use Rattle.plan_lines.specs.Lines.{plan_lines}
 use Rattle.plan_lines.specs.Inside.{AreInside}
 use Rattle.command_generate.specs.Made.{MakingCalls, IsMadeOf}
+use Rattle.command_line.specs.Deeds.{Deeds}
+use Rattle.command_line.specs.Script.{Act, ends, printing_act, Work, printing_work, deeds_of_work}
 use Rattle.command_line.specs.declared.status.Status.{Status}
 use Rattle.command_line.specs.declared.status.Status.TheVariants.{Done, Memory, WriteFault}
 
@@ -72,3 +74,13 @@ pub record DemoPrints (number : ℕ) (s : Status) (old new : List ℕ) : Type 0 
   pub fault : s ≡ WriteFault 0 → PrintsOf number s old new
   pub memory : s ≡ Memory → (new ≡ old) ⊎ PrintsOf number s old new
   pub other : s ≢ Done → s ≢ WriteFault 0 → s ≢ Memory → new ≡ old
+
+-- ---- its row of the table of commands: it reads no file
+abbrev pub demo_act : (number : ℕ) → Act
+demo_act number = printing_act (DemoCalls number) (DemoCalls number Done) (DemoPrints number)
+
+abbrev pub demo_work : (number : ℕ) → Work
+demo_work number = printing_work (ends (demo_act number)) (λ s. ⊥)
+
+abbrev pub demo_deeds : (number : ℕ) → Deeds
+demo_deeds number = deeds_of_work (demo_work number)

@@ -1,3 +1,2 @@
 pub mod Demo
 pub mod Making
-pub mod Deeds

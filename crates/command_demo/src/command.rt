@@ -1,10 +1,9 @@
 // `demo` with its number.
-ghost use Rattle.std.specs.Prelude.{◌≡◌, ◌≢◌, ℕ, ◌≤◌, IfSome, IsSomeAnd};
-ghost use Rattle.io_edge.specs.Faults.{Rose};
+ghost use Rattle.std.specs.Prelude.{ℕ};
 ghost use Rattle.qp_model.specs.problem.Policy.{plans_of};
 ghost use Rattle.design_maker.specs.Texts.{policy_text, states_text};
-ghost use Rattle.command_line.specs.Answers.{IsAnswer, IsCaused};
-ghost use Rattle.command_demo.specs.Demo.{demo_stages, DemoCalls, DemoPrints};
+ghost use Rattle.command_line.specs.Does.{Prints};
+ghost use Rattle.command_demo.specs.Demo.{demo_stages, demo_act, demo_deeds};
 ghost use Rattle.command_demo.specs.Making.{AreOnlyMade, AreReadOf};
 
 use crate::inputs::{Inputs, inputs_of};
@@ -17,16 +16,7 @@ use std::alloc::Global;
 /// Makes the texts of a design, a policy and four states from a number, and a controller of them, and prints the report of its bounds and the
 /// line of the averaged plan from each state. It reads and writes no file.
 pub fn demo<O: Sink>(alloc: Global, number: u32, out: &mut O) -> Status
-    // Why: by the made texts this answer is called for, and no other.
-    ensures called { IsCaused result → IsAnswer (DemoCalls number) result }
-    // What the output got.
-    ensures prints { IfSome (O.got out.old) (λ old. IsSomeAnd (O.got out.new) (DemoPrints number result old)) }
-    ensures quiet { result ≢ Status.Done → result ≢ Status.Memory → result ≢ Status.WriteFault 0 → out.new ≡ out.old }
-    // Faults.
-    ensures no_read { (file : ℕ) → result ≢ Status.ReadFault file }
-    ensures write_fault { (file : ℕ) → result ≡ Status.WriteFault file →
-        (file ≡ 0) × DemoCalls number Status.Done × Rose (O.faults out.old) (O.faults out.new) }
-    ensures no_fewer { O.faults out.old ≤ O.faults out.new }
+    ensures { Prints O.Sink (demo_deeds number) out.old out.new result (demo_act number) }
 {
     let Ok(inputs) = inputs_of(alloc, number) else {
         return Status::Memory;
@@ -37,15 +27,8 @@ pub fn demo<O: Sink>(alloc: Global, number: u32, out: &mut O) -> Status
 // Makes a controller of these inputs, and prints the text. They are borrowed here, so that they end on one path alone.
 fn demo_of<O: Sink>(alloc: Global, inputs: &Inputs, out: &mut O) -> Status
     requires { AreReadOf (policy_text demo_stages) states_text inputs.now }
-    ensures called { (number : ℕ) → AreOnlyMade number inputs.now.design (plans_of inputs.now.policy) →
-        IsCaused result → IsAnswer (DemoCalls number) result }
-    ensures prints { (number : ℕ) → AreOnlyMade number inputs.now.design (plans_of inputs.now.policy)
-        → IfSome (O.got out.old) (λ old. IsSomeAnd (O.got out.new) (DemoPrints number result old)) }
-    ensures quiet { result ≢ Status.Done → result ≢ Status.Memory → result ≢ Status.WriteFault 0 → out.new ≡ out.old }
-    ensures no_read { (file : ℕ) → result ≢ Status.ReadFault file }
-    ensures write_fault { (number : ℕ) → AreOnlyMade number inputs.now.design (plans_of inputs.now.policy)
-        → (file : ℕ) → result ≡ Status.WriteFault file → (file ≡ 0) × DemoCalls number Status.Done × Rose (O.faults out.old) (O.faults out.new) }
-    ensures no_fewer { O.faults out.old ≤ O.faults out.new }
+    ensures { (number : ℕ) → AreOnlyMade number inputs.now.design (plans_of inputs.now.policy) →
+        Prints O.Sink (demo_deeds number) out.old out.new result (demo_act number) }
 {
     match make_controller(alloc, &inputs.design, &inputs.policy) {
         Ok(made) => print_text(alloc, &made.controller, &made.bounds, &inputs.states, out),

@@ -1,5 +1,4 @@
 // What was read of a text, or the status that tells of its first fault.
-ghost use Rattle.std.specs.Prelude.{◌≡◌, ◌≢◌, ◌⊎◌};
 ghost use Rattle.command_design_files.specs.Texts.{TellsText, TellsController, IsToldBy};
 
 use command_line::Status;

@@ -3,28 +3,20 @@ use Rattle.std.specs.Prelude.{◌≡◌, ℕ, ℤ, List, Option}
 use Rattle.mat_int.specs.Matrix.{Matrix}
 use Rattle.qp_model.specs.problem.Design.{Design}
 use Rattle.qp_model.specs.problem.Policy.{Plans}
-use Rattle.qp_model.specs.machine.Controller.{Numbers}
-use Rattle.qp_model.specs.text.ControllerText.{IsControllerText}
 use Rattle.controller_text.specs.declared.bad_controller.BadController.{BadController}
 use Rattle.controller_text.specs.declared.bad_controller.BadController.TheVariants.{Line, Unsafe, Memory}
 use Rattle.controller_file.specs.AnyText.{IsAnyControllerText}
 use Rattle.controller_file.specs.declared.any_controller.AnyController.{AnyController}
 use Rattle.policy_file.specs.StatesText.{IsStatesText}
 use Rattle.cell_file.specs.Text.{IsCellsText}
-use Rattle.stay_check.specs.FaceForms.{FaceNumbers}
-use Rattle.stay_check.specs.FacesText.{IsFacesText}
 use Rattle.cell_split.specs.CutsText.{IsCutsText}
 use Rattle.cell_split.specs.PoliciesText.{ArePolicies}
 use Rattle.state_files.specs.RangeText.{IsRangeText}
-use Rattle.state_files.specs.TurnText.{IsShiftsText}
 use Rattle.command_line.specs.declared.status.Status.{Status}
 use Rattle.command_line.specs.declared.status.Status.TheVariants.{Controller}
 
 -- ---- controllers, one or those of cells
-abbrev pub ControllerRight : Numbers → List ℕ → Type 0
-ControllerRight c bytes = IsControllerText bytes c
-
--- of any version
+-- a controller of any version
 abbrev pub AnyControllerRight : AnyController → List ℕ → Type 0
 AnyControllerRight k bytes = IsAnyControllerText bytes k
 
@@ -46,17 +38,9 @@ ControllersWrong IsBad IsWide file bytes s = (fault : BadController) × IsFaultB
 abbrev pub StatesRight : ℕ → Matrix → List ℕ → Type 0
 StatesRight n states bytes = IsStatesText bytes n states
 
--- faces for a design
-abbrev pub FacesRight : Design → FaceNumbers → List ℕ → Type 0
-FacesRight d faces bytes = IsFacesText bytes d faces
-
 -- a range of the shifts of n coordinates
 abbrev pub RangeRight : ℕ → Matrix → List ℕ → Type 0
 RangeRight n range bytes = IsRangeText bytes n range
-
--- shifts of n coordinates after each of so many turns
-abbrev pub ShiftsRight : (n turns : ℕ) → Matrix → List ℕ → Type 0
-ShiftsRight n turns shifts bytes = IsShiftsText bytes n turns shifts
 
 -- cuts of a design's box
 abbrev pub CutsRight : Design → List (List ℤ) → List ℕ → Type 0

@@ -1,14 +1,11 @@
 -- What a run does, from less: that it doesn't give up, and what its answer doesn't say, follow from what is called for and from the faults.
-use Rattle.std.proofs.Common.{◌≡◌, ◌≢◌, ◌⊎◌, inl, inr, ℕ, ◌<◌, ◌≤◌, List, Option, Some, None, refl, sym, ap, le_refl, arith}
+use Rattle.std.proofs.Common.{◌≡◌, ◌≢◌, ◌⊎◌, inl, inr, ℕ, ◌<◌, List, Option, Some, None, refl, sym, ap, le_refl, arith}
 use Rattle.std.specs.Prelude.{IfSome, IsSomeAnd}
 use Rattle.io_edge.specs.Faults.{Files, Rose, NoneFalls}
-use Rattle.io_edge.specs.declared.store.Store.{Ghosts as Disk}
-use Rattle.io_edge.specs.declared.sink.Sink.{Ghosts as Screen}
 use Rattle.command_line.specs.Words.{word_of}
 use Rattle.command_line.specs.Answers.{Contents, ForContents, IsAnswer, IsCaused}
-use Rattle.command_line.specs.Deeds.{Deeds, IsCalledFor, UsesNoFile, IsBeforePrinting, WriteFailed, NoneRises}
-use Rattle.command_line.specs.Does.{IsTelling, Does}
-use Rattle.command_line.proofs.Composing.{some_contents}
+use Rattle.command_line.specs.Deeds.{Deeds, IsCalledFor, WriteFailed, NoneRises}
+use Rattle.command_line.specs.Does.{IsTelling}
 use Rattle.command_line.specs.declared.status.Status.{Status}
 use Rattle.command_line.specs.declared.status.Status.TheVariants.{Done, Memory, Usage, ReadFault, WriteFault, Text, Controller}
 use Rattle.number_text.specs.declared.text_fault.TextFault.TheVariants.{Memory as no_room}
@@ -105,48 +102,6 @@ pub unshown : (got : Option (List ℕ)) (P : (old new : List ℕ) → Type 0) �
 unshown (Some old) P h = h old
 unshown None P h = tt
 
--- what it has, if that rests on no file
-pub shown_anyhow : (words : List (List ℕ)) (held : Option Files) (before now : Option (List ℕ)) (P : (old new : List ℕ) → Type 0) → IfSome before (λ old. IsSomeAnd now (P old)) →
-    IfSome before (λ old. IsSomeAnd now (λ new. ForContents words held (λ contents. P old new)))
-shown_anyhow words held (Some old) (Some new) P h = some_contents words held (λ contents. P old new) (λ contents. h)
-shown_anyhow words held (Some old) None P h = h
-shown_anyhow words held None now P h = tt
-
 -- counts that stand still
 pub none_falls : (counts : List ℕ → ℕ) → NoneFalls counts counts
 none_falls counts = record { each = λ name. le_refl (counts name) }
-
--- ---- a command that prints, and writes no file
-pub record Printing {S O : Type 0} (disk : Disk S) (screen : Screen O) (words : List (List ℕ)) (deeds : Deeds) (before now : S) (out out_now : O) (s : Status) : Type 0 where
-  pub called : IsCaused s → ForContents words (disk.held before) (λ contents. IsAnswer (deeds.calls contents) s)
-  pub prints : IfSome (screen.got out) (λ old. IsSomeAnd (screen.got out_now) (λ new. ForContents words (disk.held before) (λ contents. deeds.shows contents s old new)))
-  pub quiet : IsBeforePrinting deeds s → out_now ≡ out
-  pub read_fault : (file : ℕ) → s ≡ ReadFault file →
-      ForContents words (disk.held before) (λ contents. deeds.reaches contents file) × Rose (disk.read_faults before (word_of words file)) (disk.read_faults now (word_of words file))
-  pub write_fault : (file : ℕ) → s ≡ WriteFault file → (file ≡ 0) × ForContents words (disk.held before) deeds.starts × Rose (screen.faults out) (screen.faults out_now)
-  pub held : disk.held now ≡ disk.held before
-  pub reads : NoneFalls (disk.read_faults before) (disk.read_faults now)
-  pub writes : NoneFalls (disk.write_faults before) (disk.write_faults now)
-  pub no_fewer : screen.faults out ≤ screen.faults out_now
-
-pub printing : {S O : Type 0} (disk : Disk S) (screen : Screen O) (words : List (List ℕ)) (deeds : Deeds) → IsRow deeds → deeds.prints → (before now : S) (out out_now : O) (s : Status) → (UsesNoFile deeds → now ≡ before) →
-    (disk.held now ≡ disk.held before → deeds.leaves words s (disk.held before) (disk.held now)) → Printing disk screen words deeds before now out out_now s → Does disk screen words deeds before now out out_now s
-printing disk screen words deeds row prints before now out out_now s unused leaves p = record {
-  called = p.called;
-  telling = telling deeds row words (disk.held before) s p.called;
-  complete =
-      complete deeds row words (disk.held before) s p.called (disk.read_faults before) (disk.read_faults now) (disk.write_faults before) (disk.write_faults now) (screen.faults out) (screen.faults out_now) p.read_fault failed;
-  read_fault = p.read_fault;
-  write_fault = failed;
-  shows = p.prints;
-  quiet = λ unprinted. elim unprinted [ inl never ↦ absurd (never prints) | inr earlier ↦ p.quiet earlier ];
-  leaves = leaves p.held;
-  held = λ unwritten. p.held;
-  unused = unused;
-  reads = p.reads;
-  writes = p.writes;
-  no_fewer = p.no_fewer;
-}
-  where
-    failed : (at : ℕ) → s ≡ WriteFault at → ForContents words (disk.held before) deeds.starts × WriteFailed deeds words at (disk.write_faults before) (disk.write_faults now) (screen.faults out) (screen.faults out_now)
-    failed at is = let found = p.write_fault at is in (found.1, inl (found.0, prints, found.2))

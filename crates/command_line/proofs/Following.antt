@@ -6,7 +6,7 @@ use Rattle.io_edge.specs.declared.store.Store.{Ghosts as Disk}
 use Rattle.io_edge.specs.declared.sink.Sink.{Ghosts as Screen}
 use Rattle.command_line.specs.Words.{word_of}
 use Rattle.command_line.specs.Answers.{ForContents, IsAnswer, IsCaused, FileHolds, IsFileRefused}
-use Rattle.command_line.specs.Deeds.{Deeds, IsCalledFor, WriteFailed}
+use Rattle.command_line.specs.Deeds.{Deeds, IsCalledFor, UsesNoFile, WriteFailed}
 use Rattle.command_line.specs.Kind.{Kind, IsRead, EndsRead, Passes, ReadsWhere}
 use Rattle.command_line.specs.Script.{Act, Script, ends, reads, tests, reads_where, IsNothing, reads_of, calls_of, reaches_of, starts_of, shows_of, leaves_at, leaves_of, Work, deeds_of_work}
 use Rattle.command_line.specs.Does.{Does, Acts, Prints}
@@ -29,12 +29,20 @@ failed_later deeds words file before mid now p q first second (inl printed) = in
 failed_later deeds words file before mid now p q first second (inr written) =
     inr (written.0, rose_later _ _ _ (first.each (word_of words file)) (second.each (word_of words file)) written.1)
 
-passed_twice : {S : Type 0} {disk : Disk S} (before mid now : S) → Passes disk before mid → Passes disk mid now → Passes disk before now
+pub passed_twice : {S : Type 0} {disk : Disk S} (before mid now : S) → Passes disk before mid → Passes disk mid now → Passes disk before now
 passed_twice before mid now first second = record {
   held = second.held ∙ first.held;
   reads = none_falls_twice _ _ _ first.reads second.reads;
   writes = none_falls_twice _ _ _ first.writes second.writes;
 }
+
+-- a file that ended it
+pub ends_later : {S : Type 0} {disk : Disk S} {before mid now : S} {s : Status} (words : List (List ℕ)) → Passes disk before mid → Passes disk mid now → (file : ℕ) (k : Kind) → EndsAtFile disk words mid now s file k →
+    EndsAtFile disk words before now s file k
+ends_later {S} {disk} {before} {mid} {now} {s} words first second file k end =
+    let name = word_of words file in
+    why_later k file (disk.held before) name (disk.read_faults before name) (disk.read_faults mid name) (disk.read_faults now name) s (rose_later _ _ _ (first.reads.each name) (second.reads.each name))
+    (subst (λ (h : Option Files). EndsRead k file h name (disk.read_faults mid name) (disk.read_faults now name) s) first.held end)
 
 -- nothing is printed, where memory runs out or the answer is a refusal
 pub nothing_printed : {O : Type 0} {screen : Screen O} {deeds : Deeds} {out : O} {s : Status} {a : Act} → (IsCaused s → IsAnswer a.calls s) → ((file : ℕ) → s ≢ ReadFault file) → ((file : ℕ) → s ≢ WriteFault file) →
@@ -59,19 +67,12 @@ module _ {S O : Type 0} {disk : Disk S} {screen : Screen O} {words : List (List 
         read,
         along (running disk screen words deeds mid now out out_now s) (running disk screen words deeds before now out out_now s)
             (λ file k x. subst (λ (h : Option Files). IsRead k file h (word_of words file) x) passes.held)
-            (λ file k stop. record { why = ends_later file k stop; passes = passed_twice before mid now passes stop.passes; silent = stop.silent })
+            (λ file k stop. record { why = ends_later words passes stop.passes file k stop.why; passes = passed_twice before mid now passes stop.passes; silent = stop.silent })
             (λ Refuses stop. record { why = stop.why; passes = passed_twice before mid now passes stop.passes; silent = stop.silent })
             acts_later (next x) rest.run,
       );
     }
       where
-        ends_later : (file : ℕ) (k : Kind) → Stopping disk screen words deeds mid now out out_now s file k → EndsAtFile disk words before now s file k
-        ends_later file k stop =
-            let name = word_of words file in
-            why_later k file (disk.held before) name (disk.read_faults before name) (disk.read_faults mid name) (disk.read_faults now name) s
-            (rose_later _ _ _ (passes.reads.each name) (stop.passes.reads.each name))
-            (subst (λ (h : Option Files). EndsRead k file h name (disk.read_faults mid name) (disk.read_faults now name) s) passes.held stop.why)
-
         acts_later : (a : Act) → Acts disk screen words deeds mid now out out_now s a → Acts disk screen words deeds before now out out_now s a
         acts_later a acts = record {
           called = acts.called;
@@ -176,8 +177,8 @@ pub record IsSoundWork (w : Work) : Type 0 where
   pub sound : IsSound 0 w.script
   pub first : reads_of w.script 1
 
-module _ {S O : Type 0} {disk : Disk S} {screen : Screen O} {words : List (List ℕ)} (w : Work) (is : IsSoundWork w) {before now : S} {out out_now : O} {s : Status}
-    (runs : Runs disk screen words (deeds_of_work w) before now out out_now s w.script) where
+module _ {S O : Type 0} {disk : Disk S} {screen : Screen O} {words : List (List ℕ)} (w : Work) (sound : IsSound 0 w.script) {before now : S} {out out_now : O} {s : Status}
+    (unused : UsesNoFile (deeds_of_work w) → now ≡ before) (runs : Runs disk screen words (deeds_of_work w) before now out out_now s w.script) where
   abbrev held : Option Files
   held = disk.held before
 
@@ -193,18 +194,18 @@ module _ {S O : Type 0} {disk : Disk S} {screen : Screen O} {words : List (List 
   row : IsRow (deeds_of_work w)
   row = record {
     reached = λ contents at. along _ _ (λ file k x h. tt) (λ file k same. same) (λ Refuses never. never) (λ a never. never) w.script;
-    telling = sound_telling 0 w.script is.sound;
+    telling = sound_telling 0 w.script sound;
   }
 
   contents : ForContents words held (RunsAt stop fail end s w.script)
   contents =
-      gathered stop fail end s words held (λ file. disk.read_faults before (word_of words file)) (λ file. disk.read_faults now (word_of words file)) (λ file k h. h.why) (λ Refuses h. h.why) 0 w.script is.sound runs.run
+      gathered stop fail end s words held (λ file. disk.read_faults before (word_of words file)) (λ file. disk.read_faults now (word_of words file)) (λ file k h. h.why) (λ Refuses h. h.why) 0 w.script sound runs.run
 
   where_it_ends : (P : Type 0) → ((file : ℕ) (k : Kind) → stop file k → IsRefusedBy file k → P) → ((Refuses : Status → Type 0) → fail Refuses → IsRefusal s → P) → ((a : Act) → end a → P) → P
   where_it_ends P stopped failed ended = comes _ P (λ file k h. stopped file k h.0 h.1) (λ Refuses h. failed Refuses h.0 h.1) ended w.script contents.true_of
 
   called : IsCaused s → ForContents words held (λ c. IsAnswer (calls_of w.script c) s)
-  called caused = weaker words held (RunsAt stop fail end s w.script) _ (λ c h. answers stop fail end s (λ Refuses h. h.why) (λ a acts. acts.called) 0 w.script is.sound c h caused) contents
+  called caused = weaker words held (RunsAt stop fail end s w.script) _ (λ c h. answers stop fail end s (λ Refuses h. h.why) (λ a acts. acts.called) 0 w.script sound c h caused) contents
 
   read_failed : (at : ℕ) → s ≡ ReadFault at → ForContents words held (λ c. reaches_of w.script c at) × Rose (disk.read_faults before (word_of words at)) (disk.read_faults now (word_of words at))
   read_failed at e = (
@@ -245,8 +246,8 @@ module _ {S O : Type 0} {disk : Disk S} {screen : Screen O} {words : List (List 
   shown None (Some old) same acts = where_it_ends ⊥ (λ file k h by. cc (same h.silent)) (λ Refuses h refusal. cc (same h.silent)) acts
   shown got_now None same acts = tt
 
-  pub follows : Does disk screen words (deeds_of_work w) before now out out_now s
-  follows = record {
+  pub does_along : Does disk screen words (deeds_of_work w) before now out out_now s
+  does_along = record {
     called = called;
     telling = telling (deeds_of_work w) row words held s called;
     complete =
@@ -261,13 +262,17 @@ module _ {S O : Type 0} {disk : Disk S} {screen : Screen O} {words : List (List 
         (λ Refuses h. refused_nothing held (disk.held now) h.0.passes.held Refuses h) (λ a acts. acts.leaves) w.script)
         contents;
     held = λ unwritten. where_it_ends _ (λ file k h by. h.passes.held) (λ Refuses h refusal. h.passes.held) (λ a acts. acts.held unwritten);
-    unused = λ unused. absurd (unused.reads 1 is.first);
+    unused = unused;
     reads = where_it_ends _ (λ file k h by. h.passes.reads) (λ Refuses h refusal. h.passes.reads) (λ a acts. acts.reads);
     writes = where_it_ends _ (λ file k h by. h.passes.writes) (λ Refuses h refusal. h.passes.writes) (λ a acts. acts.writes);
     no_fewer =
         where_it_ends _ (λ file k h by. subst (λ (o : O). screen.faults out ≤ screen.faults o) (sym h.silent) (le_refl (screen.faults out)))
         (λ Refuses h refusal. subst (λ (o : O). screen.faults out ≤ screen.faults o) (sym h.silent) (le_refl (screen.faults out))) (λ a acts. acts.no_fewer);
   }
+
+pub follows : {S O : Type 0} {disk : Disk S} {screen : Screen O} {words : List (List ℕ)} (w : Work) → IsSoundWork w → {before now : S} {out out_now : O} {s : Status} →
+    Runs disk screen words (deeds_of_work w) before now out out_now s w.script → Does disk screen words (deeds_of_work w) before now out out_now s
+follows w is runs = does_along w is.sound (λ unused. absurd (unused.reads 1 is.first)) runs
 
 -- ---- by the files of a store that tells them: what is left
 moved_nothing : {A : Type 0} (k : Kind) (file : ℕ) (content other : Option (List ℕ)) (s : Status) (old new : A) → content ≡ other → IsNothing (IsFileRefused k.limit file (k.wrong file) content s) s old new →

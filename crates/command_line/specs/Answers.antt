@@ -1,6 +1,6 @@
 -- What a command is to answer by what its files hold, whatever the store tells of them.
 use Rattle.std.specs.Prelude.{◌≡◌, ◌≢◌, ◌⊎◌, ℕ, ◌<◌, ◌≤◌, List, length, Option, Some, IfSome}
-use Rattle.io_edge.specs.Faults.{Files, Rose}
+use Rattle.io_edge.specs.Faults.{Files}
 use Rattle.command_line.specs.Words.{word_of}
 use Rattle.command_line.specs.declared.status.Status.{Status}
 use Rattle.command_line.specs.declared.status.Status.TheVariants.{Memory, ReadFault, WriteFault, Long}
@@ -54,24 +54,3 @@ pub record IsCaused (s : Status) : Type 0 where
   pub memory : s ≢ Memory
   pub read : (file : ℕ) → s ≢ ReadFault file
   pub write : (file : ℕ) → s ≢ WriteFault file
-
--- ---- what reading one file gives, on the way
--- the file is right for x; it is right for nothing that differs from x in what is seen, and refused with no status
-pub record IsRightFor {X V : Type 0} (limit file : ℕ) (Wrong : List ℕ → Status → Type 0) (Right : X → List ℕ → Type 0) (view : X → V) (held : Option Files) (name : List ℕ) (x : X) : Type 0 where
-  pub content : Option (List ℕ)
-  pub told : IsTold held name content
-  pub right : FileHolds limit (Right x) content
-  pub one : (y : X) → FileHolds limit (Right y) content → view y ≡ view x
-  pub accepted : (s : Status) → ¬ IsFileRefused limit file Wrong content s
-
--- the file is refused with this status, and no other, and right for nothing
-pub record IsWrongBy {X : Type 0} (limit file : ℕ) (Wrong : List ℕ → Status → Type 0) (Right : X → List ℕ → Type 0) (held : Option Files) (name : List ℕ) (s : Status) : Type 0 where
-  pub content : Option (List ℕ)
-  pub told : IsTold held name content
-  pub answer : IsAnswer (IsFileRefused limit file Wrong content) s
-  pub refused : (x : X) → ¬ FileHolds limit (Right x) content
-
--- reading the file ends with this status: out of memory, or its read failed, or it is refused
-abbrev pub EndsReading : {X : Type 0} → (limit file : ℕ) → (Wrong : List ℕ → Status → Type 0) → (Right : X → List ℕ → Type 0) → Option Files → (name : List ℕ) → (before now : ℕ) → Status → Type 0
-EndsReading {X} limit file Wrong Right held name before now s =
-    (s ≡ Memory) ⊎ (((s ≡ ReadFault file) × Rose before now) ⊎ IsWrongBy {X = X} limit file Wrong Right held name s)

@@ -1,9 +1,10 @@
 -- A kind of file: which bytes are right for what, and with which status others are refused.
-use Rattle.std.specs.Prelude.{◌≡◌, ℕ, Bool, true, false, List, Option, Some, None, Result, Ok, IfOk, IfErr, IsSomeAnd}
-use Rattle.io_edge.specs.Faults.{Files, NoneFalls}
+use Rattle.std.specs.Prelude.{◌≡◌, ◌⊎◌, ℕ, Bool, true, false, List, Option, None, Result, Ok, IfOk, IfErr, IsSomeAnd}
+use Rattle.io_edge.specs.Faults.{Files, Rose, NoneFalls}
 use Rattle.io_edge.specs.declared.store.Store.{Ghosts as Disk}
-use Rattle.command_line.specs.Answers.{IsRightFor, EndsReading}
+use Rattle.command_line.specs.Answers.{IsTold, FileHolds, IsFileRefused, IsAnswer}
 use Rattle.command_line.specs.declared.status.Status.{Status}
+use Rattle.command_line.specs.declared.status.Status.TheVariants.{Memory, ReadFault}
 
 pub record Kind : Type 1 where
   -- what such a file tells of
@@ -22,13 +23,24 @@ pub record Kind : Type 1 where
 abbrev pub whole_kind : {X : Type 0} → ℕ → (X → List ℕ → Type 0) → (ℕ → List ℕ → Status → Type 0) → Kind
 whole_kind {X} limit right wrong = record { Value = X; Seen = X; view = λ x. x; limit = limit; right = right; wrong = wrong }
 
--- the file at a position is read, and right for this value
-abbrev pub IsRead : (k : Kind) (file : ℕ) → Option Files → (name : List ℕ) → k.Value → Type 0
-IsRead k file held name x = IsRightFor k.limit file (k.wrong file) k.right k.view held name x
+-- the file at a position is read, and right for this value; it is right for nothing that is seen otherwise, and refused with no status
+pub record IsRead (k : Kind) (file : ℕ) (held : Option Files) (name : List ℕ) (x : k.Value) : Type 0 where
+  pub content : Option (List ℕ)
+  pub told : IsTold held name content
+  pub right : FileHolds k.limit (k.right x) content
+  pub one : (y : k.Value) → FileHolds k.limit (k.right y) content → k.view y ≡ k.view x
+  pub accepted : (s : Status) → ¬ IsFileRefused k.limit file (k.wrong file) content s
 
--- the status ends the reading of the file at a position
+-- it is refused with this status, and no other, and right for nothing
+pub record IsRefusedWith (k : Kind) (file : ℕ) (held : Option Files) (name : List ℕ) (s : Status) : Type 0 where
+  pub content : Option (List ℕ)
+  pub told : IsTold held name content
+  pub answer : IsAnswer (IsFileRefused k.limit file (k.wrong file) content) s
+  pub refused : (x : k.Value) → ¬ FileHolds k.limit (k.right x) content
+
+-- the status ends its reading: out of memory, or the read failed, or it is refused
 abbrev pub EndsRead : (k : Kind) (file : ℕ) → Option Files → (name : List ℕ) → (before now : ℕ) → Status → Type 0
-EndsRead k file held name before now s = EndsReading {X = k.Value} k.limit file (k.wrong file) k.right held name before now s
+EndsRead k file held name before now s = (s ≡ Memory) ⊎ (((s ≡ ReadFault file) × Rose before now) ⊎ IsRefusedWith k file held name s)
 
 -- reads alone came before: the store tells what it told, and no count fell
 pub record Passes {S : Type 0} (disk : Disk S) (before now : S) : Type 0 where

@@ -1,6 +1,6 @@
 // Which command the arguments are.
-ghost use Rattle.std.specs.Prelude.{ℕ, IsTrue, MatchOption, ◌↔◌, ◌≢◌, ◌<◌, Bool, length};
-ghost use Rattle.command_line.specs.Words.{word_of, IsSolve, IsGenerate, IsLoop, IsDemo, IsList, IsJson, IsCount, IsStay, IsOwnName, IsPlay, IsLean, IsLeanStay, IsSplit, IsServe, IsC, IsSettle};
+ghost use Rattle.std.specs.Prelude.{ℕ, IsTrue, MatchOption, ◌↔◌, ◌≢◌, ◌<◌, ◌+◌, ◌^◌, Bool, if◌then◌else◌, length};
+ghost use Rattle.command_line.specs.Words.{IsNamed, IsWriting, IsLoop, IsDemo, IsList, IsJson, IsCount, IsOwnName, IsC, IsSettle};
 ghost use Rattle.command_line.specs.Commands.{IsUsage, IsNoWriter, AreOf, OneCommandLaw};
 
 use crate::program_name::is_name;
@@ -42,7 +42,7 @@ pub fn command_of(words: &Words) -> Option<Command>
     if let Some(command) = writer_of(words) {
         return Some(command);
     }
-    if is_solve(words) {
+    if is_named(words, "solve", 3) {
         return Some(Command::Solve);
     }
     if let Some(turns) = turns_of(words, false) {
@@ -60,10 +60,10 @@ pub fn command_of(words: &Words) -> Option<Command>
     if let Some(number) = number_of(words) {
         return Some(Command::Demo { number });
     }
-    if is_play(words) {
+    if is_named(words, "play", 3) {
         return Some(Command::Play);
     }
-    if is_serve(words) {
+    if is_named(words, "serve", 3) {
         return Some(Command::Serve);
     }
     if let Some(disturbed) = settle_disturbed_of(words) {
@@ -76,22 +76,22 @@ pub fn command_of(words: &Words) -> Option<Command>
 fn writer_of(words: &Words) -> Option<Command>
     ensures { MatchOption result (IsNoWriter words.now) (λ command. AreOf command words.now) }
 {
-    if is_generate(words) {
+    if is_writing(words, "generate", 5, 3, 4) {
         return Some(Command::Generate);
     }
     if is_list(words) {
         return Some(Command::List);
     }
-    if let Some(disturbed) = disturbed_of(words) {
+    if let Some(disturbed) = disturbed_of(words, "stay", 6, 3, 4) {
         return Some(Command::Stay { disturbed });
     }
-    if is_lean(words) {
+    if is_writing(words, "lean", 6, 4, 5) {
         return Some(Command::Lean);
     }
-    if let Some(disturbed) = lean_disturbed_of(words) {
+    if let Some(disturbed) = disturbed_of(words, "lean", 7, 4, 5) {
         return Some(Command::LeanStay { disturbed });
     }
-    if is_split(words) {
+    if is_writing(words, "split", 6, 4, 5) {
         return Some(Command::Split);
     }
     if is_c(words) {
@@ -105,44 +105,54 @@ pub fn one_command_law()
     ensures { OneCommandLaw }
 {}
 
-// Whether they are those that `solve` needs.
-fn is_solve(words: &Words) -> bool
-    ensures { IsTrue result ↔ IsSolve words.now }
+// Whether they are a command's name, and with it so many.
+fn is_named(words: &Words, name: &str, many: usize) -> bool
+    requires { 0 < many }
+    ensures { IsTrue result ↔ IsNamed words.now name.now many }
 {
-    words.count() == 3 && words.at(0) == "solve"
+    words.count() == many && words.at(0) == name
 }
 
-// Whether they are those that `generate` needs.
-fn is_generate(words: &Words) -> bool
-    ensures { IsTrue result ↔ IsGenerate words.now }
+// The same, and the two names that are written are no other's.
+fn is_writing(words: &Words, name: &str, many: usize, controller: usize, report: usize) -> bool
+    requires controller { controller < many }
+    requires report { report < many }
+    ensures { IsTrue result ↔ IsWriting words.now name.now many controller report }
 {
-    if words.count() != 5 || words.at(0) != "generate" {
+    if words.count() != many || words.at(0) != name {
         return false;
     }
-    let (design, policy) = (words.at(1), words.at(2));
-    let (controller, report) = (words.at(3), words.at(4));
-    is_other(controller, design, policy) && is_other(report, design, policy) && report != controller
+    is_own_name(words, controller) && is_own_name(words, report)
+}
+
+// Whether a file of disturbances comes last, after as many words as the least; none where the arguments are those of no such command.
+fn disturbed_of(
+    words: &Words,
+    name: &str,
+    least: usize,
+    controller: usize,
+    report: usize,
+) -> Option<bool>
+    requires controller { controller < least }
+    requires report { report < least }
+    requires few { least < 2 ^ 32 }
+    ensures { MatchOption result ((disturbed : Bool) → ¬ IsWriting words.now name.now (if disturbed then least + 1 else least) controller report)
+        (λ disturbed. IsWriting words.now name.now (if disturbed then least + 1 else least) controller report) }
+{
+    if is_writing(words, name, least, controller, report) {
+        return Some(false);
+    }
+    if is_writing(words, name, least + 1, controller, report) {
+        return Some(true);
+    }
+    None
 }
 
 // Whether they are those that `list` needs.
 fn is_list(words: &Words) -> bool
     ensures { IsTrue result ↔ IsList words.now }
 {
-    words.count() == 3 && words.at(0) == "list" && words.at(2) != words.at(1)
-}
-
-// Whether they are those that `play` needs.
-fn is_play(words: &Words) -> bool
-    ensures { IsTrue result ↔ IsPlay words.now }
-{
-    words.count() == 3 && words.at(0) == "play"
-}
-
-// Whether they are those that `serve` needs.
-fn is_serve(words: &Words) -> bool
-    ensures { IsTrue result ↔ IsServe words.now }
-{
-    words.count() == 3 && words.at(0) == "serve"
+    is_named(words, "list", 3) && words.at(2) != words.at(1)
 }
 
 // The turns of a `loop`, with a file of disturbances or without; none where the arguments are those of no such `loop`.
@@ -150,7 +160,7 @@ fn turns_of(words: &Words, disturbed: bool) -> Option<u32>
     ensures { MatchOption result ((turns : ℕ) → ¬ IsLoop words.now turns disturbed) (λ turns. IsLoop words.now turns disturbed) }
 {
     let count = if disturbed { 6 } else { 5 };
-    if words.count() != count || words.at(0) != "loop" {
+    if !is_named(words, "loop", count) {
         return None;
     }
     count_of(words.at(4), MOST_TURNS)
@@ -160,67 +170,17 @@ fn turns_of(words: &Words, disturbed: bool) -> Option<u32>
 fn number_of(words: &Words) -> Option<u32>
     ensures { MatchOption result ((number : ℕ) → ¬ IsDemo words.now number) (λ number. IsDemo words.now number) }
 {
-    if words.count() != 2 || words.at(0) != "demo" {
+    if !is_named(words, "demo", 2) {
         return None;
     }
     count_of(words.at(1), GREATEST_NUMBER)
-}
-
-// Whether a `stay` has a file of disturbances; none where the arguments are those of no `stay`.
-fn disturbed_of(words: &Words) -> Option<bool>
-    ensures { MatchOption result ((disturbed : Bool) → ¬ IsStay words.now disturbed) (λ disturbed. IsStay words.now disturbed) }
-{
-    let count = words.count();
-    if count < 6 || count > 7 || words.at(0) != "stay" {
-        return None;
-    }
-    if is_own_name(words, 3) && is_own_name(words, 4) {
-        Some(count == 7)
-    } else {
-        None
-    }
-}
-
-// Whether they are those that `lean` needs.
-fn is_lean(words: &Words) -> bool
-    ensures { IsTrue result ↔ IsLean words.now }
-{
-    if words.count() != 6 || words.at(0) != "lean" {
-        return false;
-    }
-    is_own_name(words, 4) && is_own_name(words, 5)
-}
-
-// Whether a `lean` with faces has a file of disturbances; none where the arguments are those of no `lean` with faces.
-fn lean_disturbed_of(words: &Words) -> Option<bool>
-    ensures { MatchOption result ((disturbed : Bool) → ¬ IsLeanStay words.now disturbed) (λ disturbed. IsLeanStay words.now disturbed) }
-{
-    let count = words.count();
-    if count < 7 || count > 8 || words.at(0) != "lean" {
-        return None;
-    }
-    if is_own_name(words, 4) && is_own_name(words, 5) {
-        Some(count == 8)
-    } else {
-        None
-    }
-}
-
-// Whether they are those that `split` needs.
-fn is_split(words: &Words) -> bool
-    ensures { IsTrue result ↔ IsSplit words.now }
-{
-    if words.count() != 6 || words.at(0) != "split" {
-        return false;
-    }
-    is_own_name(words, 4) && is_own_name(words, 5)
 }
 
 // Whether they are those that `c` needs.
 fn is_c(words: &Words) -> bool
     ensures { IsTrue result ↔ IsC words.now }
 {
-    if words.count() != 5 || words.at(0) != "c" || !is_name(words.at(2)) {
+    if !is_named(words, "c", 5) || !is_name(words.at(2)) {
         return false;
     }
     let (controller, source, header) = (words.at(1), words.at(3), words.at(4));
@@ -231,11 +191,13 @@ fn is_c(words: &Words) -> bool
 fn settle_disturbed_of(words: &Words) -> Option<bool>
     ensures { MatchOption result ((disturbed : Bool) → ¬ IsSettle words.now disturbed) (λ disturbed. IsSettle words.now disturbed) }
 {
-    let count = words.count();
-    if count < 4 || count > 5 || words.at(0) != "settle" {
-        return None;
+    if is_named(words, "settle", 4) {
+        return Some(false);
     }
-    Some(count == 5)
+    if is_named(words, "settle", 5) {
+        return Some(true);
+    }
+    None
 }
 
 // Whether the name at a position stands at no other.

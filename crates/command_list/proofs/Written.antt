@@ -9,8 +9,7 @@ use Rattle.command_line.proofs.Following.{IsSoundWork}
 use Rattle.command_line.specs.declared.status.Status.{Status}
 use Rattle.command_line.specs.declared.status.Status.TheVariants.{Done, ReadFault, WriteFault}
 use Rattle.command_files.proofs.Stopping.{controllers_refused}
-use Rattle.command_list.specs.Listed.{list_act}
-use Rattle.command_list.specs.Deeds.{list_work}
+use Rattle.command_list.specs.Listed.{list_act, list_work}
 
 pub list_sound : IsSoundWork list_work
 list_sound = record { sound = (omega arith, controllers_refused 1, whole (λ (c : Numbers). ends (list_act c)), λ c. done_telling); first = inl refl }

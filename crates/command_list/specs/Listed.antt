@@ -6,7 +6,8 @@ use Rattle.mac_listing.specs.Listing.{listing_of}
 use Rattle.mac_listing.specs.Text.{IsListingText}
 use Rattle.command_line.specs.Words.{word_of}
 use Rattle.command_line.specs.Limit.{file_limit}
-use Rattle.command_line.specs.Script.{Act, writing_act, Script, ends, reads}
+use Rattle.command_line.specs.Deeds.{Deeds}
+use Rattle.command_line.specs.Script.{Act, writing_act, Script, ends, reads, Work, writing_work, deeds_of_work}
 use Rattle.command_files.specs.Reading.{controller_kind}
 use Rattle.command_line.specs.declared.status.Status.{Status}
 use Rattle.command_line.specs.declared.status.Status.TheVariants.{Done, WriteFault}
@@ -35,3 +36,10 @@ list_act c = writing_act (λ s. s ≡ Done) ⊤ (ListLeaves c)
 
 abbrev pub list_script : Script
 list_script = reads 1 controller_kind (λ c. ends (list_act c))
+
+-- ---- its row of the table of commands
+abbrev pub list_work : Work
+list_work = writing_work list_script (λ file. file ≡ 2)
+
+abbrev pub list_deeds : Deeds
+list_deeds = deeds_of_work list_work

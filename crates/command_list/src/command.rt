@@ -3,8 +3,7 @@ ghost use Rattle.command_line.specs.Words.{word_of, IsList};
 ghost use Rattle.command_line.specs.Kind.{IsRead};
 ghost use Rattle.command_line.specs.Does.{DoesInStore, ActsInStore};
 ghost use Rattle.command_files.specs.Reading.{controller_kind};
-ghost use Rattle.command_list.specs.Listed.{list_act};
-ghost use Rattle.command_list.specs.Deeds.{list_deeds};
+ghost use Rattle.command_list.specs.Listed.{list_act, list_deeds};
 
 use crate::text::{listing_text, write_text};
 use command_files::read_controller_file;

@@ -3,29 +3,22 @@ use Rattle.std.proofs.Common.{◌≡◌, ◌≢◌, inl, inr, ℕ, Bool, true, f
 use Rattle.io_edge.specs.declared.sink.Sink.{Ghosts as Screen}
 use Rattle.mat_int.specs.Matrix.{Matrix}
 use Rattle.qp_model.specs.problem.Design.{Design}
-use Rattle.qp_model.specs.problem.Parts.{design_of}
 use Rattle.qp_model.specs.machine.Controller.{Numbers}
-use Rattle.qp_model.specs.machine.Successor.{IsFor}
 use Rattle.controller_file.specs.AnyText.{any_numbers}
 use Rattle.controller_file.specs.declared.any_controller.AnyController.{AnyController}
-use Rattle.command_line.specs.Answers.{Contents, IsAnswer, IsCaused}
-use Rattle.command_line.specs.Script.{ends, calls_of}
+use Rattle.command_line.specs.Answers.{IsAnswer, IsCaused}
+use Rattle.command_line.specs.Script.{ends}
 use Rattle.command_line.specs.Does.{IsTelling, Prints}
 use Rattle.command_line.proofs.Doing.{done_telling, sort_of, plain_refusal}
-use Rattle.command_line.proofs.Gathering.{IsTest, IsSound, whole}
+use Rattle.command_line.proofs.Gathering.{IsSound, whole}
 use Rattle.command_line.proofs.Following.{IsSoundWork}
 use Rattle.command_line.specs.declared.status.Status.{Status}
 use Rattle.command_line.specs.declared.status.Status.TheVariants.{ReadFault, WriteFault}
-use Rattle.design_files.specs.declared.places.Asked.{Asked}
-use Rattle.command_design_files.specs.Reading.{AskedNumbers, asked_numbers}
-use Rattle.command_design_files.proofs.Designs.{same_design}
 use Rattle.command_design_files.proofs.Stopping.{text_refused}
-use Rattle.command_files.proofs.Stopping.{controllers_refused}
-use Rattle.command_loop.specs.Loop.{Course, course_of_any, turn_size_of, MayPrintLine, IsMismatch, LoopsCall, loop_act, loop_shifts, loop_controller, loop_design}
+use Rattle.command_loop.specs.Loop.{Course, course_of_any, turn_size_of, MayPrintLine, LoopsCall, loop_act, loop_shifts, loop_states, loop_work, loop_deeds}
 use Rattle.command_loop.specs.Printing.{LoopsEnd, LoopsDone}
-use Rattle.command_loop.specs.Deeds.{loop_work, loop_deeds}
-use Rattle.command_loop.proofs.Refusals.{mismatch_refusal}
-use Rattle.command_loop.proofs.Uniqueness.{one_call, one_mismatch, not_matched}
+use Rattle.command_loop.proofs.TwoFiles.{plant_sound}
+use Rattle.command_loop.proofs.Uniqueness.{one_call}
 
 -- ---- the script
 loops_telling : (size : ℕ) (c : Numbers) (l : Course) (turns : ℕ) (m : Matrix) (s : Status) → LoopsCall size c l turns m s → IsTelling s
@@ -33,33 +26,15 @@ loops_telling size c l turns m s (inl wide) = (plain_refusal s (ap sort_of wide.
 loops_telling size c l turns m s (inr (inl leaving)) = (plain_refusal s (ap sort_of leaving.1.is)).telling
 loops_telling size c l turns m s (inr (inr done)) = done_telling s done.0
 
-pub mismatch_test : (d : Design) (c : Numbers) → IsTest (IsMismatch d c) (IsFor c d)
-mismatch_test d c = record { refusal = mismatch_refusal d c; one = one_mismatch d c; passed = λ matched s. not_matched d c s matched }
-
 module _ (turns : ℕ) where
   shifts_sound : (disturbed : Bool) (d : Design) (k : AnyController) (m : Matrix) → IsSound 4 (loop_shifts turns disturbed d k m)
   shifts_sound true d k m =
       (omega arith, text_refused 5, whole (λ v. ends (loop_act turns d k (Some v) m)), λ v. loops_telling (turn_size_of d k) (any_numbers k) (course_of_any d k (Some v)) turns m)
   shifts_sound false d k m = loops_telling (turn_size_of d k) (any_numbers k) (course_of_any d k None) turns m
 
-  -- a design is known by its numbers
-  sees : (disturbed : Bool) (q p : Asked) → asked_numbers q ≡ asked_numbers p → (k : Contents) (s : Status) → calls_of (loop_design turns disturbed (design_of q.design)) k s →
-      calls_of (loop_design turns disturbed (design_of p.design)) k s
-  sees disturbed q p same k s = subst (λ (d : Design). calls_of (loop_design turns disturbed d) k s) (same_design q.design p.design (ap (λ (a : AskedNumbers). a.design) same))
-
   pub loop_sound : (disturbed : Bool) → IsSoundWork (loop_work turns disturbed)
   loop_sound disturbed = record {
-    sound = (
-      omega arith,
-      text_refused 1,
-      sees disturbed,
-      λ a. (
-        omega arith,
-        controllers_refused 2,
-        whole (loop_controller turns disturbed (design_of a.design)),
-        λ k. (mismatch_test (design_of a.design) (any_numbers k), (omega arith, text_refused 3, whole (loop_shifts turns disturbed (design_of a.design) k), shifts_sound disturbed (design_of a.design) k)),
-      ),
-    );
+    sound = plant_sound (loop_states turns disturbed) (λ d k. (omega arith, text_refused 3, whole (loop_shifts turns disturbed d k), shifts_sound disturbed d k));
     first = inl refl;
   }
 

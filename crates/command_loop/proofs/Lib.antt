@@ -1,5 +1,5 @@
 -- what the files and the loops of all records make of the answer, and what is printed
-pub mod Refusals
+pub mod TwoFiles
 pub mod Uniqueness
 pub mod Looping
 pub mod Answering

@@ -191,13 +191,15 @@ module _ (size : ℕ) (c : Numbers) (l : Course) (m : Matrix) (turns : ℕ) wher
       some = g.done;
       within = g.within;
       inside = g.inside;
-      part = record_lines l m turns i ++ g.part;
-      proper = record {
-        rest = g.proper.rest;
-        is = ap (λ (t : List ℕ). record_lines l m turns i ++ t) g.proper.is ∙ sym (append_assoc (record_lines l m turns i) g.part g.proper.rest);
-        proper = g.proper.proper;
+      printed = record {
+        part = record_lines l m turns i ++ g.part;
+        proper = record {
+          rest = g.proper.rest;
+          is = ap (λ (t : List ℕ). record_lines l m turns i ++ t) g.proper.is ∙ sym (append_assoc (record_lines l m turns i) g.part g.proper.rest);
+          proper = g.proper.proper;
+        };
+        printed = g.grown ∙ append_assoc old (record_lines l m turns i) g.part;
       };
-      printed = g.grown ∙ append_assoc old (record_lines l m turns i) g.part;
     };
     memory = λ e. absurd (let never : ⊥ = cc in never);
     other = λ a b e f. absurd (e is);

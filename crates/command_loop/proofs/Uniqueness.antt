@@ -2,33 +2,14 @@
 use Rattle.std.proofs.Common.{◌≡◌, ◌⊎◌, inl, inr, ℕ, ◌+◌, ◌<◌, List, [], ℤ, length, None, Result, Ok, Err, refl, sym, ap, ◌∙◌, subst, arith}
 use Rattle.std.proofs.lemmas.Bool.{cases_lt}
 use Rattle.mat_int.specs.Matrix.{Matrix, row_of}
-use Rattle.qp_model.specs.problem.Design.{Design}
 use Rattle.qp_model.specs.machine.Controller.{Numbers}
-use Rattle.qp_model.specs.machine.Successor.{IsFor}
 use Rattle.closed_loop.specs.Answers.{LieInside, LeavesAmong}
 use Rattle.closed_loop.specs.declared.fault.LoopFault.{LoopFault}
 use Rattle.closed_loop.specs.declared.fault.LoopFault.TheVariants as faults
 use Rattle.closed_loop.proofs.Showing.{leaves}
 use Rattle.command_line.specs.declared.status.Status.{Status}
 use Rattle.command_line.specs.declared.status.Status.TheVariants.{OutsideBox}
-use Rattle.command_loop.specs.Loop.{IsMismatch, Course, AllStay, IsFirstLeaving, IsTurnWide, FitsTurn, LoopsCall}
-
--- ---- what a design and a controller differ in
-pub one_mismatch : (d : Design) (c : Numbers) (s t : Status) → IsMismatch d c s → IsMismatch d c t → t ≡ s
-one_mismatch d c s t (inl a) (inl b) = b.1 ∙ sym a.1
-one_mismatch d c s t (inl a) (inr (inl b)) = absurd (a.0 b.0)
-one_mismatch d c s t (inl a) (inr (inr b)) = absurd (a.0 b.0)
-one_mismatch d c s t (inr (inl a)) (inl b) = absurd (b.0 a.0)
-one_mismatch d c s t (inr (inl a)) (inr (inl b)) = b.2 ∙ sym a.2
-one_mismatch d c s t (inr (inl a)) (inr (inr b)) = absurd (a.1 b.1)
-one_mismatch d c s t (inr (inr a)) (inl b) = absurd (b.0 a.0)
-one_mismatch d c s t (inr (inr a)) (inr (inl b)) = absurd (b.1 a.1)
-one_mismatch d c s t (inr (inr a)) (inr (inr b)) = b.3 ∙ sym a.3
-
-pub not_matched : (d : Design) (c : Numbers) (s : Status) → IsFor c d → IsMismatch d c s → ⊥
-not_matched d c s f (inl a) = a.0 f.states
-not_matched d c s f (inr (inl a)) = a.1 f.inputs
-not_matched d c s f (inr (inr a)) = a.2 f.grid
+use Rattle.command_loop.specs.Loop.{Course, AllStay, IsFirstLeaving, IsTurnWide, FitsTurn, LoopsCall}
 
 -- ---- where a loop leaves the box
 module _ (c : Numbers) (states : ℕ → List ℤ) (turns : ℕ) where

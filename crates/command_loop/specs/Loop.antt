@@ -1,11 +1,10 @@
 -- What `loop` does with its files.
-use Rattle.std.specs.Prelude.{◌≡◌, ◌≢◌, ◌⊎◌, ℕ, zero, suc, ◌+◌, ◌-◌, ◌^◌, ◌<◌, ◌≤◌, ℤ, pos, Bool, true, false, List, [], ◌++◌, length, Option, Some, None}
+use Rattle.std.specs.Prelude.{◌≡◌, ◌≢◌, ◌⊎◌, ℕ, zero, suc, ◌+◌, ◌-◌, ◌^◌, ◌<◌, ◌≤◌, ℤ, Bool, true, false, List, [], ◌++◌, length, Option, Some, None}
 use Rattle.io_edge.specs.Faults.{IsProperPrefix}
 use Rattle.mat_int.specs.Matrix.{Matrix, row_of}
 use Rattle.qp_model.specs.problem.Design.{Design}
-use Rattle.qp_model.specs.problem.Parts.{design_of}
 use Rattle.qp_model.specs.machine.Controller.{Numbers}
-use Rattle.qp_model.specs.machine.Successor.{IsFor, state_after}
+use Rattle.qp_model.specs.machine.Successor.{state_after}
 use Rattle.qp_model.specs.machine.LoopSize.{turn_size}
 use Rattle.qp_model.specs.text.LoopLines.{loop_text}
 use Rattle.qp_model.specs.declared.quantity.Quantity.TheVariants.{Turn}
@@ -15,21 +14,13 @@ use Rattle.controller_file.specs.declared.any_controller.AnyController.TheVarian
 use Rattle.closed_loop.specs.Looping.{Looping, looping_of_fast, turn_size_by}
 use Rattle.closed_loop.specs.Answers.{LieInside, LeavesAmong}
 use Rattle.closed_loop.specs.Under.{states_under, lines_under, states_by, lines_by, unshifted_by, unshifted_lines_by}
-use Rattle.command_line.specs.Script.{Act, Script, ends, reads, tests, printing_act}
-use Rattle.command_design_files.specs.Reading.{asked_kind}
-use Rattle.command_files.specs.Reading.{any_controller_kind, states_kind, shifts_kind}
-use Rattle.command_line.specs.declared.status.Field.TheVariants.{States, Inputs, Grid}
+use Rattle.command_line.specs.Deeds.{Deeds}
+use Rattle.command_line.specs.Script.{Act, Script, ends, reads, printing_act, Work, printing_work, deeds_of_work}
+use Rattle.command_files.specs.Reading.{states_kind, shifts_kind}
+use Rattle.command_loop.specs.Plant.{plant_script}
 use Rattle.command_line.specs.declared.status.Status.{Status}
-use Rattle.command_line.specs.declared.status.Status.TheVariants.{Done, Memory, WriteFault, Refused, OutsideBox, Mismatch}
+use Rattle.command_line.specs.declared.status.Status.TheVariants.{Done, Memory, WriteFault, Refused, OutsideBox}
 use Rattle.qp_model.specs.declared.refusal.Refusal.TheVariants.{TooWide}
-
--- ---- what design and controller differ in
--- the first of states, inputs and grid in which they differ, with both numbers
-abbrev pub IsMismatch : Design → Numbers → Status → Type 0
-IsMismatch d c s =
-    ((d.states ≢ c.states) × (s ≡ Mismatch States (pos d.states) (pos c.states))) ⊎
-    (((d.states ≡ c.states) × (d.inputs ≢ c.inputs) × (s ≡ Mismatch Inputs (pos d.inputs) (pos c.inputs))) ⊎
-    ((d.states ≡ c.states) × (d.inputs ≡ c.inputs) × (d.grid ≢ c.grid_bits) × (s ≡ Mismatch Grid (pos d.grid) (pos c.grid_bits))))
 
 -- ---- the course of a loop
 -- its states turn by turn from a start, and the lines of its first turns as those of a record
@@ -114,8 +105,8 @@ pub record AreToLeaving (c : Numbers) (l : Course) (turns : ℕ) (m : Matrix) (s
   pub leaving : IsFirstLeaving c l m turns s
   pub printed : new ≡ old ++ lines_to l m turns leaving.index (leaving.turn - 1)
 
--- the lines of the first records, and of some first turns of the next one, all of whose states lie in the box
-pub record AreTurns (size : ℕ) (c : Numbers) (l : Course) (turns : ℕ) (m : Matrix) (old new : List ℕ) : Type 0 where
+-- the lines of the first records, and of some first turns of the next one, all of whose states lie in the box, were printed so
+pub record AreTurns (size : ℕ) (c : Numbers) (l : Course) (turns : ℕ) (m : Matrix) (Printed : (lines : List ℕ) → Type 0) : Type 0 where
   pub fits : FitsTurn size m
   pub index : ℕ
   pub there : index < length m.rows
@@ -123,19 +114,12 @@ pub record AreTurns (size : ℕ) (c : Numbers) (l : Course) (turns : ℕ) (m : M
   pub some : ℕ
   pub within : some ≤ turns
   pub inside : LieInside c (l.states (row_of m index)) some
-  pub printed : new ≡ old ++ lines_to l m turns index some
+  pub printed : Printed (lines_to l m turns index some)
 
--- the same, where the last line is cut off: a part of these lines, and not all of them
-pub record ArePrefix (size : ℕ) (c : Numbers) (l : Course) (turns : ℕ) (m : Matrix) (old new : List ℕ) : Type 0 where
-  pub fits : FitsTurn size m
-  pub index : ℕ
-  pub there : index < length m.rows
-  pub before : AllStay c l m turns index
-  pub some : ℕ
-  pub within : some ≤ turns
-  pub inside : LieInside c (l.states (row_of m index)) some
+-- the last line is cut off: a part of these lines, and not all of them
+pub record IsCutOff (old new lines : List ℕ) : Type 0 where
   pub part : List ℕ
-  pub proper : IsProperPrefix (lines_to l m turns index some) part
+  pub proper : IsProperPrefix lines part
   pub printed : new ≡ old ++ part
 
 -- the status tells that a loop left the box
@@ -150,8 +134,8 @@ TellsLeavingLater s = (entry : ℕ) × (turn : ℕ) × (coordinate : ℕ) × (s 
 pub record LoopsPrint (size : ℕ) (c : Numbers) (l : Course) (turns : ℕ) (m : Matrix) (s : Status) (old new : List ℕ) : Type 0 where
   pub done : s ≡ Done → AreAll c l turns m old new
   pub outside : TellsLeaving s → AreToLeaving c l turns m s old new
-  pub fault : s ≡ WriteFault 0 → ArePrefix size c l turns m old new
-  pub memory : s ≡ Memory → (new ≡ old) ⊎ AreTurns size c l turns m old new
+  pub fault : s ≡ WriteFault 0 → AreTurns size c l turns m (IsCutOff old new)
+  pub memory : s ≡ Memory → (new ≡ old) ⊎ AreTurns size c l turns m (λ lines. new ≡ old ++ lines)
   pub other : s ≢ Done → (TellsLeaving s → ⊥) → s ≢ WriteFault 0 → s ≢ Memory → new ≡ old
 
 -- ---- the files, one after the other
@@ -170,12 +154,12 @@ loop_shifts turns false d k m = ends (loop_act turns d k None m)
 abbrev pub loop_states : (turns : ℕ) (disturbed : Bool) → Design → AnyController → Script
 loop_states turns disturbed d k = reads 3 (states_kind (any_numbers k).states) (loop_shifts turns disturbed d k)
 
--- the second has a controller, of either machine, which is for the design
-abbrev pub loop_controller : (turns : ℕ) (disturbed : Bool) → Design → AnyController → Script
-loop_controller turns disturbed d k = tests (IsMismatch d (any_numbers k)) (IsFor (any_numbers k) d) (loop_states turns disturbed d k)
-
-abbrev pub loop_design : (turns : ℕ) (disturbed : Bool) → Design → Script
-loop_design turns disturbed d = reads 2 any_controller_kind (loop_controller turns disturbed d)
-
 abbrev pub loop_script : (turns : ℕ) (disturbed : Bool) → Script
-loop_script turns disturbed = reads 1 asked_kind (λ a. loop_design turns disturbed (design_of a.design))
+loop_script turns disturbed = plant_script (loop_states turns disturbed)
+
+-- ---- its row of the table of commands
+abbrev pub loop_work : (turns : ℕ) (disturbed : Bool) → Work
+loop_work turns disturbed = printing_work (loop_script turns disturbed) TellsLeavingLater
+
+abbrev pub loop_deeds : (turns : ℕ) (disturbed : Bool) → Deeds
+loop_deeds turns disturbed = deeds_of_work (loop_work turns disturbed)

@@ -1,10 +1,10 @@
 // `loop` with its arguments.
 ghost use Rattle.command_line.specs.Words.{IsLoop};
 ghost use Rattle.command_line.specs.Does.{Does};
-ghost use Rattle.command_loop.specs.Deeds.{loop_deeds};
+ghost use Rattle.command_loop.specs.Loop.{loop_deeds};
 
-use crate::files::run_design;
-use command_design_files::read_asked_file;
+use crate::files::run_controller;
+use crate::plant::read_plant;
 use command_line::Status;
 use io_edge::{Sink, Store, Words};
 use std::alloc::Global;
@@ -23,8 +23,19 @@ pub fn run_loops<S: Store, O: Sink>(
     requires { IsLoop words.now turns disturbed }
     ensures { Does S.Store O.Sink words.now (loop_deeds turns disturbed) store.old store.new out.old out.new result }
 {
-    match read_asked_file(alloc, 1, words.at(1), store) {
-        Ok(asked) => run_design(alloc, words, turns, disturbed, &asked.design, store, out),
+    match read_plant(alloc, words, store) {
+        Ok(plant) => {
+            run_controller(
+                alloc,
+                words,
+                turns,
+                disturbed,
+                &plant.asked.design,
+                &plant.controller,
+                store,
+                out,
+            )
+        }
         Err(status) => status,
     }
 }

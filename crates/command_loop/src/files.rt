@@ -5,12 +5,10 @@ ghost use Rattle.qp_model.specs.machine.Successor.{IsFor};
 ghost use Rattle.controller_file.specs.AnyText.{any_numbers};
 ghost use Rattle.command_line.specs.Words.{IsLoop};
 ghost use Rattle.command_line.specs.Running.{Runs};
-ghost use Rattle.command_loop.specs.Loop.{loop_shifts, loop_states, loop_design};
-ghost use Rattle.command_loop.specs.Deeds.{loop_deeds};
+ghost use Rattle.command_loop.specs.Loop.{loop_shifts, loop_states, loop_deeds};
 
-use crate::mismatch::mismatch_of;
 use crate::records::print_loops;
-use command_files::{read_any_controller_file, read_shifts_file, read_states_file};
+use command_files::{read_shifts_file, read_states_file};
 use command_line::Status;
 use controller_file::AnyController;
 use io_edge::{Sink, Store, Words};
@@ -48,8 +46,8 @@ fn run_states<S: Store, O: Sink>(
     }
 }
 
-// The states, and what comes after them, for a controller that is for the design.
-fn run_controller<S: Store, O: Sink>(
+/// The states, and what comes after them, for a controller that is for the design.
+pub fn run_controller<S: Store, O: Sink>(
     alloc: Global,
     words: &Words,
     turns: u32,
@@ -71,38 +69,5 @@ fn run_controller<S: Store, O: Sink>(
             )
         }
         Err(status) => status,
-    }
-}
-
-/// The controller, which is to be for the design, and what comes after it.
-pub fn run_design<S: Store, O: Sink>(
-    alloc: Global,
-    words: &Words,
-    turns: u32,
-    disturbed: bool,
-    design: &Design,
-    store: &mut S,
-    out: &mut O,
-) -> Status
-    requires { IsLoop words.now turns disturbed }
-    ensures { Runs S.Store O.Sink words.now (loop_deeds turns disturbed) store.old store.new out.old out.new result
-        (loop_design turns disturbed (design_of design.now)) }
-{
-    let controller = match read_any_controller_file(alloc, 2, words.at(2), store) {
-        Ok(controller) => controller,
-        Err(ended) => return ended,
-    };
-    match mismatch_of(design, controller.parts()) {
-        Some(status) => status,
-        None => run_controller(
-            alloc,
-            words,
-            turns,
-            disturbed,
-            design,
-            &controller,
-            store,
-            out,
-        ),
     }
 }

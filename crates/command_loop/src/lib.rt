@@ -4,11 +4,12 @@
 mod command;
 mod files;
 mod mismatch;
+mod plant;
 mod records;
 
 pub use command::run_loops;
 // What reads a design and a controller for it is handed on: a crate above that names fewer others is stamped on fewer paths.
-pub use command_design_files::{FILE_LIMIT, read_asked_file, read_bytes, told_text};
-pub use command_files::{read_any_controller_file, read_range_file};
+pub use command_design_files::{FILE_LIMIT, read_bytes, told_text};
+pub use command_files::read_range_file;
 pub use controller_file::AnyController;
-pub use mismatch::mismatch_of;
+pub use plant::{Plant, read_plant};

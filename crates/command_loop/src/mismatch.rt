@@ -3,7 +3,7 @@ ghost use Rattle.std.specs.Prelude.{MatchOption};
 ghost use Rattle.qp_model.specs.problem.Parts.{design_of};
 ghost use Rattle.qp_model.specs.machine.Controller.{numbers};
 ghost use Rattle.qp_model.specs.machine.Successor.{IsFor};
-ghost use Rattle.command_loop.specs.Loop.{IsMismatch};
+ghost use Rattle.command_loop.specs.Plant.{IsMismatch};
 
 use command_line::{Field, Status};
 use qp_model::{ControllerParts, Design};

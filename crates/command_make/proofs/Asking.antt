@@ -17,7 +17,7 @@ generate_is words is = record {
   inputs = omega (arith, is.count);
   controller = omega (arith, is.count);
   report = omega (arith, is.count);
-  apart = is.report_controller;
+  apart = λ e. is.report 3 (omega arith) (omega (arith, is.count)) (λ k. omega (arith, k)) (sym e);
   faces = λ never. absurd (let no : ⊥ = cc in no);
   range = λ never. absurd (let no : ⊥ = cc in no);
   faces_order = omega arith;

@@ -17,8 +17,7 @@ use Rattle.plan_lines.proofs.Acting.{records_ended}
 use Rattle.command_play.specs.Texts.{ListingWrong}
 use Rattle.command_play.specs.Plays.{PlaysCall}
 use Rattle.command_play.specs.Making.{making_of_runs}
-use Rattle.command_play.specs.Play.{play_act, play_states}
-use Rattle.command_play.specs.Deeds.{play_work, play_deeds}
+use Rattle.command_play.specs.Play.{play_act, play_states, play_work, play_deeds}
 use Rattle.command_play.proofs.RunLines.{plays_told}
 
 listing_refused : (file : ℕ) (content : Option (List ℕ)) (s : Status) → IsFileRefused file_limit file (ListingWrong file) content s → IsRefusal s

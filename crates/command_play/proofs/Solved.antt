@@ -26,7 +26,7 @@ use Rattle.command_files.specs.Reading.{states_kind}
 use Rattle.command_files.proofs.OneThing.{one_content, one_states}
 use Rattle.command_play.specs.Texts.{ListingRight, listing_kind}
 use Rattle.command_play.specs.Plays.{AreInBox, HaveRunRoom, run_line, run_lines}
-use Rattle.command_play.specs.Printing.{ArePart, AreSome, PlaysPrint}
+use Rattle.command_play.specs.Printing.{AreSome, PlaysPrint}
 use Rattle.command_play.specs.Play.{play_act, play_script}
 use Rattle.command_play.specs.AsSolved.{PlaysAsSolved}
 
@@ -49,10 +49,10 @@ module _ (c : Numbers) (m : Matrix) (sound : IsController c) (inside : AreInside
       let here : run_line (listing_of c) (row_of m k) ≡ plan_line c (row_of m k) = (plays k lt).line in
       lines_more (run_line (listing_of c)) m k lt ∙ ap (λ (x : List ℕ). x ++ run_line (listing_of c) (row_of m k)) before ∙ ap (λ (x : List ℕ). plan_lines c m k ++ x) here ∙ sym (lines_more (plan_line c) m k lt)
 
-  part_printed : (old new : List ℕ) → ArePart (listing_of c) m old new → GrowsByPart old new (plan_lines c m (length m.rows))
+  part_printed : (old new : List ℕ) → AreSome (listing_of c) m (GrowsByPart old new) → GrowsByPart old new (plan_lines c m (length m.rows))
   part_printed old new p = part_of_all (plan_line c) m p.count old new (subst (λ (bytes : List ℕ). GrowsByPart old new bytes) (same_lines p.count p.some) p.printed)
 
-  some_printed : (old new : List ℕ) → (new ≡ old) ⊎ (AreInBox (listing_of c) m (length m.rows) × AreSome (listing_of c) m old new) → AreFirstLines c m old new
+  some_printed : (old new : List ℕ) → (new ≡ old) ⊎ (AreInBox (listing_of c) m (length m.rows) × AreSome (listing_of c) m (λ lines. new ≡ old ++ lines)) → AreFirstLines c m old new
   some_printed old new (inl same) = no_plan_yet c m old new same
   some_printed old new (inr lines) = let some = lines.1 in record { count = some.count; some = some.some; printed = some.printed ∙ ap (λ (x : List ℕ). old ++ x) (same_lines some.count some.some) }
 

@@ -4,4 +4,3 @@ pub mod Printing
 pub mod Making
 pub mod Play
 pub mod AsSolved
-pub mod Deeds

@@ -28,24 +28,17 @@ pub record AreToTrap (l : Instructions) (states : Matrix) (s : Status) (old new 
   pub trapped : IsTrapped l states s
   pub printed : new ≡ old ++ run_lines l states trapped.index
 
--- a part of the lines of some first states that isn't all of it
-pub record ArePart (l : Instructions) (states : Matrix) (old new : List ℕ) : Type 0 where
+-- the lines of some first states were printed so
+pub record AreSome (l : Instructions) (states : Matrix) (Printed : (lines : List ℕ) → Type 0) : Type 0 where
   pub count : ℕ
   pub some : count ≤ length states.rows
   pub room : HaveRunRoom l states count
-  pub printed : GrowsByPart old new (run_lines l states count)
-
--- the lines of some first states
-pub record AreSome (l : Instructions) (states : Matrix) (old new : List ℕ) : Type 0 where
-  pub count : ℕ
-  pub some : count ≤ length states.rows
-  pub room : HaveRunRoom l states count
-  pub printed : new ≡ old ++ run_lines l states count
+  pub printed : Printed (run_lines l states count)
 
 -- by the answer; a line only where all states lie in the box
 pub record PlaysPrint (l : Instructions) (states : Matrix) (s : Status) (old new : List ℕ) : Type 0 where
   pub done : s ≡ Done → AreInBox l states (length states.rows) × HaveRunRoom l states (length states.rows) × (new ≡ old ++ run_lines l states (length states.rows))
   pub trap : TellsTrap s → AreInBox l states (length states.rows) × AreToTrap l states s old new
-  pub fault : s ≡ WriteFault 0 → AreInBox l states (length states.rows) × ArePart l states old new
-  pub memory : s ≡ Memory → (new ≡ old) ⊎ (AreInBox l states (length states.rows) × AreSome l states old new)
+  pub fault : s ≡ WriteFault 0 → AreInBox l states (length states.rows) × AreSome l states (GrowsByPart old new)
+  pub memory : s ≡ Memory → (new ≡ old) ⊎ (AreInBox l states (length states.rows) × AreSome l states (λ lines. new ≡ old ++ lines))
   pub other : s ≢ Done → (TellsTrap s → ⊥) → s ≢ WriteFault 0 → s ≢ Memory → new ≡ old

@@ -1,7 +1,7 @@
 // `play` with its arguments.
 ghost use Rattle.command_line.specs.Words.{IsPlay};
 ghost use Rattle.command_line.specs.Does.{Does};
-ghost use Rattle.command_play.specs.Deeds.{play_deeds};
+ghost use Rattle.command_play.specs.Play.{play_deeds};
 
 use crate::lines::player_of;
 use crate::listing::read_listing_file;

@@ -1,5 +1,5 @@
 // The lines of runs.
-ghost use Rattle.std.specs.Prelude.{◌≡◌, ℕ, ◌∷◌, IfOk};
+ghost use Rattle.std.specs.Prelude.{◌≡◌, ◌∷◌, IfOk};
 ghost use Rattle.mac_machine.specs.Machine.{outputs_of, play_line};
 
 use command_line::Status;

@@ -5,30 +5,24 @@ use Rattle.io_edge.specs.Faults.{Rose, GrowsByPart}
 use Rattle.io_edge.specs.declared.sink.Sink.{Ghosts as Screen}
 use Rattle.mat_int.specs.Matrix.{Matrix}
 use Rattle.qp_model.specs.problem.Design.{Design}
-use Rattle.qp_model.specs.problem.Parts.{design_of}
 use Rattle.qp_model.specs.machine.Controller.{Numbers}
 use Rattle.settle_check.specs.Settles.{PassesSettling}
 use Rattle.settle_check.specs.CertificateText.{CertificateNumbers, certificate_in}
-use Rattle.command_line.specs.Answers.{Contents, IsAnswer, IsCaused}
-use Rattle.command_line.specs.Script.{ends, calls_of}
+use Rattle.command_line.specs.Answers.{IsAnswer, IsCaused}
+use Rattle.command_line.specs.Script.{ends}
 use Rattle.command_line.specs.Does.{Prints}
 use Rattle.command_line.proofs.Gathering.{IsSound, whole}
 use Rattle.command_line.proofs.Following.{IsSoundWork}
 use Rattle.command_line.specs.declared.status.Status.{Status}
 use Rattle.command_line.specs.declared.status.Status.TheVariants.{Done, ReadFault, WriteFault}
-use Rattle.design_files.specs.declared.places.Asked.{Asked}
 use Rattle.command_loop.specs.ControllerFile.AnyText.{any_numbers}
 use Rattle.command_loop.specs.ControllerFile.declared.any_controller.AnyController.{AnyController}
-use Rattle.command_loop.specs.DesignFiles.Reading.{AskedNumbers, asked_numbers}
-use Rattle.command_loop.proofs.Answering.{mismatch_test}
-use Rattle.command_loop.proofs.CommandFiles.Stopping.{controllers_refused}
-use Rattle.command_loop.proofs.DesignFiles.Designs.{same_design}
+use Rattle.command_loop.proofs.TwoFiles.{plant_sound}
 use Rattle.command_loop.proofs.DesignFiles.Stopping.{text_refused}
 use Rattle.command_settle.specs.Disturbances.{no_disturbances}
 use Rattle.command_settle.specs.Loops.{LoopsSettleOf}
-use Rattle.command_settle.specs.Settle.{CertificateCalls, range_box, told_text, SettlingPrints, settle_act, settle_range, settle_controller, settle_design}
+use Rattle.command_settle.specs.Settle.{CertificateCalls, range_box, told_text, SettlingPrints, settle_act, settle_range, settle_certificate, settle_work, settle_deeds}
 use Rattle.command_settle.specs.Files.{IsUntold, SettlingEnds}
-use Rattle.command_settle.specs.Deeds.{settle_work, settle_deeds}
 use Rattle.command_settle.proofs.Calling.{calls_telling, fault_uncut}
 
 -- nothing was printed by an answer that is neither `Done` nor a fault of the output
@@ -42,24 +36,9 @@ range_sound : (disturbed : Bool) (d : Design) (k : AnyController) (f : Certifica
 range_sound true d k f = (omega arith, text_refused 4, whole (λ range. ends (settle_act d k f range)), calls_telling d (any_numbers k) f)
 range_sound false d k f = calls_telling d (any_numbers k) f (no_disturbances (any_numbers k).states)
 
--- a design is known by its numbers
-sees : (disturbed : Bool) (q p : Asked) → asked_numbers q ≡ asked_numbers p → (k : Contents) (s : Status) → calls_of (settle_design disturbed (design_of q.design)) k s →
-    calls_of (settle_design disturbed (design_of p.design)) k s
-sees disturbed q p same k s = subst (λ (d : Design). calls_of (settle_design disturbed d) k s) (same_design q.design p.design (ap (λ (a : AskedNumbers). a.design) same))
-
 pub settle_sound : (disturbed : Bool) → IsSoundWork (settle_work disturbed)
 settle_sound disturbed = record {
-  sound = (
-    omega arith,
-    text_refused 1,
-    sees disturbed,
-    λ a. (
-      omega arith,
-      controllers_refused 2,
-      whole (settle_controller disturbed (design_of a.design)),
-      λ k. (mismatch_test (design_of a.design) (any_numbers k), (omega arith, text_refused 3, whole (settle_range disturbed (design_of a.design) k), range_sound disturbed (design_of a.design) k)),
-    ),
-  );
+  sound = plant_sound (settle_certificate disturbed) (λ d k. (omega arith, text_refused 3, whole (settle_range disturbed d k), range_sound disturbed d k));
   first = inl refl;
 }
 

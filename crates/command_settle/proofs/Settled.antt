@@ -27,7 +27,7 @@ use Rattle.command_loop.specs.ControllerFile.AnyText.{any_numbers}
 use Rattle.command_loop.specs.ControllerFile.declared.any_controller.AnyController.{AnyController}
 use Rattle.command_loop.specs.ControllerFile.declared.any_controller.AnyController.TheVariants.{Plain, Fast}
 use Rattle.command_loop.proofs.CommandFiles.Stopping.{controllers_refused}
-use Rattle.command_loop.proofs.Refusals.{mismatch_refusal}
+use Rattle.command_loop.proofs.TwoFiles.{mismatch_refusal}
 use Rattle.command_loop.specs.DesignFiles.Texts.{AskedRight}
 use Rattle.command_loop.specs.CommandFiles.Texts.{AnyControllerRight}
 use Rattle.command_loop.proofs.DesignFiles.Stopping.{text_refused}

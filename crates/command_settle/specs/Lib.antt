@@ -5,4 +5,3 @@ pub mod Loops
 pub mod Settle
 pub mod Files
 pub mod Settled
-pub mod Deeds

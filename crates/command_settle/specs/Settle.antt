@@ -8,25 +8,27 @@ use Rattle.qp_model.specs.machine.Controller.{Numbers}
 use Rattle.qp_model.specs.machine.Successor.{IsFor}
 use Rattle.qp_model.specs.declared.quantity.Quantity.TheVariants as quantities
 use Rattle.qp_model.specs.declared.refusal.Refusal.TheVariants.{TooWide}
-use Rattle.settle_check.specs.Still.{Box, box_of}
+use Rattle.settle_check.specs.Still.{Box, box_of, IsPartOf}
+use Rattle.settle_check.specs.Certificates.{state_box}
 use Rattle.settle_check.specs.Settling.{settled_box, told_rows, cost_box}
 use Rattle.settle_check.specs.Settles.{PassesSettling, IsSettleFault}
 use Rattle.settle_check.specs.CertificateText.{CertificateNumbers, box_in, certificate_in}
+use Rattle.settle_check.specs.declared.certificate.CertificateParts.{CertificateParts}
 use Rattle.settle_check.specs.declared.fault.SettleFault.{SettleFault}
 use Rattle.settle_check.specs.declared.fault.SettleFault.TheVariants as faults
 use Rattle.command_line.specs.Limit.{file_limit}
 use Rattle.command_line.specs.Answers.{Contents, FileHolds}
-use Rattle.command_line.specs.Script.{Act, Script, ends, reads, tests, printing_act}
+use Rattle.command_line.specs.Deeds.{Deeds}
+use Rattle.command_line.specs.Script.{Act, Script, ends, reads, printing_act, Work, printing_work, deeds_of_work}
 use Rattle.command_line.specs.declared.status.Status.{Status}
 use Rattle.command_line.specs.declared.status.Status.TheVariants.{Done, Memory, WriteFault, Refused, Moves, Unsettled, NoReturn}
 use Rattle.design_files.specs.declared.places.Asked.{Asked}
-use Rattle.command_loop.specs.Loop.{IsMismatch}
+use Rattle.command_loop.specs.Plant.{plant_script}
 use Rattle.command_loop.specs.ControllerFile.AnyText.{any_numbers}
 use Rattle.command_loop.specs.ControllerFile.declared.any_controller.AnyController.{AnyController}
 use Rattle.command_loop.specs.DesignFiles.Texts.{AskedRight}
-use Rattle.command_loop.specs.DesignFiles.Reading.{asked_kind}
 use Rattle.command_loop.specs.CommandFiles.Texts.{AnyControllerRight}
-use Rattle.command_loop.specs.CommandFiles.Reading.{any_controller_kind, range_kind}
+use Rattle.command_loop.specs.CommandFiles.Reading.{range_kind}
 use Rattle.command_settle.specs.CertificateFile.{CertificateRight, certificate_kind}
 use Rattle.command_settle.specs.Disturbances.{no_disturbances, HoldsDisturbances}
 use Rattle.command_settle.specs.SettledText.{settled_text}
@@ -52,6 +54,10 @@ CertificateCalls d c f range s =
     ((fault : SettleFault) × IsSettleFault d c (range_box range) (certificate_in f) fault × (s ≡ settle_status fault))
 
 -- ---- what the files hold
+-- the box of a controller's grid has in it the box of a certificate in which no multiplier moves
+abbrev pub HasStillBoxIn : Numbers → CertificateParts → Type 0
+HasStillBoxIn c p = IsPartOf c.states (box_of c.low c.high) (state_box p.still)
+
 -- the first three: a design and a controller for it, both of any version, and a certificate
 pub record HoldsCertificate (design controller certificate : Option (List ℕ)) (a : Asked) (k : AnyController) (f : CertificateNumbers) : Type 0 where
   pub design_right : FileHolds file_limit (AskedRight a) design
@@ -107,12 +113,12 @@ settle_range false d k f = ends (settle_act d k f (no_disturbances (any_numbers 
 abbrev pub settle_certificate : (disturbed : Bool) → Design → AnyController → Script
 settle_certificate disturbed d k = reads 3 (certificate_kind (any_numbers k)) (settle_range disturbed d k)
 
--- the second has a controller, of either machine, which is for the design
-abbrev pub settle_controller : (disturbed : Bool) → Design → AnyController → Script
-settle_controller disturbed d k = tests (IsMismatch d (any_numbers k)) (IsFor (any_numbers k) d) (settle_certificate disturbed d k)
-
-abbrev pub settle_design : (disturbed : Bool) → Design → Script
-settle_design disturbed d = reads 2 any_controller_kind (settle_controller disturbed d)
-
 abbrev pub settle_script : (disturbed : Bool) → Script
-settle_script disturbed = reads 1 asked_kind (λ a. settle_design disturbed (design_of a.design))
+settle_script disturbed = plant_script (settle_certificate disturbed)
+
+-- ---- its row of the table of commands
+abbrev pub settle_work : (disturbed : Bool) → Work
+settle_work disturbed = printing_work (settle_script disturbed) (λ s. ⊥)
+
+abbrev pub settle_deeds : (disturbed : Bool) → Deeds
+settle_deeds disturbed = deeds_of_work (settle_work disturbed)

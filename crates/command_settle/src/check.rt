@@ -3,14 +3,13 @@ ghost use Rattle.std.specs.Prelude.{◌≡◌, IfOk, IfErr};
 ghost use Rattle.qp_model.specs.problem.Parts.{design_of};
 ghost use Rattle.qp_model.specs.machine.Successor.{IsFor};
 ghost use Rattle.state_files.specs.RangeText.{IsShiftRange};
-ghost use Rattle.settle_check.specs.Still.{box_of, IsPartOf};
 ghost use Rattle.settle_check.specs.Settling.{told_rows};
 ghost use Rattle.settle_check.specs.Settles.{PassesSettling};
-ghost use Rattle.settle_check.specs.Certificates.{state_box, IsCertificateFor, IsBoxOf};
+ghost use Rattle.settle_check.specs.Certificates.{IsCertificateFor, IsBoxOf};
 ghost use Rattle.settle_check.specs.CertificateText.{certificate_numbers, certificate_in};
 ghost use Rattle.command_line.specs.Answers.{IsAnswer};
 ghost use Rattle.command_loop.specs.ControllerFile.AnyText.{any_numbers};
-ghost use Rattle.command_settle.specs.Settle.{settle_status, range_box, CertificateCalls, told_box, told_costs, told_text};
+ghost use Rattle.command_settle.specs.Settle.{settle_status, HasStillBoxIn, range_box, CertificateCalls, told_box, told_costs, told_text};
 ghost use Rattle.command_settle.specs.Files.{IsUntold};
 ghost use Rattle.command_settle.specs.Loops.{LoopsSettleOf};
 
@@ -65,7 +64,7 @@ fn box_settled(
 ) -> Result<Settled, Status>
     requires matched { IsFor (any_numbers controller.now) (design_of design.now) }
     requires certificate { IsCertificateFor (any_numbers controller.now).states certificate.now }
-    requires inside { IsPartOf (any_numbers controller.now).states (box_of (any_numbers controller.now).low (any_numbers controller.now).high) (state_box certificate.now.still) }
+    requires inside { HasStillBoxIn (any_numbers controller.now) certificate.now }
     requires range { IsShiftRange (any_numbers controller.now).states range.now }
     ensures rest { IfOk result (λ b. IsBoxOf (design_of design.now).states
         (told_box (design_of design.now) (any_numbers controller.now) (certificate_numbers certificate.now) range.now) b.rest) }
@@ -96,7 +95,7 @@ pub fn text_settled(
 ) -> Result<Vec<u8>, Status>
     requires matched { IsFor (any_numbers controller.now) (design_of design.now) }
     requires certificate { IsCertificateFor (any_numbers controller.now).states certificate.now }
-    requires inside { IsPartOf (any_numbers controller.now).states (box_of (any_numbers controller.now).low (any_numbers controller.now).high) (state_box certificate.now.still) }
+    requires inside { HasStillBoxIn (any_numbers controller.now) certificate.now }
     requires range { IsShiftRange (any_numbers controller.now).states range.now }
     ensures text { IfOk result (λ v. v.items ≡ told_text (design_of design.now) (any_numbers controller.now) (certificate_numbers certificate.now) range.now) }
     ensures settles { IfOk result (λ _. LoopsSettleOf (design_of design.now) controller.now

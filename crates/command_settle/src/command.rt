@@ -1,11 +1,11 @@
 // `settle` with its arguments.
 ghost use Rattle.command_line.specs.Words.{IsSettle};
 ghost use Rattle.command_line.specs.Does.{Does};
-ghost use Rattle.command_settle.specs.Deeds.{settle_deeds};
+ghost use Rattle.command_settle.specs.Settle.{settle_deeds};
 
-use crate::files::run_design;
+use crate::files::run_controller;
 use command_line::Status;
-use command_loop::read_asked_file;
+use command_loop::read_plant;
 use io_edge::{Sink, Store, Words};
 use std::alloc::Global;
 
@@ -22,8 +22,18 @@ pub fn settle<S: Store, O: Sink>(
     requires { IsSettle words.now disturbed }
     ensures { Does S.Store O.Sink words.now (settle_deeds disturbed) store.old store.new out.old out.new result }
 {
-    match read_asked_file(alloc, 1, words.at(1), store) {
-        Ok(asked) => run_design(alloc, words, disturbed, &asked.design, store, out),
+    match read_plant(alloc, words, store) {
+        Ok(plant) => {
+            run_controller(
+                alloc,
+                words,
+                disturbed,
+                &plant.asked.design,
+                &plant.controller,
+                store,
+                out,
+            )
+        }
         Err(status) => status,
     }
 }

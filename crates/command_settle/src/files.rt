@@ -1,20 +1,17 @@
 // The files of `settle`, one after the other.
-ghost use Rattle.std.specs.Prelude.{◌≡◌};
 ghost use Rattle.qp_model.specs.problem.Parts.{design_of};
 ghost use Rattle.qp_model.specs.machine.Successor.{IsFor};
-ghost use Rattle.settle_check.specs.Still.{box_of, IsPartOf};
-ghost use Rattle.settle_check.specs.Certificates.{state_box, IsCertificateFor};
+ghost use Rattle.settle_check.specs.Certificates.{IsCertificateFor};
 ghost use Rattle.settle_check.specs.CertificateText.{certificate_numbers};
 ghost use Rattle.command_line.specs.Words.{IsSettle};
 ghost use Rattle.command_line.specs.Running.{Runs};
 ghost use Rattle.command_loop.specs.ControllerFile.AnyText.{any_numbers};
-ghost use Rattle.command_settle.specs.Settle.{settle_range, settle_certificate, settle_design};
-ghost use Rattle.command_settle.specs.Deeds.{settle_deeds};
+ghost use Rattle.command_settle.specs.Settle.{HasStillBoxIn, settle_range, settle_certificate, settle_deeds};
 
 use crate::certificate::read_certificate_file;
 use crate::printing::print_settled;
 use command_line::Status;
-use command_loop::{AnyController, mismatch_of, read_any_controller_file, read_range_file};
+use command_loop::{AnyController, read_range_file};
 use io_edge::{Sink, Store, Words};
 use mat_int::Mat;
 use qp_model::Design;
@@ -35,7 +32,7 @@ fn run_certificate<S: Store, O: Sink>(
     requires words { IsSettle words.now disturbed }
     requires matched { IsFor (any_numbers controller.now) (design_of design.now) }
     requires certificate { IsCertificateFor (any_numbers controller.now).states certificate.now }
-    requires inside { IsPartOf (any_numbers controller.now).states (box_of (any_numbers controller.now).low (any_numbers controller.now).high) (state_box certificate.now.still) }
+    requires inside { HasStillBoxIn (any_numbers controller.now) certificate.now }
     ensures { Runs S.Store O.Sink words.now (settle_deeds disturbed) store.old store.new out.old out.new result
         (settle_range disturbed (design_of design.now) controller.now (certificate_numbers certificate.now)) }
 {
@@ -53,8 +50,8 @@ fn run_certificate<S: Store, O: Sink>(
     }
 }
 
-// The certificate, and what comes after it, for a controller that is for the design.
-fn run_controller<S: Store, O: Sink>(
+/// The certificate, and what comes after it, for a controller that is for the design.
+pub fn run_controller<S: Store, O: Sink>(
     alloc: Global,
     words: &Words,
     disturbed: bool,
@@ -80,28 +77,5 @@ fn run_controller<S: Store, O: Sink>(
             out,
         ),
         Err(status) => status,
-    }
-}
-
-/// The controller, which is to be for the design, and what comes after it.
-pub fn run_design<S: Store, O: Sink>(
-    alloc: Global,
-    words: &Words,
-    disturbed: bool,
-    design: &Design,
-    store: &mut S,
-    out: &mut O,
-) -> Status
-    requires { IsSettle words.now disturbed }
-    ensures { Runs S.Store O.Sink words.now (settle_deeds disturbed) store.old store.new out.old out.new result
-        (settle_design disturbed (design_of design.now)) }
-{
-    let controller = match read_any_controller_file(alloc, 2, words.at(2), store) {
-        Ok(controller) => controller,
-        Err(ended) => return ended,
-    };
-    match mismatch_of(design, controller.parts()) {
-        Some(status) => status,
-        None => run_controller(alloc, words, disturbed, design, &controller, store, out),
     }
 }

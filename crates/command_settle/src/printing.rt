@@ -4,11 +4,10 @@ ghost use Rattle.io_edge.specs.Faults.{Rose, GrowsByPart};
 ghost use Rattle.qp_model.specs.problem.Parts.{design_of};
 ghost use Rattle.qp_model.specs.machine.Successor.{IsFor};
 ghost use Rattle.state_files.specs.RangeText.{IsShiftRange};
-ghost use Rattle.settle_check.specs.Still.{box_of, IsPartOf};
-ghost use Rattle.settle_check.specs.Certificates.{state_box, IsCertificateFor};
+ghost use Rattle.settle_check.specs.Certificates.{IsCertificateFor};
 ghost use Rattle.settle_check.specs.CertificateText.{certificate_numbers};
 ghost use Rattle.command_loop.specs.ControllerFile.AnyText.{any_numbers};
-ghost use Rattle.command_settle.specs.Settle.{SettlingPrints};
+ghost use Rattle.command_settle.specs.Settle.{HasStillBoxIn, SettlingPrints};
 ghost use Rattle.command_settle.specs.Files.{SettlingEnds};
 
 use crate::check::text_settled;
@@ -45,7 +44,7 @@ pub fn print_settled<O: Sink>(
 ) -> Status
     requires matched { IsFor (any_numbers controller.now) (design_of design.now) }
     requires certificate { IsCertificateFor (any_numbers controller.now).states certificate.now }
-    requires inside { IsPartOf (any_numbers controller.now).states (box_of (any_numbers controller.now).low (any_numbers controller.now).high) (state_box certificate.now.still) }
+    requires inside { HasStillBoxIn (any_numbers controller.now) certificate.now }
     requires range { IsShiftRange (any_numbers controller.now).states range.now }
     ensures ends { SettlingEnds (design_of design.now) (any_numbers controller.now) (certificate_numbers certificate.now) range.now result }
     ensures printed { IfSome (O.got out.old) (λ old. IsSomeAnd (O.got out.new)

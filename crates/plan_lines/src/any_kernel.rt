@@ -1,5 +1,5 @@
 // A kernel of either machine.
-ghost use Rattle.std.specs.Prelude.{◌≡◌, ℕ, IfOk};
+ghost use Rattle.std.specs.Prelude.{◌≡◌, IfOk};
 ghost use Rattle.qp_model.specs.machine.Machine.{IsAdmissible};
 ghost use Rattle.controller_file.specs.AnyText.{any_numbers};
 ghost use Rattle.plan_lines.specs.Lines.{any_plan_line};

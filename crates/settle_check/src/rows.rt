@@ -1,5 +1,5 @@
 // A row through the closed loop.
-ghost use Rattle.std.specs.Prelude.{◌≡◌, ◌↔◌, ◌<◌, ◌≤◌, ◌*◌, ◌^◌, ◌*ℤ◌, pos, length, max, IsSome, IfSome, unsigned_abs};
+ghost use Rattle.std.specs.Prelude.{◌≡◌, ◌↔◌, ◌<◌, ◌≤◌, ◌*◌, ◌^◌, ◌*ℤ◌, pos, length, IsSome, IfSome};
 ghost use Rattle.std.specs.Int.{int_max};
 ghost use Rattle.integer_algebra.specs.Sums.{at, total, coimage};
 ghost use Rattle.mat_int.specs.Matrix.{entry_of};

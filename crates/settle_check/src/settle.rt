@@ -1,7 +1,6 @@
 // Whether a certificate shows that loops settle, and where.
-ghost use Rattle.std.specs.Prelude.{◌≡◌, ◌⊎◌, ℕ, ◌-◌, ◌<◌, ◌≤◌, ◌^◌, length, IfOk, IfErr, IsTrue, ◌↔◌, MatchResult};
+ghost use Rattle.std.specs.Prelude.{◌≡◌, ◌⊎◌, ◌-◌, ◌<◌, ◌≤◌, length, IfOk, IfErr, IsTrue, ◌↔◌, MatchResult};
 ghost use Rattle.qp_model.specs.problem.Parts.{IsDesign, design_of};
-ghost use Rattle.qp_model.specs.problem.Runs.{Holds};
 ghost use Rattle.qp_model.specs.machine.Controller.{numbers, IsSized};
 ghost use Rattle.overflow_check.specs.FastController.{with_last_version};
 ghost use Rattle.qp_model.specs.machine.Successor.{IsFor};

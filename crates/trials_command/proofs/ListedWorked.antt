@@ -5,8 +5,7 @@ use Rattle.qp_model.specs.machine.Controller.{Numbers}
 use Rattle.mac_listing.specs.Listing.{listing_of}
 use Rattle.mac_listing.specs.Text.{IsListingText}
 use Rattle.command_line.specs.declared.status.Status.TheVariants.{Done, WriteFault}
-use Rattle.command_list.specs.Listed.{IsListed, IsListingCut, ListLeaves}
-use Rattle.command_list.specs.Deeds.{list_deeds}
+use Rattle.command_list.specs.Listed.{IsListed, IsListingCut, ListLeaves, list_deeds}
 
 abbrev named : List (List ℕ)
 named = [] ∷ (1 ∷ []) ∷ (2 ∷ []) ∷ []

@@ -15,7 +15,7 @@ use Rattle.command_line.specs.declared.status.Status.TheVariants.{Trap}
 use Rattle.command_play.specs.Texts.{ListingRight}
 use Rattle.command_play.specs.Printing.{TellsTrapLater}
 use Rattle.command_play.specs.AsSolved.{HoldsListed, IsPlayed, PlaysAsSolved}
-use Rattle.command_play.specs.Deeds.{play_deeds}
+use Rattle.command_play.specs.Play.{play_deeds}
 
 abbrev named : List (List ℕ)
 named = [] ∷ (1 ∷ []) ∷ (2 ∷ []) ∷ []

@@ -1,4 +1,4 @@
-use Rattle.std.proofs.Common.{◌∙◌, ◌∷◌, [], pos, codes, rules, arith, FitsSigned}
+use Rattle.std.proofs.Common.{◌∙◌, ◌∷◌, [], codes, rules, arith, FitsSigned}
 use Rattle.std.specs.Int.{w128}
 use Rattle.std.proofs.lemmas.Int.{to_z-of_z, to_z_pos}
 use Rattle.bound_report.specs.Report.{One}

@@ -1,10 +1,9 @@
-use Rattle.std.proofs.Common.{◌≡◌, ◌∙◌, ◌++◌, ◌∷◌, [], ℕ, List, ap, map, fold, refl}
+use Rattle.std.proofs.Common.{◌≡◌, ◌∙◌, ◌++◌, ◌∷◌, [], List, ap, map, fold, refl}
 use Rattle.std.specs.Fmt.{signed_decimal}
 use Rattle.serde_json.specs.Data.{Members, string, put}
 use Rattle.serde_json.specs.View.{members_view}
 use Rattle.qp_model.specs.bounds.Printed.{printed}
-use Rattle.bound_report.specs.Report.{Figure, One, first_members, last_members}
-use Rattle.bound_report.specs.Document.{value_of}
+use Rattle.bound_report.specs.Report.{One, first_members, last_members}
 use Rattle.bound_report.specs.declared.KeyedNumber.{KeyedNumber}
 use Rattle.bound_report.proofs.KeyLaws.{put_each, put_in_order}
 use Rattle.bound_report.proofs.number_members.Goals as goal

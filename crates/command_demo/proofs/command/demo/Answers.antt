@@ -1,13 +1,11 @@
+use Rattle.std.proofs.Common.{refl}
+use Rattle.command_line.proofs.Following.{nothing_printed}
+use Rattle.command_line.specs.declared.status.Status.TheVariants.{Memory}
+use Rattle.command_demo.proofs.PrintedText.{quiet}
 use Rattle.command_demo.proofs.command.demo.Goals as goal
 
+pub returns-in_default : goal.returns-in_default
+returns-in_default g c = nothing_printed (λ caused. absurd (caused.memory refl)) (λ file e. cc) (λ file e. cc) (λ old. quiet c.args.number Memory old (λ e. cc) (λ e. cc))
+
 pub returns : goal.returns
-returns g c =
-    let made = c.in-Ok.ensures.made in
-    record {
-      called = λ caused. c.demo_of.ensures.called c.args.number made caused;
-      prints = c.demo_of.ensures.prints c.args.number made;
-      quiet = c.demo_of.ensures.quiet;
-      no_read = c.demo_of.ensures.no_read;
-      write_fault = λ file is. c.demo_of.ensures.write_fault c.args.number made file is;
-      no_fewer = c.demo_of.ensures.no_fewer;
-    }
+returns g c = c.demo_of.ensures c.args.number c.in-Ok.ensures.made

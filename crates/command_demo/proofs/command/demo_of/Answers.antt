@@ -1,15 +1,16 @@
-use Rattle.std.proofs.Common.{◌∙◌, arith, le_refl, refl, sym, subst}
+use Rattle.std.proofs.Common.{◌∙◌, arith, sym, subst}
 use Rattle.qp_model.specs.problem.Parts.{design_of}
 use Rattle.qp_model.specs.problem.Policy.{plans_of}
 use Rattle.qp_model.specs.bounds.Printed.{printed}
 use Rattle.command_line.specs.Answers.{IsAnswer}
+use Rattle.command_line.proofs.Following.{nothing_printed}
 use Rattle.command_line.specs.declared.status.Status.{Status}
 use Rattle.command_line.specs.declared.status.Status.TheVariants.{Done}
 use Rattle.command_demo.specs.Demo.{DemoCalls}
 use Rattle.design_maker.specs.Texts.{states_text}
 use Rattle.command_demo.proofs.Inside.{inside, shown}
 use Rattle.command_demo.proofs.Answering.{answer_is, refused_is, printed_done, printed_one, printed_no_read, printed_fault}
-use Rattle.command_demo.proofs.PrintedText.{prints_told, quiet_told}
+use Rattle.command_demo.proofs.PrintedText.{prints_told, quiet}
 use Rattle.command_demo.proofs.command.demo_of.Goals as goal
 
 pub print_text-requires-clause-inside : goal.print_text-requires-clause-inside
@@ -27,38 +28,28 @@ pub print_text-requires-clause-some : goal.print_text-requires-clause-some
 print_text-requires-clause-some g c = omega (arith, c.requires.four)
 
 pub returns-in-Ok : goal.returns-in-Ok
-returns-in-Ok g c =
+returns-in-Ok g c = λ number made.
     let inputs = c.args.inputs.now in
     let plans = plans_of inputs.policy in
     let controller = c.in-Ok.made.controller in
     let bounds = printed c.in-Ok.made.bounds in
     let s = c.print_text.result in
-    let only = c.print_text.ensures.only in
+    let did = c.print_text.ensures in
+    let answer = answer_is number inputs.design plans Done made.made made.one c.in-Ok.ensures.made.called in
     record {
-      called = λ number made caused. subst (λ (t : Status). IsAnswer (DemoCalls number) t) (sym (printed_done s only caused)) (answer_is number inputs.design plans Done made.made made.one c.in-Ok.ensures.made.called);
-      prints = λ number made.
+      called = λ caused. subst (λ (t : Status). IsAnswer (DemoCalls number) t) (sym (printed_done s did.only caused)) answer;
+      read_fault = λ file is. printed_no_read s did.only file is;
+      write_fault = λ file is. let rose = printed_fault _ s did.only did.failed file is in (rose.0, answer.called, rose.1);
+      shows =
           prints_told controller bounds inputs.states number s (g.O.Sink.got c.args.out.now) (g.O.Sink.got c.print_text.new.out)
-          (shown number inputs.design plans controller bounds inputs.states made.made c.in-Ok.ensures.made.made c.requires.states c.requires.inside) only c.print_text.ensures.printed;
-      quiet = λ done memory fault. printed_one _ s only done memory fault;
-      no_read = λ file is. printed_no_read s only file is;
-      write_fault = λ number made file is.
-          let rose = printed_fault _ s only c.print_text.ensures.failed file is in
-          let answer = answer_is number inputs.design plans Done made.made made.one c.in-Ok.ensures.made.called in
-          (rose.0, answer.called, rose.1);
-      no_fewer = c.print_text.ensures.no_fewer;
+          (shown number inputs.design plans controller bounds inputs.states made.made c.in-Ok.ensures.made.made c.requires.states c.requires.inside) did.only did.printed;
+      quiet = λ earlier. printed_one _ s did.only earlier.done earlier.memory earlier.fault;
+      no_fewer = did.no_fewer;
     }
 
 pub returns-in-Err : goal.returns-in-Err
-returns-in-Err g c =
+returns-in-Err g c = λ number made.
     let inputs = c.args.inputs.now in
-    let plans = plans_of inputs.policy in
     let s = c.in-Err.status in
     let none = c.in-Err.ensures.made.unmade in
-    record {
-      called = λ number made caused. refused_is number inputs.design plans s made.made made.one none caused;
-      prints = λ number made. quiet_told number s (g.O.Sink.got c.args.out.now) none.done (none.write 0);
-      quiet = λ done memory fault. refl;
-      no_read = λ file is. none.read file is;
-      write_fault = λ number made file is. absurd (none.write file is);
-      no_fewer = le_refl (g.O.Sink.faults c.args.out.now);
-    }
+    nothing_printed (λ caused. refused_is number inputs.design (plans_of inputs.policy) s made.made made.one none caused) none.read none.write (λ old. quiet number s old none.done (none.write 0))

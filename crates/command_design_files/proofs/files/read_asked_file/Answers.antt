@@ -1,14 +1,12 @@
-use Rattle.std.proofs.Common.{◌≡◌, inl, inr, true, Result, Ok, Err}
+use Rattle.std.proofs.Common.{◌≡◌, inl, inr, Result, Ok, Err}
 use Rattle.std.specs.Prelude.{◌⊎◌, IsOkAnd, MatchResult}
 use Rattle.number_text.specs.declared.text_fault.TextFault.{TextFault}
 use Rattle.number_text.specs.declared.text_fault.TextFault.TheVariants.{Memory}
 use Rattle.qp_model.specs.problem.Parts.{design_numbers}
-use Rattle.design_files.specs.AskedText.{IsAskedFault}
 use Rattle.design_files.specs.declared.places.Asked.{Asked}
 use Rattle.command_line.proofs.Results.{err_same}
-use Rattle.command_design_files.specs.Texts.{AskedRight}
 use Rattle.command_design_files.specs.Reading.{asked_numbers}
-use Rattle.command_design_files.proofs.Readers.{unread, read_text, fault_or}
+use Rattle.command_design_files.proofs.Readers.{unread, text_told, judged, fault_or}
 use Rattle.command_design_files.proofs.files.read_asked_file.Goals as goal
 
 -- the numbers of the design and the machine, or out of memory
@@ -27,5 +25,5 @@ returns g c =
     let got = c.in_ok-bytes.ensures in
     let is = rw c.deref.ensures.value at c.read_any_design.ensures in
     let p = c.read_any_design.result in
-    read_text g.S.Store c.args.file _ AskedRight asked_numbers (IsAskedFault true) _ _ _ c.in_ok-bytes.bytes.items got.told got.short got.passes p c.told_text.result c.told_text.ensures
+    judged text_told c.in_ok-bytes.bytes.items got.told got.short got.passes p c.told_text.result c.told_text.ensures
     (record { found = is.text; fault = is.fault; right = λ y right. seen_or y p (is.every_text y right); first = λ other fault. fault_or p (is.every_fault other fault) })

@@ -4,10 +4,8 @@ use Rattle.std.proofs.lemmas.List.{length-map}
 use Rattle.std.proofs.lemmas.Result.{IfOk-weaker}
 use Rattle.qp_model.specs.problem.Parts.{design_of}
 use Rattle.qp_model.specs.problem.Policy.{plans_of}
-use Rattle.cell_split.specs.PoliciesText.{IsPoliciesFault}
 use Rattle.command_line.proofs.Results.{err_same}
-use Rattle.command_files.specs.Texts.{CellPoliciesRight}
-use Rattle.command_design_files.proofs.Readers.{unread, read_text, still}
+use Rattle.command_design_files.proofs.Readers.{unread, text_told, judged, still}
 use Rattle.command_files.proofs.cell_policies.read_cell_policies_file.Goals as goal
 
 pub returns-in_err-bytes : goal.returns-in_err-bytes
@@ -22,7 +20,7 @@ returns g c =
     let p = c.read_cell_policies.result in
     let r = c.told_text.result in
     record {
-      read = read_text g.S.Store c.args.file _ (CellPoliciesRight d c.args.cells) (λ x. x) (λ bytes fault. IsPoliciesFault bytes d c.args.cells fault) _ _ _ c.in_ok-bytes.bytes.items got.told got.short got.passes p r c.told_text.ensures
+      read = judged text_told c.in_ok-bytes.bytes.items got.told got.short got.passes p r c.told_text.ensures
           (record { found = is.found; fault = is.fault; right = is.right; first = is.first });
       count = still _ _ p r c.told_text.ensures (IfOk-weaker p _ _ (λ v are. sym (length-map v.items (option_map plans_of)) ∙ are.hold.count) is.found);
       sized = still _ _ p r c.told_text.ensures is.sized;

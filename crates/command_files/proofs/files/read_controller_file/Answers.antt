@@ -1,11 +1,6 @@
-use Rattle.controller_text.specs.declared.bad_controller.BadController.TheVariants.{Memory}
-use Rattle.controller_file.specs.FirstLine.{IsBadLine, IsUnsafe}
-use Rattle.command_line.specs.Limit.{file_limit}
 use Rattle.command_line.proofs.Results.{err_same}
-use Rattle.command_line.specs.declared.status.Status.TheVariants.{Controller}
-use Rattle.command_files.specs.Texts.{ControllerRight, IsFaultBy}
-use Rattle.command_design_files.proofs.Readers.{unread, judged, SaysController, controller_said}
-use Rattle.command_files.proofs.Controllers.{controllers_judged}
+use Rattle.command_design_files.proofs.Readers.{unread, judged}
+use Rattle.command_files.proofs.Controllers.{controllers_told, controllers_judged}
 use Rattle.command_files.proofs.files.read_controller_file.Goals as goal
 
 pub returns-in_err-bytes : goal.returns-in_err-bytes
@@ -17,6 +12,6 @@ returns g c =
     let bytes = c.in_ok-bytes.bytes.items in
     let is = rw c.deref.ensures.value at c.read_controller.ensures in
     let p = c.read_controller.result in
-    judged g.S.Store file_limit c.args.file _ ControllerRight (λ x. x) (IsFaultBy IsBadLine IsUnsafe) Memory (Controller c.args.file) SaysController (controller_said c.args.file) _ _ _ bytes got.told got.short got.passes p
+    judged controllers_told bytes got.told got.short got.passes p
     c.told_controller.result c.told_controller.ensures
-    (controllers_judged IsBadLine IsUnsafe bytes p ControllerRight _ is.found is.bad_line is.wide is.right is.bad_first is.bad_sums)
+    (controllers_judged bytes p is.found is.bad_line is.wide is.right is.bad_first is.bad_sums)

@@ -1,8 +1,6 @@
 use Rattle.qp_model.specs.problem.Parts.{design_of}
-use Rattle.stay_check.specs.FacesText.{IsFacesTextFault}
 use Rattle.command_line.proofs.Results.{err_same}
-use Rattle.command_files.specs.Texts.{FacesRight}
-use Rattle.command_design_files.proofs.Readers.{unread, read_text, still}
+use Rattle.command_design_files.proofs.Readers.{unread, text_told, judged, still}
 use Rattle.command_files.proofs.files.read_faces_file.Goals as goal
 
 pub returns-in_err-bytes : goal.returns-in_err-bytes
@@ -17,7 +15,7 @@ returns g c =
     let p = c.read_faces.result in
     let r = c.told_text.result in
     record {
-      read = read_text g.S.Store c.args.file _ (FacesRight d) (λ x. x) (λ bytes fault. IsFacesTextFault bytes d fault) _ _ _ c.in_ok-bytes.bytes.items got.told got.short got.passes p r c.told_text.ensures
+      read = judged text_told c.in_ok-bytes.bytes.items got.told got.short got.passes p r c.told_text.ensures
           (record { found = is.found; fault = is.fault; right = is.right; first = is.first });
       sized = still _ _ p r c.told_text.ensures is.sized;
     }

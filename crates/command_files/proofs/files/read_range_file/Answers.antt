@@ -1,7 +1,5 @@
-use Rattle.state_files.specs.RangeText.{IsRangeFault}
 use Rattle.command_line.proofs.Results.{err_same}
-use Rattle.command_files.specs.Texts.{RangeRight}
-use Rattle.command_design_files.proofs.Readers.{unread, read_text, still}
+use Rattle.command_design_files.proofs.Readers.{unread, text_told, judged, still}
 use Rattle.command_files.proofs.files.read_range_file.Goals as goal
 
 pub returns-in_err-bytes : goal.returns-in_err-bytes
@@ -15,7 +13,7 @@ returns g c =
     let p = c.read_shift_range.result in
     let r = c.told_text.result in
     record {
-      read = read_text g.S.Store c.args.file _ (RangeRight c.args.n) (λ x. x) (λ bytes fault. IsRangeFault bytes c.args.n fault) _ _ _ c.in_ok-bytes.bytes.items got.told got.short got.passes p r c.told_text.ensures
+      read = judged text_told c.in_ok-bytes.bytes.items got.told got.short got.passes p r c.told_text.ensures
           (record { found = is.found; fault = is.fault; right = is.right; first = is.first });
       sized = still _ _ p r c.told_text.ensures is.sized;
     }

@@ -1,7 +1,5 @@
-use Rattle.state_files.specs.TurnText.{IsShiftsFault}
 use Rattle.command_line.proofs.Results.{err_same}
-use Rattle.command_files.specs.Texts.{ShiftsRight}
-use Rattle.command_design_files.proofs.Readers.{unread, read_text}
+use Rattle.command_design_files.proofs.Readers.{unread, text_told, judged}
 use Rattle.command_files.proofs.files.read_shifts_file.Goals as goal
 
 pub returns-in_err-bytes : goal.returns-in_err-bytes
@@ -13,5 +11,5 @@ returns g c =
     let is = rw c.deref.ensures.value at c.read_shifts.ensures in
     let p = c.read_shifts.result in
     let r = c.told_text.result in
-    read_text g.S.Store c.args.file _ (ShiftsRight c.args.n c.args.turns) (λ x. x) (λ bytes fault. IsShiftsFault bytes c.args.n c.args.turns fault) _ _ _ c.in_ok-bytes.bytes.items got.told got.short got.passes p r c.told_text.ensures
+    judged text_told c.in_ok-bytes.bytes.items got.told got.short got.passes p r c.told_text.ensures
     (record { found = is.found; fault = is.fault; right = is.right; first = is.first })

@@ -1,8 +1,6 @@
 use Rattle.std.proofs.lemmas.Result.{IfOk-weaker}
-use Rattle.policy_file.specs.StatesText.{IsStatesFault}
 use Rattle.command_line.proofs.Results.{err_same}
-use Rattle.command_files.specs.Texts.{StatesRight}
-use Rattle.command_design_files.proofs.Readers.{unread, read_text, still}
+use Rattle.command_design_files.proofs.Readers.{unread, text_told, judged, still}
 use Rattle.command_files.proofs.files.read_states_file.Goals as goal
 
 pub returns-in_err-bytes : goal.returns-in_err-bytes
@@ -16,7 +14,7 @@ returns g c =
     let p = c.read_states.result in
     let r = c.told_text.result in
     record {
-      read = read_text g.S.Store c.args.file _ (StatesRight c.args.n) (λ x. x) (λ bytes fault. IsStatesFault bytes c.args.n fault) _ _ _ c.in_ok-bytes.bytes.items got.told got.short got.passes p r c.told_text.ensures
+      read = judged text_told c.in_ok-bytes.bytes.items got.told got.short got.passes p r c.told_text.ensures
           (record { found = is.found; fault = is.fault; right = is.right; first = is.first });
       width = still _ _ p r c.told_text.ensures (IfOk-weaker p _ _ (λ m text. text.cols) is.found);
       count = still _ _ p r c.told_text.ensures is.count;

@@ -1,4 +1,4 @@
-use Rattle.std.proofs.Common.{arith}
+use Rattle.std.proofs.Common.{arith, sym}
 use Rattle.command_line.specs.Does.{DoesInStore}
 use Rattle.command_line.proofs.Following.{stopped, went_on, acted, follows}
 use Rattle.command_line.proofs.TwoTexts.{two_done}
@@ -41,4 +41,4 @@ returns-in-Ok-read_policy_file g c =
     record { generated = λ done. generated words _ _ _ done does.leaves; does = does }
 
 pub write_texts-requires : goal.write_texts-requires
-write_texts-requires g c = record { first = omega (arith, c.requires.count); second = omega (arith, c.requires.count); apart = c.requires.report_controller }
+write_texts-requires g c = record { first = omega (arith, c.requires.count); second = omega (arith, c.requires.count); apart = λ e. c.requires.report 3 (omega arith) (omega (arith, c.requires.count)) (λ k. omega (arith, k)) (sym e) }

@@ -1,5 +1,5 @@
 use Rattle.command_line.proofs.Following.{follows, stopped, went_on, acted}
-use Rattle.command_list.specs.Deeds.{list_work}
+use Rattle.command_list.specs.Listed.{list_work}
 use Rattle.command_list.proofs.Written.{list_sound}
 use Rattle.command_list.proofs.command.list.Goals as goal
 

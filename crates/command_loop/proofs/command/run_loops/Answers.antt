@@ -1,16 +1,11 @@
-use Rattle.command_line.proofs.Following.{follows, stopped, went_on}
-use Rattle.command_loop.specs.Deeds.{loop_work}
+use Rattle.command_line.proofs.Following.{follows}
+use Rattle.command_loop.specs.Loop.{loop_states, loop_work}
 use Rattle.command_loop.proofs.Answering.{loop_sound}
+use Rattle.command_loop.proofs.TwoFiles.{plant_ended, plant_went}
 use Rattle.command_loop.proofs.command.run_loops.Goals as goal
 
 pub returns-in-Err : goal.returns-in-Err
-returns-in-Err g c =
-    let did = c.read_asked_file.ensures in
-    follows (loop_work c.args.turns c.args.disturbed) (loop_sound c.args.turns c.args.disturbed)
-    (stopped did.passes (rw c.at.ensures at c.in-Err.ensures.ends))
+returns-in-Err g c = follows (loop_work c.args.turns c.args.disturbed) (loop_sound c.args.turns c.args.disturbed) (plant_ended (loop_states c.args.turns c.args.disturbed) c.in-Err.ensures)
 
 pub returns-in-Ok : goal.returns-in-Ok
-returns-in-Ok g c =
-    let kept = c.in-Ok.ensures in
-    follows (loop_work c.args.turns c.args.disturbed) (loop_sound c.args.turns c.args.disturbed)
-    (went_on kept.passes (rw c.at.ensures at kept.right) c.run_design.ensures)
+returns-in-Ok g c = follows (loop_work c.args.turns c.args.disturbed) (loop_sound c.args.turns c.args.disturbed) (plant_went (loop_states c.args.turns c.args.disturbed) c.in-Ok.ensures c.run_controller.ensures)

@@ -2,7 +2,7 @@ use Rattle.std.proofs.Common.{◌≡◌, ◌∙◌, ap, refl, sym}
 use Rattle.mac_listing.specs.Listing.{Instructions}
 use Rattle.command_line.proofs.Following.{follows, stopped, went_on, acted, printed}
 use Rattle.plan_lines.proofs.LineByLine.{ok_both}
-use Rattle.command_play.specs.Deeds.{play_work}
+use Rattle.command_play.specs.Play.{play_work}
 use Rattle.command_play.proofs.Playing.{play_sound, play_ended}
 use Rattle.command_play.proofs.command.play.Goals as goal
 

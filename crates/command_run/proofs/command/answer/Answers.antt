@@ -1,13 +1,9 @@
 use Rattle.std.proofs.Common.{refl, true, false}
-use Rattle.command_line.specs.Answers.{IsAnswer}
-use Rattle.command_line.specs.declared.status.Status.TheVariants.{Done}
-use Rattle.command_line.proofs.Composing.{some_contents}
 use Rattle.command_line.proofs.Beside.{beside}
-use Rattle.command_line.proofs.Doing.{printing, shown_anyhow, none_falls}
-use Rattle.command_demo.specs.Demo.{DemoCalls, DemoPrints}
-use Rattle.command_demo.specs.Deeds.{demo_deeds}
-use Rattle.command_demo.proofs.Row.{demo_row}
-use Rattle.command_list.specs.Deeds.{list_work}
+use Rattle.command_line.proofs.Following.{does_along, acted, printed}
+use Rattle.command_demo.specs.Demo.{demo_work}
+use Rattle.command_demo.proofs.Row.{demo_sound}
+use Rattle.command_list.specs.Listed.{list_work}
 use Rattle.command_make.specs.Make.{make_work, generate_asked, stay_asked, lean_asked}
 use Rattle.command_make.proofs.Written.{make_silent}
 use Rattle.command_split.specs.Split.{split_work}
@@ -52,19 +48,4 @@ returns-in-C g c =
 
 -- ---- `demo`, which uses no file
 pub returns-in-Demo : goal.returns-in-Demo
-returns-in-Demo g c =
-    let words = c.args.words.now in
-    let held = g.S.Store.held c.args.store.now in
-    let number = c.in-Demo.number in
-    let s = c.demo.result in
-    rw c.in-Demo.is (printing g.S.Store g.O.Sink words (demo_deeds number) (demo_row number) tt c.args.store.now c.args.store.now c.args.out.now c.demo.new.out s (λ unused. refl) (λ same. same) (record {
-      called = λ caused. some_contents words held (λ k. IsAnswer (DemoCalls number) s) (λ k. c.demo.ensures.called caused);
-      prints = shown_anyhow words held (g.O.Sink.got c.args.out.now) (g.O.Sink.got c.demo.new.out) (DemoPrints number s) c.demo.ensures.prints;
-      quiet = λ earlier. c.demo.ensures.quiet earlier.done earlier.memory earlier.fault;
-      read_fault = λ file is. absurd (c.demo.ensures.no_read file is);
-      write_fault = λ file is. let found = c.demo.ensures.write_fault file is in (found.0, some_contents words held (λ k. DemoCalls number Done) (λ k. found.1), found.2);
-      held = refl;
-      reads = none_falls (g.S.Store.read_faults c.args.store.now);
-      writes = none_falls (g.S.Store.write_faults c.args.store.now);
-      no_fewer = c.demo.ensures.no_fewer;
-    }))
+returns-in-Demo g c = rw c.in-Demo.is (does_along (demo_work c.in-Demo.number) (demo_sound c.in-Demo.number) (λ unused. refl) (acted (printed tt c.demo.ensures refl)))

@@ -1,9 +1,6 @@
-use Rattle.settle_check.specs.Still.{box_of}
-use Rattle.settle_check.specs.CertificateText.{IsCertificateFault}
 use Rattle.command_line.proofs.Results.{err_same}
-use Rattle.command_loop.proofs.DesignFiles.Readers.{unread, read_text, still}
+use Rattle.command_loop.proofs.DesignFiles.Readers.{unread, text_told, judged, still}
 use Rattle.command_loop.specs.ControllerFile.AnyText.{any_numbers}
-use Rattle.command_settle.specs.CertificateFile.{CertificateRight}
 use Rattle.command_settle.proofs.certificate.read_certificate_file.Goals as goal
 
 pub returns-in_err-bytes : goal.returns-in_err-bytes
@@ -18,7 +15,7 @@ returns g c =
     let p = c.certificate_for.result in
     let r = c.told_text.result in
     record {
-      read = read_text g.S.Store c.args.file _ (CertificateRight n) (λ x. x) (λ bytes fault. IsCertificateFault bytes n.states (box_of n.low n.high) fault) _ _ _ c.in_ok-bytes.bytes.items got.told got.short got.passes p r c.told_text.ensures
+      read = judged text_told c.in_ok-bytes.bytes.items got.told got.short got.passes p r c.told_text.ensures
           (record { found = is.found; fault = is.fault; right = is.right; first = is.first });
       sized = still _ _ p r c.told_text.ensures is.sized;
     }
