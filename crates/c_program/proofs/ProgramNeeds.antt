@@ -355,11 +355,11 @@ constant_part true (s ∷ ss) = ap (λ (ts : List Statement). s ∷ ts) (constan
 constant_part false [] = refl
 constant_part false (s ∷ ss) = constant_part false ss
 
-none_part : (b : Bool) (ss : List Statement) → ss ≡ [] → ss ≡ (if b then ss else [])
+pub none_part : (b : Bool) (ss : List Statement) → ss ≡ [] → ss ≡ (if b then ss else [])
 none_part true ss e = refl
 none_part false ss e = e
 
-both_parts : (b : Bool) (xs ys : List Statement) → (if b then xs else []) ++ (if b then ys else []) ≡ (if b then xs ++ ys else [])
+pub both_parts : (b : Bool) (xs ys : List Statement) → (if b then xs else []) ++ (if b then ys else []) ≡ (if b then xs ++ ys else [])
 both_parts true xs ys = refl
 both_parts false xs ys = refl
 

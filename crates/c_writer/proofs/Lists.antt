@@ -5,11 +5,10 @@ use Rattle.std.proofs.lemmas.Int.{ints}
 use Rattle.std.proofs.lemmas.List.{take_more}
 use Rattle.std.proofs.lemmas.List.FromFn.{get_or-map-range_with_len, length-map-range_with_len}
 use Rattle.integer_algebra.specs.Sums.{at}
-use Rattle.mat_int.specs.Matrix.{row_of}
 use Rattle.qp_model.specs.machine.Controller.{Numbers}
 use Rattle.qp_model.proofs.AbsoluteLaws.{le_times_pow}
 use Rattle.c_language.specs.Syntax.Kind.{Narrow, Wide}
-use Rattle.c_program.specs.Of.{kind_for, state_top, multiplier_top, are_multiples, shared_bits, are_negated, are_opposed, first_opposed, partner, is_first, is_second, any_below, is_product, is_row_needed, is_coordinate_needed}
+use Rattle.c_program.specs.Of.{kind_for, are_multiples, shared_bits, are_negated, are_opposed, first_opposed, partner, is_first, is_second, any_below}
 use Rattle.c_writer.specs.Terms.{partners_of}
 
 pub one_more : {X : Type 0} (xs : List X) (j : ℕ) (d x : X) (old new : List X) → j < length xs → old ≡ take j xs → x ≡ get_or xs j d → new ≡ old ++ x ∷ [] → new ≡ take (j + 1) xs

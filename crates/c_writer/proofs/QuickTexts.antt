@@ -4,33 +4,33 @@ use Rattle.std.proofs.lemmas.Bool.{cond_both}
 use Rattle.std.specs.Prelude.{codes, decimal}
 use Rattle.std.specs.Fmt.{digits}
 use Rattle.qp_model.specs.machine.Controller.{Numbers}
-use Rattle.overflow_check.specs.declared.machine.Machine.{Machine}
 use Rattle.overflow_check.specs.FastMachine.{fast_top}
 use Rattle.c_language.specs.Syntax.{Family, Variable, variable, Statement}
 use Rattle.c_language.specs.Syntax.Family.{Multiplier}
 use Rattle.c_language.specs.Syntax.Statement.{Assign}
 use Rattle.c_program.specs.Of.{any_below, is_row_needed, has_short_divisor, is_quick, is_twice_quick, is_any_quick, is_needed}
 use Rattle.c_program.specs.FastOf.{first_scale_lines, first_scale, scale_lines, scale_statements, mean_expression, near_statements, exact_statements, quick_mean_statements, first_round_statements, second_round_statements, rounds_statements, twice_mean_statements, mean_statements}
-use Rattle.c_program.specs.ByMachine.{kinds_for}
 use Rattle.c_language.specs.Text.{variable_text, kind_text}
 use Rattle.c_language.specs.Needed.{left_in}
+use Rattle.c_writer.specs.declared.measured.Measured.{Measured}
+use Rattle.c_writer.specs.Measured.{kinds_in}
 use Rattle.c_writer.specs.Terms.{block_text}
 use Rattle.c_program.proofs.ProgramNeeds.{constant_part}
 
 -- ---- the scale
-pub first_scale_text : (m : Machine) (c : Numbers) →
+pub first_scale_text : (m : Measured) →
     codes "    int32_t e0 = (int32_t)(INT64_C(1));\n" ++ (codes "    int64_t p0 = (int64_t)(INT64_C(8589934592));\n" ++ []) ≡
-    block_text (kinds_for m c) (codes "    ") first_scale_lines
+    block_text (kinds_in m) (codes "    ") first_scale_lines
 unfolding digits
-first_scale_text m c = refl
+first_scale_text m = refl
 
-pub scale_text : (m : Machine) (c : Numbers) →
+pub scale_text : (m : Measured) →
     codes "        int32_t c0 = (int32_t)(INT64_C(1) + ((((int64_t)b0 * INT64_C(1073741824)) - (int64_t)p0) >> 63));\n"
     ++ (codes "        e0 = (int32_t)((int64_t)e0 + (int64_t)c0);\n" ++ (codes "        p0 = (int64_t)((int64_t)p0 + ((int64_t)c0 * (int64_t)p0));\n"
     ++ (codes "        int32_t q0 = (int32_t)((((int64_t)p0 - INT64_C(1)) / (int64_t)b0));\n" ++ []))) ≡
-    block_text (kinds_for m c) (codes "        ") scale_lines
+    block_text (kinds_in m) (codes "        ") scale_lines
 unfolding digits
-scale_text m c = refl
+scale_text m = refl
 
 -- ---- a mean
 near_pieces : (i w sp vn eq p o c vv pl k0 tm vm e nl nr vh sh e0 vl k q0 sr t32 n : List ℕ) →
@@ -42,14 +42,14 @@ near_pieces : (i w sp vn eq p o c vv pl k0 tm vm e nl nr vh sh e0 vl k q0 sr t32
     ++ ((i ++ ((vl ++ n) ++ (eq ++ k ++ p ++ (o ++ (o ++ ((o ++ (o ++ ((c ++ (vh ++ n)) ++ tm ++ q0) ++ p) ++ p) ++ sr ++ t32) ++ p) ++ p) ++ e))) ++ nl ++ []))
 near_pieces i w sp vn eq p o c vv pl k0 tm vm e nl nr vh sh e0 vl k q0 sr t32 n = simp append_assoc refl
 
-pub near_text : (m : Machine) (c : Numbers) (i : ℕ) →
+pub near_text : (m : Measured) (i : ℕ) →
     codes "        int64_t n" ++ (decimal i ++ (codes " = (int64_t)((int64_t)v" ++ (decimal i ++ (codes " + ((int64_t)k0 * (int64_t)m" ++ (decimal i ++ (codes "));\n        int32_t h"
-    ++ (decimal i ++ (codes " = (int32_t)((((int64_t)n" ++ (decimal i ++ (codes ") >> (int64_t)e0));\n        l" ++ (decimal i ++ (codes " = (" ++ (kind_text (kinds_for m c (variable Multiplier i)) ++ (codes ")(((((int64_t)h"
-    ++ (decimal i ++ (codes " * (int64_t)q0)) >> 32));\n" ++ [])))))))))))))))) ≡ block_text (kinds_for m c) (codes "        ") (near_statements i)
+    ++ (decimal i ++ (codes " = (int32_t)((((int64_t)n" ++ (decimal i ++ (codes ") >> (int64_t)e0));\n        l" ++ (decimal i ++ (codes " = (" ++ (kind_text (kinds_in m (variable Multiplier i)) ++ (codes ")(((((int64_t)h"
+    ++ (decimal i ++ (codes " * (int64_t)q0)) >> 32));\n" ++ [])))))))))))))))) ≡ block_text (kinds_in m) (codes "        ") (near_statements i)
 unfolding digits
-near_text m c i =
+near_text m i =
     near_pieces (codes "        ") (codes "int64_t") (codes " ") (codes "n") (codes " = (") (codes ")") (codes "(") (codes "(int64_t)") (codes "v") (codes " + ") (codes "(int64_t)k0") (codes " * ") (codes "m")
-    (codes ";") (10 ∷ []) (codes "int32_t") (codes "h") (codes " >> (int64_t)") (codes "e0") (codes "l") (kind_text (kinds_for m c (variable Multiplier i))) (codes "(int64_t)q0") (codes " >> ") (codes "32") (decimal i)
+    (codes ";") (10 ∷ []) (codes "int32_t") (codes "h") (codes " >> (int64_t)") (codes "e0") (codes "l") (kind_text (kinds_in m (variable Multiplier i))) (codes "(int64_t)q0") (codes " >> ") (codes "32") (decimal i)
 
 exact_pieces : (i nr sp vz eq p o c vn mi vl tm b0 e nl k pl one sr t31 n : List ℕ) →
     (i ++ nr ++ sp ++ vz) ++ (n ++ ((eq ++ nr ++ p ++ o ++ c ++ vn) ++ (n ++ ((mi ++ o ++ c) ++ (vl ++ (n ++ ((tm ++ b0 ++ p ++ mi ++ b0 ++ p ++ e ++ nl ++ i) ++ (vl ++ (n ++ (eq ++ (k ++ ((p ++ o ++ c) ++ (vl
@@ -68,20 +68,20 @@ exact_lines n k name =
     ++ (codes "(" ++ (((codes "(int64_t)" ++ name) ++ codes " + " ++ codes "INT64_C(1)") ++ codes " + " ++ (codes "(" ++ ((codes "(" ++ (codes "(int64_t)" ++ (codes "z" ++ n)) ++ codes ")") ++ codes " >> " ++ codes "31") ++ codes ")")) ++ codes ")")
     ++ codes ";"))) ++ 10 ∷ [] ++ [])
 
-exact_read : (m : Machine) (c : Numbers) (f : Family) (i : ℕ) →
-    exact_lines (decimal i) (kind_text (kinds_for m c (variable f i))) (variable_text (variable f i)) ≡ block_text (kinds_for m c) (codes "        ") (exact_statements f i)
+exact_read : (m : Measured) (f : Family) (i : ℕ) →
+    exact_lines (decimal i) (kind_text (kinds_in m (variable f i))) (variable_text (variable f i)) ≡ block_text (kinds_in m) (codes "        ") (exact_statements f i)
 unfolding digits
-exact_read m c f i = refl
+exact_read m f i = refl
 
-pub exact_text : (m : Machine) (c : Numbers) (f : Family) (i : ℕ) (letter : List ℕ) → letter ++ decimal i ≡ variable_text (variable f i) →
+pub exact_text : (m : Measured) (f : Family) (i : ℕ) (letter : List ℕ) → letter ++ decimal i ≡ variable_text (variable f i) →
     codes "        int32_t z" ++ (decimal i ++ (codes " = (int32_t)((int64_t)n" ++ (decimal i ++ (codes " - ((int64_t)" ++ (letter ++ (decimal i ++ (codes " * (int64_t)b0) - (int64_t)b0);\n        "
-    ++ (letter ++ (decimal i ++ (codes " = (" ++ (kind_text (kinds_for m c (variable f i)) ++ (codes ")((int64_t)" ++ (letter ++ (decimal i ++ (codes " + INT64_C(1) + (((int64_t)z"
-    ++ (decimal i ++ (codes ") >> 31));\n" ++ []))))))))))))))))) ≡ block_text (kinds_for m c) (codes "        ") (exact_statements f i)
-exact_text m c f i letter e =
-    let k = kind_text (kinds_for m c (variable f i)) in
+    ++ (letter ++ (decimal i ++ (codes " = (" ++ (kind_text (kinds_in m (variable f i)) ++ (codes ")((int64_t)" ++ (letter ++ (decimal i ++ (codes " + INT64_C(1) + (((int64_t)z"
+    ++ (decimal i ++ (codes ") >> 31));\n" ++ []))))))))))))))))) ≡ block_text (kinds_in m) (codes "        ") (exact_statements f i)
+exact_text m f i letter e =
+    let k = kind_text (kinds_in m (variable f i)) in
     exact_pieces (codes "        ") (codes "int32_t") (codes " ") (codes "z") (codes " = (") (codes ")") (codes "(") (codes "(int64_t)") (codes "n") (codes " - ") letter (codes " * ") (codes "(int64_t)b0")
     (codes ";") (10 ∷ []) k (codes " + ") (codes "INT64_C(1)") (codes " >> ") (codes "31") (decimal i) ∙
-    ap (exact_lines (decimal i) k) e ∙ exact_read m c f i
+    ap (exact_lines (decimal i) k) e ∙ exact_read m f i
 
 -- ---- in two rounds
 first_pieces : (i w sp vn eq p o c vv pl k0 tm vm e nl nr vh sr t26 sh e0 vl k q0 t32 m26 mi b0 n : List ℕ) →
@@ -95,15 +95,15 @@ first_pieces : (i w sp vn eq p o c vv pl k0 tm vm e nl nr vh sr t26 sh e0 vl k q
     ++ ((i ++ ((vn ++ n) ++ (eq ++ w ++ p ++ (o ++ ((c ++ (vn ++ n)) ++ mi ++ (o ++ ((c ++ (vl ++ n)) ++ tm ++ b0) ++ p)) ++ p) ++ e))) ++ nl ++ [])))
 first_pieces i w sp vn eq p o c vv pl k0 tm vm e nl nr vh sr t26 sh e0 vl k q0 t32 m26 mi b0 n = simp append_assoc refl
 
-pub first_text : (m : Machine) (c : Numbers) (i : ℕ) →
+pub first_text : (m : Measured) (i : ℕ) →
     codes "        int64_t n" ++ (decimal i ++ (codes " = (int64_t)((int64_t)v" ++ (decimal i ++ (codes " + ((int64_t)k0 * (int64_t)m" ++ (decimal i ++ (codes "));\n        int32_t h"
-    ++ (decimal i ++ (codes " = (int32_t)((((((int64_t)n" ++ (decimal i ++ (codes ") >> 26)) >> (int64_t)e0));\n        l" ++ (decimal i ++ (codes " = (" ++ (kind_text (kinds_for m c (variable Multiplier i))
+    ++ (decimal i ++ (codes " = (int32_t)((((((int64_t)n" ++ (decimal i ++ (codes ") >> 26)) >> (int64_t)e0));\n        l" ++ (decimal i ++ (codes " = (" ++ (kind_text (kinds_in m (variable Multiplier i))
     ++ (codes ")((((((int64_t)h" ++ (decimal i ++ (codes " * (int64_t)q0)) >> 32) * INT64_C(67108864)));\n        n" ++ (decimal i ++ (codes " = (int64_t)((int64_t)n" ++ (decimal i ++ (codes " - ((int64_t)l"
-    ++ (decimal i ++ (codes " * (int64_t)b0));\n" ++ [])))))))))))))))))))))) ≡ block_text (kinds_for m c) (codes "        ") (first_round_statements i)
+    ++ (decimal i ++ (codes " * (int64_t)b0));\n" ++ [])))))))))))))))))))))) ≡ block_text (kinds_in m) (codes "        ") (first_round_statements i)
 unfolding digits
-first_text m c i =
+first_text m i =
     first_pieces (codes "        ") (codes "int64_t") (codes " ") (codes "n") (codes " = (") (codes ")") (codes "(") (codes "(int64_t)") (codes "v") (codes " + ") (codes "(int64_t)k0") (codes " * ") (codes "m")
-    (codes ";") (10 ∷ []) (codes "int32_t") (codes "h") (codes " >> ") (codes "26") (codes " >> (int64_t)") (codes "e0") (codes "l") (kind_text (kinds_for m c (variable Multiplier i))) (codes "(int64_t)q0") (codes "32")
+    (codes ";") (10 ∷ []) (codes "int32_t") (codes "h") (codes " >> ") (codes "26") (codes " >> (int64_t)") (codes "e0") (codes "l") (kind_text (kinds_in m (variable Multiplier i))) (codes "(int64_t)q0") (codes "32")
     (codes "INT64_C(67108864)") (codes " - ") (codes "(int64_t)b0") (decimal i)
 
 second_pieces : (i vh n eq nr p o c vn sh e0 e nl tm q0 sr t32 : List ℕ) →
@@ -113,11 +113,11 @@ second_pieces : (i vh n eq nr p o c vn sh e0 e nl tm q0 sr t32 : List ℕ) →
     ++ ((i ++ ((vh ++ n) ++ (eq ++ nr ++ p ++ (o ++ (o ++ ((o ++ (o ++ ((c ++ (vh ++ n)) ++ tm ++ q0) ++ p) ++ p) ++ sr ++ t32) ++ p) ++ p) ++ e))) ++ nl ++ [])
 second_pieces i vh n eq nr p o c vn sh e0 e nl tm q0 sr t32 = simp append_assoc refl
 
-pub second_text : (m : Machine) (c : Numbers) (i : ℕ) →
+pub second_text : (m : Measured) (i : ℕ) →
     codes "        h" ++ (decimal i ++ (codes " = (int32_t)((((int64_t)n" ++ (decimal i ++ (codes ") >> (int64_t)e0));\n        h" ++ (decimal i ++ (codes " = (int32_t)(((((int64_t)h"
-    ++ (decimal i ++ (codes " * (int64_t)q0)) >> 32));\n" ++ [])))))))) ≡ block_text (kinds_for m c) (codes "        ") (second_round_statements i)
+    ++ (decimal i ++ (codes " * (int64_t)q0)) >> 32));\n" ++ [])))))))) ≡ block_text (kinds_in m) (codes "        ") (second_round_statements i)
 unfolding digits
-second_text m c i =
+second_text m i =
     second_pieces (codes "        ") (codes "h") (decimal i) (codes " = (") (codes "int32_t") (codes ")") (codes "(") (codes "(int64_t)") (codes "n") (codes " >> (int64_t)") (codes "e0") (codes ";") (10 ∷ [])
     (codes " * ") (codes "(int64_t)q0") (codes " >> ") (codes "32")
 
@@ -126,11 +126,11 @@ rounds_pieces : (i vl n eq k p o c pl vh e nl : List ℕ) →
     (i ++ ((vl ++ n) ++ (eq ++ k ++ p ++ (o ++ ((c ++ (vl ++ n)) ++ pl ++ (c ++ (vh ++ n))) ++ p) ++ e))) ++ nl ++ []
 rounds_pieces i vl n eq k p o c pl vh e nl = simp append_assoc refl
 
-pub rounds_text : (m : Machine) (c : Numbers) (i : ℕ) →
-    codes "        l" ++ (decimal i ++ (codes " = (" ++ (kind_text (kinds_for m c (variable Multiplier i)) ++ (codes ")((int64_t)l" ++ (decimal i ++ (codes " + (int64_t)h" ++ (decimal i ++ (codes ");\n" ++ [])))))))) ≡
-    block_text (kinds_for m c) (codes "        ") (rounds_statements i)
-rounds_text m c i =
-    rounds_pieces (codes "        ") (codes "l") (decimal i) (codes " = (") (kind_text (kinds_for m c (variable Multiplier i))) (codes ")") (codes "(") (codes "(int64_t)") (codes " + ") (codes "h") (codes ";") (10 ∷ [])
+pub rounds_text : (m : Measured) (i : ℕ) →
+    codes "        l" ++ (decimal i ++ (codes " = (" ++ (kind_text (kinds_in m (variable Multiplier i)) ++ (codes ")((int64_t)l" ++ (decimal i ++ (codes " + (int64_t)h" ++ (decimal i ++ (codes ");\n" ++ [])))))))) ≡
+    block_text (kinds_in m) (codes "        ") (rounds_statements i)
+rounds_text m i =
+    rounds_pieces (codes "        ") (codes "l") (decimal i) (codes " = (") (kind_text (kinds_in m (variable Multiplier i))) (codes ")") (codes "(") (codes "(int64_t)") (codes " + ") (codes "h") (codes ";") (10 ∷ [])
 
 -- ---- what is needed
 any_short : (f g : ℕ → Bool) (b : Bool) (n : ℕ) → any_below (λ i. f i && (b && g i)) n ≡ true → b ≡ true

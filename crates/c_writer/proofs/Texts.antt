@@ -1,30 +1,28 @@
 -- Texts that grow piece by piece.
-use Rattle.std.proofs.Common.{◌≡◌, ℕ, zero, suc, ◌+◌, ◌-◌, ◌*◌, ◌^◌, ◌<◌, ◌==◌, ◌≢◌, Bool, cond, if◌then◌else◌, true, false, ltb, ℤ, pos, ◌*ℤ◌, List, [], ◌∷◌, ◌++◌, length, map, take, get_or, unsigned_abs, refl, sym, ap, ◌∙◌, append_assoc, append-nil, add-one, arith, mul-pos, pow_pos}
+use Rattle.std.proofs.Common.{◌≡◌, ℕ, zero, suc, ◌+◌, ◌*◌, ◌^◌, ◌<◌, ◌==◌, Bool, cond, if◌then◌else◌, true, false, ltb, ℤ, pos, ◌*ℤ◌, List, [], ◌∷◌, ◌++◌, length, map, take, get_or, unsigned_abs, refl, sym, ap, ◌∙◌, append_assoc, append-nil, add-one, arith}
 use Rattle.std.proofs.lemmas.List.{map_more}
 use Rattle.std.proofs.lemmas.Int.{ints}
-use Rattle.std.proofs.lemmas.Bool.{cond-true, cond-false, cond_both, lt-ltb}
-use Rattle.qp_model.proofs.AbsoluteLaws.{abs-shifted}
+use Rattle.std.proofs.lemmas.Bool.{cond-true, cond-false, cond_both}
 use Rattle.std.specs.Prelude.{codes, decimal}
 use Rattle.std.specs.Fmt.{digits}
 use Rattle.integer_algebra.specs.Division.{floor_of}
 use Rattle.integer_algebra.specs.Sums.{at}
 use Rattle.number_text.specs.Lines.{text_of}
-use Rattle.qp_model.specs.machine.Controller.{Numbers}
 use Rattle.c_language.specs.Syntax.{Variable, variable, Kind, Expression, Statement, groups}
-use Rattle.c_language.specs.Syntax.Family.{RowBase, Multiplier, Entry, Gradient, RowSum, Reached, Weight, Divisor}
+use Rattle.c_language.specs.Syntax.Family.{Multiplier, RowSum, Reached, Weight, Divisor}
 use Rattle.c_language.specs.Syntax.Kind.{Narrow}
 use Rattle.c_language.specs.Syntax.Statement.{Declare, Assign}
 use Rattle.c_language.specs.Syntax.Expression.{Constant, Value, Plus, Times, Shifted}
-use Rattle.c_program.specs.Of.{plus_products, partner, is_first, is_second, entry_top, row_bits, plan_factor, lowered_value, lowered_base, row_expression}
+use Rattle.c_program.specs.Of.{plus_products, lowered_value}
 use Rattle.overflow_check.specs.declared.machine.Machine.{Machine}
 use Rattle.overflow_check.specs.declared.machine.Machine.TheVariants.{Plain, Accelerated}
 use Rattle.c_program.specs.FastOf.{first_weight, divisor_statement, mean_expression, reached_expression, next_weight}
-use Rattle.c_program.specs.ByMachine.{moved_family, weighted_for, moved_for}
+use Rattle.c_program.specs.ByMachine.{moved_family, weighted_for}
 use Rattle.c_language.specs.Text.{variable_text, kind_text, constant_text, enclosed, closed, expression_text, statement_text, numbered_lines}
 use Rattle.c_language.specs.Needed.{left_in}
 use Rattle.c_language.proofs.Runs.{groups_none}
 use Rattle.c_language.proofs.LeftIn.{left_in_append}
-use Rattle.c_writer.specs.Terms.{joined, lowered_text, term_text, product_text, products_text, declared_text, given_end, block_text, weight_open, weight_end, row_rest}
+use Rattle.c_writer.specs.Terms.{joined, lowered_text, term_text, product_text, products_text, declared_text, given_end, block_text, weight_open, weight_end}
 
 -- ---- sums of products
 pub products_none : (c : ℕ → ℤ) (top : ℕ → ℕ) (name : ℕ → List ℕ) (old : List ℕ) → old ≡ old ++ products_text c top name 0
@@ -41,15 +39,8 @@ products_more c top name n old now new h e =
     e ∙ ap (λ (t : List ℕ). t ++ product_text (c n) (top n) (name n)) h ∙ append_assoc old (products_text c top name n) (product_text (c n) (top n) (name n)) ∙
     ap (λ (t : List ℕ). old ++ t) (sym (products_suc c top name n))
 
--- a product that is kept
-pub kept_text : (x : ℤ) (k top : ℕ) (name : List ℕ) → x ≢ pos 0 → top ≢ 0 → term_text (x *ℤ pos (2 ^ k)) name ≡ product_text (x *ℤ pos (2 ^ k)) top name
-kept_text x k top name h l =
-    let size : 0 < unsigned_abs x * 2 ^ k = mul-pos (nonzero x h) (pow_pos k) in
-    let some : 0 < unsigned_abs (x *ℤ pos (2 ^ k)) * top = mul-pos (omega (arith, size, abs-shifted x k)) (omega (arith, l)) in
-    sym (cond-true (ltb 0 (unsigned_abs (x *ℤ pos (2 ^ k)) * top)) (term_text (x *ℤ pos (2 ^ k)) name) [] (lt-ltb 0 (unsigned_abs (x *ℤ pos (2 ^ k)) * top) some))
-  where
-    nonzero : (x : ℤ) → x ≢ pos 0 → 0 < unsigned_abs x
-    nonzero x h = omega (arith, ints, h)
+pub times_one : (z : ℤ) → z *ℤ pos (2 ^ 0) ≡ z
+times_one z = omega (arith, ints)
 
 -- that of an expression with products behind it
 product_read : (b : Bool) (a : Expression) (c : ℤ) (v : Variable) →
@@ -105,18 +96,11 @@ sum_line types v a k top u n indent kind t0 t1 t2 t3 t4 e e1 e2 e3 e4 =
     (e3 ∙ ap (λ (t : List ℕ). t ++ products) e2 ∙ append_assoc t1 (expression_text a) products ∙ ap (λ (t : List ℕ). t1 ++ t) (sym (products_read a k top u n))) e4
 
 -- a row of the text as the definition has it
-pub row_same : (row xs : List ℤ) (tops ys : List ℕ) (name : ℕ → List ℕ) (m : ℕ) → row ≡ xs → tops ≡ ys → length row ≡ m →
-    products_text (at row) (λ k. get_or tops k 0) name (length row) ≡ products_text (at xs) (λ k. get_or ys k 0) name m
-row_same row xs tops ys name m e k l =
-    ap (λ (n : ℕ). products_text (at row) (λ k. get_or tops k 0) name n) l ∙ ap (λ (zs : List ℤ). products_text (at zs) (λ k. get_or tops k 0) name m) e ∙
-    ap (λ (zs : List ℕ). products_text (at xs) (λ k. get_or zs k 0) name m) k
-
-pub scaled_same : (row xs : List ℤ) (s : ℕ) (tops ys : List ℕ) (name : ℕ → List ℕ) (m : ℕ) → row ≡ xs → tops ≡ ys → length row ≡ m →
-    products_text (λ k. at row k *ℤ pos (2 ^ s)) (λ k. get_or tops k 0) name (length row) ≡ products_text (λ k. at xs k *ℤ pos (2 ^ s)) (λ k. get_or ys k 0) name m
-scaled_same row xs s tops ys name m e k l =
-    ap (λ (n : ℕ). products_text (λ k. at row k *ℤ pos (2 ^ s)) (λ k. get_or tops k 0) name n) l ∙
-    ap (λ (zs : List ℤ). products_text (λ k. at zs k *ℤ pos (2 ^ s)) (λ k. get_or tops k 0) name m) e ∙
-    ap (λ (zs : List ℕ). products_text (λ k. at xs k *ℤ pos (2 ^ s)) (λ k. get_or zs k 0) name m) k
+pub row_same : (f : ℤ → ℤ) (row xs : List ℤ) (tops ys : List ℕ) (name : ℕ → List ℕ) (m : ℕ) → row ≡ xs → tops ≡ ys → length row ≡ m →
+    products_text (λ k. f (at row k)) (λ k. get_or tops k 0) name (length row) ≡ products_text (λ k. f (at xs k)) (λ k. get_or ys k 0) name m
+row_same f row xs tops ys name m e k l =
+    ap (λ (n : ℕ). products_text (λ k. f (at row k)) (λ k. get_or tops k 0) name n) l ∙ ap (λ (zs : List ℤ). products_text (λ k. f (at zs k)) (λ k. get_or tops k 0) name m) e ∙
+    ap (λ (zs : List ℕ). products_text (λ k. f (at xs k)) (λ k. get_or zs k 0) name m) k
 
 pub lowered_same : (row xs : List ℤ) (k q : ℕ) (tops ys : List ℕ) (name : ℕ → List ℕ) (m : ℕ) → row ≡ xs → k ≡ q → tops ≡ ys → length row ≡ m →
     products_text (λ j. floor_of (at row j) (2 ^ k)) (λ j. get_or tops j 0) name (length row) ≡ products_text (λ j. floor_of (at xs j) (2 ^ q)) (λ j. get_or ys j 0) name m
@@ -196,18 +180,50 @@ three_more t0 t1 t2 t3 a b d e1 e2 e3 =
     e3 ∙ ap (λ (t : List ℕ). t ++ d) (e2 ∙ ap (λ (t : List ℕ). t ++ b) e1 ∙ append_assoc t0 a b) ∙ append_assoc t0 (a ++ b) d
 
 -- ---- a plan entry
-entry_pieces : (t0 z m o v g p w k : List ℕ) →
-    (((((t0 ++ (z ++ m ++ o ++ o)) ++ v) ++ g) ++ (p ++ w)) ++ k) ++ p ≡ t0 ++ (z ++ m ++ (o ++ ((o ++ (v ++ g) ++ p) ++ w ++ k) ++ p))
-entry_pieces t0 z m o v g p w k = simp append_assoc refl
+entry_pieces : (t0 z m o v p w k : List ℕ) →
+    ((((t0 ++ (z ++ m ++ o ++ o)) ++ v) ++ (p ++ w)) ++ k) ++ p ≡ t0 ++ (z ++ m ++ (o ++ ((o ++ v ++ p) ++ w ++ k) ++ p))
+entry_pieces t0 z m o v p w k = simp append_assoc refl
 
-pub entry_text : (v g k t0 t1 t2 t3 t4 t5 t6 : List ℕ) → t1 ≡ t0 ++ codes "INT64_C(0) - ((" → t2 ≡ t1 ++ v → t3 ≡ t2 ++ g → t4 ≡ t3 ++ codes ") >> " → t5 ≡ t4 ++ k → t6 ≡ t5 ++ codes ")" →
-    t6 ≡ t0 ++ (expression_text (Constant (pos 0)) ++ codes " - " ++ enclosed (enclosed (v ++ g) ++ codes " >> " ++ k))
-entry_text v g k t0 t1 t2 t3 t4 t5 t6 e1 e2 e3 e4 e5 e6 =
+pub entry_text : (v k t0 t1 t2 t3 t4 t5 : List ℕ) → t1 ≡ t0 ++ codes "INT64_C(0) - ((" → t2 ≡ t1 ++ v → t3 ≡ t2 ++ codes ") >> " → t4 ≡ t3 ++ k → t5 ≡ t4 ++ codes ")" →
+    t5 ≡ t0 ++ (expression_text (Constant (pos 0)) ++ codes " - " ++ enclosed (enclosed v ++ codes " >> " ++ k))
+entry_text v k t0 t1 t2 t3 t4 t5 e1 e2 e3 e4 e5 =
     let o = codes "INT64_C(0) - ((" in
-    let before : t3 ≡ ((t0 ++ o) ++ v) ++ g = e3 ∙ ap (λ (t : List ℕ). t ++ g) (e2 ∙ ap (λ (t : List ℕ). t ++ v) e1) in
-    let later : t5 ≡ ((((t0 ++ o) ++ v) ++ g) ++ codes ") >> ") ++ k = e5 ∙ ap (λ (t : List ℕ). t ++ k) (e4 ∙ ap (λ (t : List ℕ). t ++ codes ") >> ") before) in
-    e6 ∙ ap (λ (t : List ℕ). t ++ codes ")") later ∙ entry_pieces t0 (codes "INT64_C(0)") (codes " - ") (codes "(") v g (codes ")") (codes " >> ") k ∙
-    ap (λ (z : List ℕ). t0 ++ (z ++ codes " - " ++ enclosed (enclosed (v ++ g) ++ codes " >> " ++ k))) zero_text
+    let before : t2 ≡ (t0 ++ o) ++ v = e2 ∙ ap (λ (t : List ℕ). t ++ v) e1 in
+    let later : t4 ≡ (((t0 ++ o) ++ v) ++ codes ") >> ") ++ k = e4 ∙ ap (λ (t : List ℕ). t ++ k) (e3 ∙ ap (λ (t : List ℕ). t ++ codes ") >> ") before) in
+    e5 ∙ ap (λ (t : List ℕ). t ++ codes ")") later ∙ entry_pieces t0 (codes "INT64_C(0)") (codes " - ") (codes "(") v (codes ")") (codes " >> ") k ∙
+    ap (λ (z : List ℕ). t0 ++ (z ++ codes " - " ++ enclosed (enclosed v ++ codes " >> " ++ k))) zero_text
+
+-- ---- a sum from its parts
+sixteen_text : codes "16" ≡ decimal 16
+unfolding digits
+sixteen_text = refl
+
+both_pieces : (t0 h pl o l p sh k : List ℕ) → (((t0 ++ h) ++ (pl ++ o ++ o)) ++ l) ++ (p ++ sh ++ k ++ p) ≡ t0 ++ (h ++ pl ++ (o ++ ((o ++ l ++ p) ++ sh ++ k) ++ p))
+both_pieces t0 h pl o l p sh k = simp append_assoc refl
+
+pub both_text : (h l : Expression) (t0 t1 t2 t3 t4 : List ℕ) → t1 ≡ t0 ++ expression_text h → t2 ≡ t1 ++ codes " + ((" → t3 ≡ t2 ++ expression_text l → t4 ≡ t3 ++ codes ") >> 16)" →
+    t4 ≡ t0 ++ expression_text (Plus h (Shifted l 16))
+both_text h l t0 t1 t2 t3 t4 e1 e2 e3 e4 =
+    let text = λ (k : List ℕ). t0 ++ (expression_text h ++ codes " + " ++ enclosed (enclosed (expression_text l) ++ codes " >> " ++ k)) in
+    let before : t3 ≡ ((t0 ++ expression_text h) ++ codes " + ((") ++ expression_text l =
+    e3 ∙ ap (λ (t : List ℕ). t ++ expression_text l) (e2 ∙ ap (λ (t : List ℕ). t ++ codes " + ((") e1) in
+    e4 ∙ ap (λ (t : List ℕ). t ++ codes ") >> 16)") before ∙
+    both_pieces t0 (expression_text h) (codes " + ") (codes "(") (expression_text l) (codes ")") (codes " >> ") (codes "16") ∙ ap text sixteen_text
+
+whole_pieces : (t0 o h pl l p sh s k : List ℕ) →
+    ((((((t0 ++ (o ++ o)) ++ h) ++ (pl ++ o ++ o)) ++ l) ++ (p ++ sh ++ s ++ p ++ p ++ sh)) ++ k) ++ p ≡ t0 ++ (o ++ ((o ++ (h ++ pl ++ (o ++ ((o ++ l ++ p) ++ sh ++ s) ++ p)) ++ p) ++ sh ++ k) ++ p)
+whole_pieces t0 o h pl l p sh s k = simp append_assoc refl
+
+pub parted_text : (h l : Expression) (k : ℕ) (t0 t1 t2 t3 t4 t5 t6 t7 : List ℕ) → t1 ≡ t0 ++ codes "((" → t2 ≡ t1 ++ expression_text h → t3 ≡ t2 ++ codes " + ((" → t4 ≡ t3 ++ expression_text l →
+    t5 ≡ t4 ++ codes ") >> 16)) >> " → t6 ≡ t5 ++ decimal k → t7 ≡ t6 ++ codes ")" → t7 ≡ t0 ++ expression_text (Shifted (Plus h (Shifted l 16)) k)
+parted_text h l k t0 t1 t2 t3 t4 t5 t6 t7 e1 e2 e3 e4 e5 e6 e7 =
+    let text = λ (s : List ℕ). t0 ++ enclosed (enclosed (expression_text h ++ codes " + " ++ enclosed (enclosed (expression_text l) ++ codes " >> " ++ s)) ++ codes " >> " ++ decimal k) in
+    let first : t2 ≡ (t0 ++ codes "((") ++ expression_text h = e2 ∙ ap (λ (t : List ℕ). t ++ expression_text h) e1 in
+    let second : t4 ≡ (((t0 ++ codes "((") ++ expression_text h) ++ codes " + ((") ++ expression_text l =
+    e4 ∙ ap (λ (t : List ℕ). t ++ expression_text l) (e3 ∙ ap (λ (t : List ℕ). t ++ codes " + ((") first) in
+    let third = e6 ∙ ap (λ (t : List ℕ). t ++ decimal k) (e5 ∙ ap (λ (t : List ℕ). t ++ codes ") >> 16)) >> ") second) in
+    e7 ∙ ap (λ (t : List ℕ). t ++ codes ")") third ∙
+    whole_pieces t0 (codes "(") (expression_text h) (codes " + ") (expression_text l) (codes ")") (codes " >> ") (codes "16") (decimal k) ∙ ap text sixteen_text
 
 -- ---- a variable's value over a power of two
 lowered_pieces : (t0 o v w k p : List ℕ) → ((((t0 ++ o) ++ v) ++ w) ++ k) ++ p ≡ t0 ++ (o ++ v ++ w ++ k ++ p)
@@ -252,12 +268,11 @@ weighted_read Accelerated a h =
     weighted_pieces (codes "(") (codes "(int64_t)k0") (codes " * ") (expression_text a) (codes ")")
 
 -- ---- a multiplier that is moved
-pub moved_read : (m : Machine) (c : Numbers) (i : ℕ) →
-    expression_text (moved_for m c i) ≡ (codes "(int64_t)" ++ variable_text (variable (moved_family m) i)) ++ codes " + "
-    ++ (weight_open m ++ lowered_text (codes "y" ++ decimal i) (c.fraction_bits - row_bits c i) ++ weight_end m)
-moved_read m c i =
+pub moved_read : (m : Machine) (k i : ℕ) →
+    expression_text (Plus (Value (variable (moved_family m) i)) (weighted_for m (lowered_value (variable RowSum i) k))) ≡ (codes "(int64_t)" ++ variable_text (variable (moved_family m) i)) ++ codes " + "
+    ++ (weight_open m ++ lowered_text (codes "y" ++ decimal i) k ++ weight_end m)
+moved_read m k i =
     let v = variable RowSum i in
-    let k = c.fraction_bits - row_bits c i in
     let start = (codes "(int64_t)" ++ variable_text (variable (moved_family m) i)) ++ codes " + " in
     ap (λ (t : List ℕ). start ++ t) (weighted_read m (lowered_value v k) (closed_lowered v k) ∙ ap (λ (t : List ℕ). weight_open m ++ t ++ weight_end m) (lowered_read v k))
 
@@ -347,20 +362,12 @@ reached_text types i =
 pub two_more : (t0 t1 t2 a b : List ℕ) → t1 ≡ t0 ++ a → t2 ≡ t1 ++ b → t2 ≡ t0 ++ (a ++ b)
 two_more t0 t1 t2 a b e1 e2 = e2 ∙ ap (λ (t : List ℕ). t ++ b) e1 ∙ append_assoc t0 a b
 
--- the sum of a row
-split_read : (b d : Bool) (v : List ℕ) (x y z : Expression) (p q r : List ℕ) → expression_text x ≡ v ++ p → expression_text y ≡ v ++ q → expression_text z ≡ v ++ r →
+-- an expression of three, behind one text
+pub split_read : (b d : Bool) (v : List ℕ) (x y z : Expression) (p q r : List ℕ) → expression_text x ≡ v ++ p → expression_text y ≡ v ++ q → expression_text z ≡ v ++ r →
     expression_text (cond b x (cond d y z)) ≡ v ++ cond b p (cond d q r)
 split_read true d v x y z p q r h k l = h
 split_read false true v x y z p q r h k l = k
 split_read false false v x y z p q r h k l = l
-
-pub row_read : (c : Numbers) (i : ℕ) → expression_text (row_expression c i) ≡ lowered_text (codes "r" ++ decimal i) (row_bits c i) ++ row_rest c i
-row_read c i =
-    let base = expression_text (lowered_base c i) in
-    split_read (is_first c i) (is_second c i) base _ _ _ _ _ _ (append_assoc base (codes " + ") (expression_text (Value (variable Gradient i))))
-    (append_assoc base (codes " - ") (expression_text (Value (variable Gradient (partner c i)))))
-    (products_read (lowered_base c i) (plan_factor c i) (entry_top c) (variable Entry) (length c.offsets)) ∙
-    ap (λ (t : List ℕ). t ++ row_rest c i) (lowered_read (variable RowBase i) (row_bits c i))
 
 -- ---- the lines that clamp
 pub floor_pieces : (i o t n l z e : List ℕ) →
@@ -476,14 +483,20 @@ ended h ls t0 t1 t2 e1 e2 =
 pub needed_none : (types : Variable → Kind) (indent : List ℕ) (needed : Variable → Bool) (f : ℕ → List Statement) (old : List ℕ) → old ≡ old ++ block_text types indent (left_in needed (groups f 0))
 needed_none types indent needed f old = sym (ap (λ (ss : List Statement). old ++ block_text types indent (left_in needed ss)) (groups_none f) ∙ append-nil old)
 
+pub left_more : (types : Variable → Kind) (indent : List ℕ) (needed : Variable → Bool) (f : ℕ → List Statement) (n : ℕ) (old now new : List ℕ) →
+    now ≡ old ++ block_text types indent (left_in needed (groups f n)) → new ≡ now ++ block_text types indent (left_in needed (f n)) →
+    new ≡ old ++ block_text types indent (left_in needed (groups f (n + 1)))
+left_more types indent needed f n old now new h e =
+    blocks_more types indent (left_in needed (groups f n)) (left_in needed (f n)) old now new h e ∙
+    ap (λ (ss : List Statement). old ++ block_text types indent ss) (sym (ap (left_in needed) (groups_suc f n) ∙ left_in_append needed (groups f n) (f n)))
+
 pub needed_more : (types : Variable → Kind) (indent : List ℕ) (needed : Variable → Bool) (f : ℕ → List Statement) (b : Bool) (n : ℕ) (old now new : List ℕ) →
     left_in needed (f n) ≡ (if b then f n else []) → now ≡ old ++ block_text types indent (left_in needed (groups f n)) → new ≡ now ++ (if b then block_text types indent (f n) else []) →
     new ≡ old ++ block_text types indent (left_in needed (groups f (n + 1)))
 needed_more types indent needed f b n old now new part h e =
     let text : (if b then block_text types indent (f n) else []) ≡ block_text types indent (left_in needed (f n)) =
     cond_both b (f n) [] (λ ss. (if b then block_text types indent (f n) else []) ≡ block_text types indent ss) (λ t. cond-true b _ _ t) (λ t. cond-false b _ _ t) ∙ ap (block_text types indent) (sym part) in
-    blocks_more types indent (left_in needed (groups f n)) (left_in needed (f n)) old now new h (e ∙ ap (λ (t : List ℕ). now ++ t) text) ∙
-    ap (λ (ss : List Statement). old ++ block_text types indent ss) (sym (ap (left_in needed) (groups_suc f n) ∙ left_in_append needed (groups f n) (f n)))
+    left_more types indent needed f n old now new h (e ∙ ap (λ (t : List ℕ). now ++ t) text)
 
 -- the needed ones of two lists
 pub needed_blocks : (types : Variable → Kind) (indent : List ℕ) (needed : Variable → Bool) (xs ys : List Statement) (t0 t1 t2 : List ℕ) → t1 ≡ t0 ++ block_text types indent (left_in needed xs) →

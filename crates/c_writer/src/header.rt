@@ -4,6 +4,7 @@ ghost use Rattle.number_text.specs.Lines.{text_of};
 ghost use Rattle.qp_model.specs.machine.Controller.{numbers};
 ghost use Rattle.overflow_check.specs.declared.machine.Machine.{Machine};
 ghost use Rattle.c_program.specs.ByMachine.{program_for};
+ghost use Rattle.c_program.specs.InParts.{written_program};
 ghost use Rattle.c_language.specs.Text.{guard_lines, size_line, size_lines, function_lines, header_text};
 
 use crate::averages::push_average_head;
@@ -73,7 +74,8 @@ fn push_functions(
     c: &ControllerParts,
     name: &str,
 ) -> Result<(), AllocError>
-    ensures { OnOk result ((m : Machine) → string_bytes text.new ≡ string_bytes text.old ++ text_of (function_lines name.now (program_for m (numbers c.now)))) }
+    ensures { OnOk result ((m : Machine) → string_bytes text.new ≡ string_bytes text.old ++
+        text_of (function_lines name.now (program_for m (numbers c.now)))) }
 {
     text.push_str("\n#ifdef __cplusplus\nextern \"C\" {\n#endif\n\n")?;
     text.push_str(
@@ -88,9 +90,10 @@ fn push_functions(
     Ok(())
 }
 
-/// The header of the program of a controller of these numbers, whose functions have this name: its numbers, and how they are called. It is the same for either machine.
+/// The header of the program of a controller of these numbers, whose functions have this name: its numbers, and how they are called. It is the same for either machine, in parts or not.
 pub fn write_header(alloc: Global, c: &ControllerParts, name: &str) -> Result<String, AllocError>
-    ensures { IfOk result (λ text. (m : Machine) → string_bytes text ≡ header_text name.now (numbers c.now) (program_for m (numbers c.now))) }
+    ensures { IfOk result (λ text. (m : Machine) →
+        string_bytes text ≡ header_text name.now (numbers c.now) (written_program m (numbers c.now))) }
 {
     let mut text = String::new(alloc);
     push_guard(&mut text, name)?;

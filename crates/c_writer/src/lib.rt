@@ -7,8 +7,11 @@ mod header;
 mod lines;
 mod means;
 mod measured;
+mod measuring;
 mod needed;
 mod opposite;
+mod parts;
+mod parts_test;
 mod plan;
 mod quick;
 mod rows;
@@ -20,4 +23,5 @@ mod words;
 mod writer;
 
 pub use header::write_header;
+pub use parts_test::has_program;
 pub use writer::{write_fast_program, write_program};

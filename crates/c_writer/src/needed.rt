@@ -5,9 +5,9 @@ ghost use Rattle.mat_int.specs.Matrix.{row_of};
 ghost use Rattle.qp_model.specs.machine.Controller.{numbers};
 ghost use Rattle.qp_model.specs.machine.AbsoluteSums.{IsController};
 ghost use Rattle.overflow_check.specs.FastController.{with_last_version};
-ghost use Rattle.c_program.specs.Of.{any_below, is_product, is_row_needed, is_coordinate_needed};
+ghost use Rattle.c_program.specs.Of.{any_below, is_product, is_row_needed, is_coordinate_needed, is_entry_needed};
 ghost use Rattle.c_writer.specs.Terms.{reaches_row};
-ghost use Rattle.c_writer.specs.Measured.{controller_in, row_count};
+ghost use Rattle.c_writer.specs.Measured.{controller_in, row_count, entry_count};
 
 use crate::measured::Measured;
 use crate::opposite::both;
@@ -73,27 +73,29 @@ pub fn is_any_row_needed(from: &Measured) -> bool
     found
 }
 
-// Whether coordinate `k` of the state, of at most this absolute value, reaches the base of row `i`, and that row is needed.
-fn is_in_needed_row(c: &ControllerParts, i: usize, k: usize, top: u128) -> bool
+// Whether number `k` of row `i` of a matrix makes such a product with a variable of at most this absolute value, and that row is needed.
+fn is_in_needed_row(c: &ControllerParts, a: &Mat, i: usize, k: usize, top: u128) -> bool
     requires sound { IsController (with_last_version (numbers c.now)) }
+    requires rows { length a.now.rows ≡ length c.now.bound.items }
     requires row { i < length c.now.bound.items }
-    requires coordinate { k < c.now.n }
-    ensures { result ≡ reaches_row (numbers c.now) k top i }
+    requires column { k < a.now.cols }
+    ensures { result ≡ reaches_row (numbers c.now) a.now k top i }
 {
     let needed = is_row_needed_at(c, i);
-    let product = has_product(&c.e_mat, i, k, top);
+    let product = has_product(a, i, k, top);
     both(needed, product)
 }
 
 // Whether it does so for any row.
-fn is_in_needed_rows(c: &ControllerParts, k: usize, top: u128) -> bool
+fn is_in_needed_rows(c: &ControllerParts, a: &Mat, k: usize, top: u128) -> bool
     requires sound { IsController (with_last_version (numbers c.now)) }
-    requires coordinate { k < c.now.n }
-    ensures { result ≡ any_below (λ i. reaches_row (numbers c.now) k top i) (length c.now.bound.items) }
+    requires rows { length a.now.rows ≡ length c.now.bound.items }
+    requires column { k < a.now.cols }
+    ensures { result ≡ any_below (λ i. reaches_row (numbers c.now) a.now k top i) (length c.now.bound.items) }
 {
     let mut found = false;
     for i in 0..c.bound.len() {
-        let next = is_in_needed_row(c, i, k, top);
+        let next = is_in_needed_row(c, a, i, k, top);
         found = either(found, next);
     }
     found
@@ -106,6 +108,14 @@ pub fn is_coordinate_needed_at(from: &Measured, k: usize) -> bool
 {
     let top = from.states[k];
     let entry = has_column_product(&from.c.p_mat, k, top);
-    let row = is_in_needed_rows(from.c, k, top);
+    let row = is_in_needed_rows(from.c, &from.c.e_mat, k, top);
     either(entry, row)
+}
+
+// Whether plan entry `j` reaches a row that is needed.
+pub fn is_entry_needed_at(from: &Measured, j: usize) -> bool
+    requires in_range { j < entry_count from.now }
+    ensures { result ≡ is_entry_needed (controller_in from.now) j }
+{
+    is_in_needed_rows(from.c, &from.c.g_mat, j, from.plan[j])
 }

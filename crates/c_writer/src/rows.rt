@@ -1,126 +1,225 @@
 // The rows of a step: their sums, and how the multipliers move.
-ghost use Rattle.std.specs.Prelude.{◌≡◌, ◌<◌, ◌++◌, true, false, [], ◌∷◌, OnOk, string_bytes};
+ghost use Rattle.std.specs.Prelude.{◌≡◌, ◌<◌, ◌≤◌, ◌++◌, true, false, [], ◌∷◌, OnOk, string_bytes};
 ghost use Rattle.c_language.specs.Syntax.{variable, groups};
-ghost use Rattle.c_language.specs.Syntax.Family.{Moved, Reached};
+ghost use Rattle.c_language.specs.Syntax.Family.{RowSum, Moved, Reached};
 ghost use Rattle.c_language.specs.Syntax.Expression.{Value};
 ghost use Rattle.c_language.specs.Syntax.Statement.{Declare, Assign, AtLeastZero, AtMost};
-ghost use Rattle.c_program.specs.Of.{is_first, is_second, gradient_statements, row_expression, row_sum_statements};
+ghost use Rattle.c_program.specs.Of.{is_first, is_second};
+ghost use Rattle.c_program.specs.InParts.{parted_row};
 ghost use Rattle.c_program.specs.FastOf.{reached_expression};
-ghost use Rattle.c_program.specs.ByMachine.{top_for, moved_family, moved_for, reached_for, move_for, row_for};
+ghost use Rattle.c_program.specs.ByMachine.{top_for, moved_family, reached_for};
 ghost use Rattle.c_language.specs.Text.{kind_text, expression_text};
-ghost use Rattle.c_writer.specs.Terms.{plan_row_text, row_rest};
-ghost use Rattle.c_writer.specs.Measured.{controller_in, kinds_in, held_family, row_count, loop_text, needed_loop_text, row_text};
+ghost use Rattle.c_writer.specs.Terms.{factor_bits, plan_row_text, gradient_by, gradients_by, gradients_in, row_rest, row_by, row_in};
+ghost use Rattle.c_writer.specs.Measured.{controller_in, kinds_in, held_family, row_count, moved_in, move_in, row_lines_in, loop_text, needed_loop_text, row_text};
 
-use crate::measured::{Held, Measured};
+use crate::measured::{Held, Measured, Part};
 use crate::needed::is_row_needed_at;
 use crate::opposite::{is_first_at, is_second_at, partner_at};
+use crate::parts::{entry_letter, gradient_letter, row_base_letter, shift_of};
 use crate::shared::row_bits_at;
 use crate::start::held_letter;
 use crate::sums::push_lowered_row;
-use crate::tops::{held_kind, limit_at, moved_top, row_kind};
+use crate::tops::{held_kind, limit_at, move_bits_at, moved_top, row_kind};
 use crate::words::{
-    constant_word, kind_word, push_declared, push_end, push_lowered_value, push_pieces, push_value,
-    weight_end, weight_open,
+    constant_word, kind_word, push_declared, push_end, push_lowered_value, push_number,
+    push_pieces, push_value, weight_end, weight_open,
 };
 use overflow_check::Machine;
 use std::alloc::AllocError;
 
-// The products of row `i` with the plan.
-fn push_plan_row(from: &Measured, text: &mut String, i: usize) -> Result<(), AllocError>
+// The power of two that the sum of row `i` is made without, where its factors are whole.
+fn factor_bits(from: &Measured, part: Part, i: usize) -> u32
     requires in_range { i < row_count from.now }
-    ensures { OnOk result (string_bytes text.new ≡ string_bytes text.old ++ plan_row_text (controller_in from.now) i) }
+    ensures value { result ≡ factor_bits (controller_in from.now) part i }
+    ensures few { result ≤ from.now.c.now.f }
 {
-    let bits = row_bits_at(from, i);
-    push_lowered_row(from.alloc, text, from.c.g_mat.row(i), bits, from.plan, "u")?;
+    match part {
+        Part::Whole => row_bits_at(from, i),
+        _ => 0,
+    }
+}
+
+// The products of row `i` with a part of the plan.
+fn push_plan_row(from: &Measured, text: &mut String, part: Part, i: usize) -> Result<(), AllocError>
+    requires in_range { i < row_count from.now }
+    ensures { OnOk result (string_bytes text.new ≡ string_bytes text.old ++ plan_row_text (controller_in from.now) part i) }
+{
+    let bits = factor_bits(from, part, i);
+    let letter = entry_letter(part);
+    push_lowered_row(
+        from.alloc,
+        text,
+        from.c.g_mat.row(i),
+        bits,
+        from.plan,
+        letter,
+    )?;
     Ok(())
 }
 
-// The line of the products that the pair of row `i` shares.
-fn push_gradient(from: &Measured, text: &mut String, i: usize) -> Result<(), AllocError>
+// The line of a part of the products that the pair of row `i` shares.
+fn push_gradient(from: &Measured, text: &mut String, part: Part, i: usize) -> Result<(), AllocError>
     requires in_range { i < row_count from.now }
-    requires first { is_first (controller_in from.now) i ≡ true }
-    ensures { OnOk result (string_bytes text.new ≡ string_bytes text.old ++ loop_text from.now (gradient_statements (controller_in from.now) i)) }
+    ensures { OnOk result (string_bytes text.new ≡ string_bytes text.old ++
+        loop_text from.now (gradient_by (controller_in from.now) part i ∷ [])) }
 {
-    push_declared(from.alloc, text, "        ", "int64_t", "g", i)?;
+    push_declared(
+        from.alloc,
+        text,
+        "        ",
+        "int64_t",
+        gradient_letter(part),
+        i,
+    )?;
     text.push_str("INT64_C(0)")?;
-    push_plan_row(from, text, i)?;
+    push_plan_row(from, text, part, i)?;
     push_end(text)?;
     Ok(())
 }
 
-// The same where row `i` is the first one of a pair.
-fn push_gradient_where(from: &Measured, text: &mut String, i: usize) -> Result<(), AllocError>
+// The lines of both parts.
+fn push_gradient_parts(from: &Measured, text: &mut String, i: usize) -> Result<(), AllocError>
     requires in_range { i < row_count from.now }
-    ensures { OnOk result (string_bytes text.new ≡ string_bytes text.old ++ loop_text from.now (gradient_statements (controller_in from.now) i)) }
+    ensures { OnOk result (string_bytes text.new ≡ string_bytes text.old ++
+        loop_text from.now (gradients_by true (controller_in from.now) i)) }
+{
+    push_gradient(from, text, Part::High, i)?;
+    push_gradient(from, text, Part::Low, i)?;
+    Ok(())
+}
+
+// The line or the lines of these products.
+fn push_gradients(from: &Measured, text: &mut String, i: usize) -> Result<(), AllocError>
+    requires in_range { i < row_count from.now }
+    ensures { OnOk result (string_bytes text.new ≡ string_bytes text.old ++
+        loop_text from.now (gradients_by from.now.parted (controller_in from.now) i)) }
+{
+    if from.parted {
+        push_gradient_parts(from, text, i)
+    } else {
+        push_gradient(from, text, Part::Whole, i)
+    }
+}
+
+// The same where row `i` is the first one of a pair.
+fn push_gradients_where(from: &Measured, text: &mut String, i: usize) -> Result<(), AllocError>
+    requires in_range { i < row_count from.now }
+    ensures { OnOk result (string_bytes text.new ≡ string_bytes text.old ++
+        loop_text from.now (gradients_in from.now.parted (controller_in from.now) i)) }
 {
     if is_first_at(from, i) {
-        push_gradient(from, text, i)
+        push_gradients(from, text, i)
     } else {
         Ok(())
     }
 }
 
 // What the first row of a pair adds to its base.
-fn push_first_rest(from: &Measured, text: &mut String, i: usize) -> Result<(), AllocError>
+fn push_first_rest(
+    from: &Measured,
+    text: &mut String,
+    part: Part,
+    i: usize,
+) -> Result<(), AllocError>
     requires { is_first (controller_in from.now) i ≡ true }
-    ensures { OnOk result (string_bytes text.new ≡ string_bytes text.old ++ row_rest (controller_in from.now) i) }
+    ensures { OnOk result (string_bytes text.new ≡ string_bytes text.old ++ row_rest (controller_in from.now) part i) }
 {
     text.push_str(" + ")?;
-    push_value(from.alloc, text, "g", i)?;
+    push_value(from.alloc, text, gradient_letter(part), i)?;
     Ok(())
 }
 
 // What the second row takes from its base.
-fn push_second_rest(from: &Measured, text: &mut String, i: usize) -> Result<(), AllocError>
+fn push_second_rest(
+    from: &Measured,
+    text: &mut String,
+    part: Part,
+    i: usize,
+) -> Result<(), AllocError>
     requires in_range { i < row_count from.now }
     requires alone { is_first (controller_in from.now) i ≡ false }
     requires second { is_second (controller_in from.now) i ≡ true }
-    ensures { OnOk result (string_bytes text.new ≡ string_bytes text.old ++ row_rest (controller_in from.now) i) }
+    ensures { OnOk result (string_bytes text.new ≡ string_bytes text.old ++ row_rest (controller_in from.now) part i) }
 {
     text.push_str(" - ")?;
-    push_value(from.alloc, text, "g", partner_at(from, i))?;
+    push_value(from.alloc, text, gradient_letter(part), partner_at(from, i))?;
     Ok(())
 }
 
 // What any other row adds to its base.
-fn push_alone_rest(from: &Measured, text: &mut String, i: usize) -> Result<(), AllocError>
+fn push_alone_rest(
+    from: &Measured,
+    text: &mut String,
+    part: Part,
+    i: usize,
+) -> Result<(), AllocError>
     requires in_range { i < row_count from.now }
     requires alone { is_first (controller_in from.now) i ≡ false }
     requires other { is_second (controller_in from.now) i ≡ false }
-    ensures { OnOk result (string_bytes text.new ≡ string_bytes text.old ++ row_rest (controller_in from.now) i) }
+    ensures { OnOk result (string_bytes text.new ≡ string_bytes text.old ++ row_rest (controller_in from.now) part i) }
 {
-    push_plan_row(from, text, i)?;
+    push_plan_row(from, text, part, i)?;
     Ok(())
 }
 
 // What row `i` adds to its base.
-fn push_rest(from: &Measured, text: &mut String, i: usize) -> Result<(), AllocError>
+fn push_rest(from: &Measured, text: &mut String, part: Part, i: usize) -> Result<(), AllocError>
     requires in_range { i < row_count from.now }
-    ensures { OnOk result (string_bytes text.new ≡ string_bytes text.old ++ row_rest (controller_in from.now) i) }
+    ensures { OnOk result (string_bytes text.new ≡ string_bytes text.old ++ row_rest (controller_in from.now) part i) }
 {
     if is_first_at(from, i) {
-        push_first_rest(from, text, i)
+        push_first_rest(from, text, part, i)
     } else if is_second_at(from, i) {
-        push_second_rest(from, text, i)
+        push_second_rest(from, text, part, i)
     } else {
-        push_alone_rest(from, text, i)
+        push_alone_rest(from, text, part, i)
     }
 }
 
-// The sum of row `i`.
+// A part of the sum of row `i`.
+fn push_row_part(from: &Measured, text: &mut String, part: Part, i: usize) -> Result<(), AllocError>
+    requires in_range { i < row_count from.now }
+    ensures { OnOk result (string_bytes text.new ≡ string_bytes text.old ++ expression_text (row_by (controller_in from.now) part i)) }
+{
+    let bits = factor_bits(from, part, i);
+    push_lowered_value(from.alloc, text, row_base_letter(part), i, bits)?;
+    push_rest(from, text, part, i)?;
+    Ok(())
+}
+
+// That sum from both parts.
+fn push_parted_row(from: &Measured, text: &mut String, i: usize) -> Result<(), AllocError>
+    requires in_range { i < row_count from.now }
+    ensures { OnOk result (string_bytes text.new ≡ string_bytes text.old ++ expression_text (parted_row (controller_in from.now) i)) }
+{
+    text.push_str("((")?;
+    push_row_part(from, text, Part::High, i)?;
+    text.push_str(" + ((")?;
+    push_row_part(from, text, Part::Low, i)?;
+    text.push_str(") >> 16)) >> ")?;
+    push_number(from.alloc, text, shift_of(true, from.c.f) as i128)?;
+    text.push_str(")")?;
+    Ok(())
+}
+
+// The same of either program.
 fn push_row_value(from: &Measured, text: &mut String, i: usize) -> Result<(), AllocError>
     requires in_range { i < row_count from.now }
-    ensures { OnOk result (string_bytes text.new ≡ string_bytes text.old ++ expression_text (row_expression (controller_in from.now) i)) }
+    ensures { OnOk result (string_bytes text.new ≡ string_bytes text.old ++
+        expression_text (row_in from.now.parted (controller_in from.now) i)) }
 {
-    push_lowered_value(from.alloc, text, "r", i, row_bits_at(from, i))?;
-    push_rest(from, text, i)?;
-    Ok(())
+    if from.parted {
+        push_parted_row(from, text, i)
+    } else {
+        push_row_part(from, text, Part::Whole, i)
+    }
 }
 
 // The line that declares it.
 fn push_row_sum(from: &Measured, text: &mut String, i: usize) -> Result<(), AllocError>
     requires in_range { i < row_count from.now }
-    ensures { OnOk result (string_bytes text.new ≡ string_bytes text.old ++ loop_text from.now (row_sum_statements (controller_in from.now) i)) }
+    ensures { OnOk result (string_bytes text.new ≡ string_bytes text.old ++
+        loop_text from.now (Declare (variable RowSum i) (row_in from.now.parted (controller_in from.now) i) ∷ [])) }
 {
     push_declared(from.alloc, text, "        ", row_kind(from, i), "y", i)?;
     push_row_value(from, text, i)?;
@@ -141,14 +240,13 @@ fn moved_held(machine: Machine) -> Held
 // Multiplier `i`, moved along its row by the step's weight.
 fn push_moved_value(from: &Measured, text: &mut String, i: usize) -> Result<(), AllocError>
     requires in_range { i < row_count from.now }
-    ensures { OnOk result (string_bytes text.new ≡ string_bytes text.old ++ expression_text (moved_for from.now.machine (controller_in from.now) i)) }
+    ensures { OnOk result (string_bytes text.new ≡ string_bytes text.old ++ expression_text (moved_in from.now i)) }
 {
     let letter = held_letter(moved_held(from.machine));
     push_value(from.alloc, text, letter, i)?;
     text.push_str(" + ")?;
     text.push_str(weight_open(from.machine))?;
-    let bits = from.c.f - row_bits_at(from, i);
-    push_lowered_value(from.alloc, text, "y", i, bits)?;
+    push_lowered_value(from.alloc, text, "y", i, move_bits_at(from, i))?;
     text.push_str(weight_end(from.machine))?;
     Ok(())
 }
@@ -158,7 +256,7 @@ fn push_moved(from: &Measured, text: &mut String, kind: &str, i: usize) -> Resul
     requires in_range { i < row_count from.now }
     requires kind { kind.now ≡ kind_text (kinds_in from.now (variable Moved i)) }
     ensures { OnOk result (string_bytes text.new ≡ string_bytes text.old ++
-        loop_text from.now (Declare (variable Moved i) (moved_for from.now.machine (controller_in from.now) i) ∷ [])) }
+        loop_text from.now (Declare (variable Moved i) (moved_in from.now i) ∷ [])) }
 {
     push_declared(from.alloc, text, "        ", kind, "t", i)?;
     push_moved_value(from, text, i)?;
@@ -303,7 +401,7 @@ fn push_reached_where(from: &Measured, text: &mut String, i: usize) -> Result<()
 // The lines that move multiplier `i`.
 fn push_move(from: &Measured, text: &mut String, i: usize) -> Result<(), AllocError>
     requires in_range { i < row_count from.now }
-    ensures { OnOk result (string_bytes text.new ≡ string_bytes text.old ++ loop_text from.now (move_for from.now.machine (controller_in from.now) i)) }
+    ensures { OnOk result (string_bytes text.new ≡ string_bytes text.old ++ loop_text from.now (move_in from.now i)) }
 {
     let kind = kind_word(moved_top(from, i));
     push_moved(from, text, kind, i)?;
@@ -317,9 +415,9 @@ fn push_move(from: &Measured, text: &mut String, i: usize) -> Result<(), AllocEr
 // The lines of row `i`.
 fn push_row_lines(from: &Measured, text: &mut String, i: usize) -> Result<(), AllocError>
     requires in_range { i < row_count from.now }
-    ensures { OnOk result (string_bytes text.new ≡ string_bytes text.old ++ loop_text from.now (row_for from.now.machine (controller_in from.now) i)) }
+    ensures { OnOk result (string_bytes text.new ≡ string_bytes text.old ++ loop_text from.now (row_lines_in from.now i)) }
 {
-    push_gradient_where(from, text, i)?;
+    push_gradients_where(from, text, i)?;
     push_row_sum(from, text, i)?;
     push_move(from, text, i)?;
     Ok(())
@@ -329,7 +427,7 @@ fn push_row_lines(from: &Measured, text: &mut String, i: usize) -> Result<(), Al
 fn push_needed_row(from: &Measured, text: &mut String, i: usize) -> Result<(), AllocError>
     requires in_range { i < row_count from.now }
     ensures { OnOk result (string_bytes text.new ≡ string_bytes text.old ++
-        row_text from.now i (loop_text from.now (row_for from.now.machine (controller_in from.now) i))) }
+        row_text from.now i (loop_text from.now (row_lines_in from.now i))) }
 {
     if is_row_needed_at(from.c, i) {
         push_row_lines(from, text, i)
@@ -341,7 +439,7 @@ fn push_needed_row(from: &Measured, text: &mut String, i: usize) -> Result<(), A
 // The lines of the rows.
 pub fn push_rows(from: &Measured, text: &mut String) -> Result<(), AllocError>
     ensures { OnOk result (string_bytes text.new ≡ string_bytes text.old ++
-        needed_loop_text from.now (groups (row_for from.now.machine (controller_in from.now)) (row_count from.now))) }
+        needed_loop_text from.now (groups (row_lines_in from.now) (row_count from.now))) }
 {
     for i in 0..from.c.bound.len() {
         push_needed_row(from, text, i)?;

@@ -1,17 +1,20 @@
 // The statements before the loop.
-ghost use Rattle.std.specs.Prelude.{◌≡◌, ℕ, ◌<◌, ◌-◌, ◌^◌, ◌++◌, pos, length, OnOk, decimal, string_bytes, unsigned_abs};
+ghost use Rattle.std.specs.Prelude.{◌≡◌, ℕ, ◌<◌, ◌-◌, ◌^◌, ◌++◌, [], ◌∷◌, pos, length, OnOk, decimal, string_bytes, unsigned_abs};
 ghost use Rattle.qp_model.specs.machine.Controller.{numbers};
 ghost use Rattle.qp_model.specs.machine.AbsoluteSums.{IsController};
 ghost use Rattle.overflow_check.specs.FastController.{with_last_version};
 ghost use Rattle.c_language.specs.Syntax.{variable, groups};
 ghost use Rattle.c_language.specs.Syntax.Family.{Sum};
-ghost use Rattle.c_program.specs.Of.{loaded_expression, loaded_statements, entry_base_statements, row_base_statements, zero_statements};
+ghost use Rattle.c_program.specs.Of.{loaded_expression, loaded_statements, zero_statements};
+ghost use Rattle.c_program.specs.InParts.{parted_entry_base, parted_row_base};
 ghost use Rattle.c_language.specs.Text.{variable_text, expression_text};
+ghost use Rattle.c_writer.specs.Terms.{entry_base_by, row_base_by, entry_base_in, row_base_in};
 ghost use Rattle.c_writer.specs.Measured.{controller_in, held_family, row_count, entry_count, start_text, needed_start_text, row_text, coordinate_text};
 
-use crate::measured::{Held, Measured};
+use crate::measured::{Held, Measured, Part};
 use crate::needed::{is_coordinate_needed_at, is_row_needed_at};
-use crate::sums::{push_row, push_scaled_row};
+use crate::parts::{entry_base_letter, part_of, row_base_letter};
+use crate::sums::push_row;
 use crate::tops::{bound_at, held_kind, offset_at, sum_top};
 use crate::words::{kind_word, push_constant, push_declared, push_end, push_number};
 use qp_model::ControllerParts;
@@ -73,16 +76,30 @@ pub fn push_loads(from: &Measured, text: &mut String) -> Result<(), AllocError>
     Ok(())
 }
 
-// The line of the base of plan entry `j`.
-fn push_entry_base(from: &Measured, text: &mut String, j: usize) -> Result<(), AllocError>
+// The line of a part of the base of plan entry `j`.
+fn push_entry_base(
+    from: &Measured,
+    text: &mut String,
+    part: Part,
+    j: usize,
+) -> Result<(), AllocError>
     requires in_range { j < entry_count from.now }
-    ensures { OnOk result (string_bytes text.new ≡ string_bytes text.old ++ start_text from.now (entry_base_statements (controller_in from.now) j)) }
+    ensures { OnOk result (string_bytes text.new ≡ string_bytes text.old ++
+        start_text from.now (entry_base_by (controller_in from.now) part j ∷ [])) }
 {
-    push_declared(from.alloc, text, "    ", "int64_t", "a", j)?;
-    push_constant(from.alloc, text, offset_at(from.c, j))?;
-    push_scaled_row(
+    push_declared(
         from.alloc,
         text,
+        "    ",
+        "int64_t",
+        entry_base_letter(part),
+        j,
+    )?;
+    push_constant(from.alloc, text, part_of(part, offset_at(from.c, j)))?;
+    push_row(
+        from.alloc,
+        text,
+        part,
         from.c.p_mat.row(j),
         from.c.s,
         from.states,
@@ -92,37 +109,99 @@ fn push_entry_base(from: &Measured, text: &mut String, j: usize) -> Result<(), A
     Ok(())
 }
 
+// The lines of both parts.
+fn push_entry_base_parts(from: &Measured, text: &mut String, j: usize) -> Result<(), AllocError>
+    requires in_range { j < entry_count from.now }
+    ensures { OnOk result (string_bytes text.new ≡ string_bytes text.old ++ start_text from.now (parted_entry_base (controller_in from.now) j)) }
+{
+    push_entry_base(from, text, Part::High, j)?;
+    push_entry_base(from, text, Part::Low, j)?;
+    Ok(())
+}
+
+// The line or the lines of that base.
+fn push_entry_base_lines(from: &Measured, text: &mut String, j: usize) -> Result<(), AllocError>
+    requires in_range { j < entry_count from.now }
+    ensures { OnOk result (string_bytes text.new ≡ string_bytes text.old ++
+        start_text from.now (entry_base_in from.now.parted (controller_in from.now) j)) }
+{
+    if from.parted {
+        push_entry_base_parts(from, text, j)
+    } else {
+        push_entry_base(from, text, Part::Whole, j)
+    }
+}
+
 // The lines of the bases of plan entries.
 pub fn push_entry_bases(from: &Measured, text: &mut String) -> Result<(), AllocError>
     ensures { OnOk result (string_bytes text.new ≡ string_bytes text.old ++
-        start_text from.now (groups (entry_base_statements (controller_in from.now)) (entry_count from.now))) }
+        start_text from.now (groups (entry_base_in from.now.parted (controller_in from.now)) (entry_count from.now))) }
 {
     for j in 0..from.c.t.len() {
-        push_entry_base(from, text, j)?;
+        push_entry_base_lines(from, text, j)?;
     }
     Ok(())
 }
 
-// The line of the base of row `i`.
-fn push_row_base(from: &Measured, text: &mut String, i: usize) -> Result<(), AllocError>
+// The line of a part of the base of row `i`.
+fn push_row_base(from: &Measured, text: &mut String, part: Part, i: usize) -> Result<(), AllocError>
     requires in_range { i < row_count from.now }
-    ensures { OnOk result (string_bytes text.new ≡ string_bytes text.old ++ start_text from.now (row_base_statements (controller_in from.now) i)) }
+    ensures { OnOk result (string_bytes text.new ≡ string_bytes text.old ++
+        start_text from.now (row_base_by (controller_in from.now) part i ∷ [])) }
 {
-    push_declared(from.alloc, text, "    ", "int64_t", "r", i)?;
-    push_constant(from.alloc, text, bound_at(from.c, i))?;
-    push_row(from.alloc, text, from.c.e_mat.row(i), from.states, "x")?;
+    push_declared(
+        from.alloc,
+        text,
+        "    ",
+        "int64_t",
+        row_base_letter(part),
+        i,
+    )?;
+    push_constant(from.alloc, text, part_of(part, bound_at(from.c, i)))?;
+    push_row(
+        from.alloc,
+        text,
+        part,
+        from.c.e_mat.row(i),
+        0,
+        from.states,
+        "x",
+    )?;
     push_end(text)?;
     Ok(())
+}
+
+// The lines of both parts.
+fn push_row_base_parts(from: &Measured, text: &mut String, i: usize) -> Result<(), AllocError>
+    requires in_range { i < row_count from.now }
+    ensures { OnOk result (string_bytes text.new ≡ string_bytes text.old ++ start_text from.now (parted_row_base (controller_in from.now) i)) }
+{
+    push_row_base(from, text, Part::High, i)?;
+    push_row_base(from, text, Part::Low, i)?;
+    Ok(())
+}
+
+// The line or the lines of that base.
+fn push_row_base_lines(from: &Measured, text: &mut String, i: usize) -> Result<(), AllocError>
+    requires in_range { i < row_count from.now }
+    ensures { OnOk result (string_bytes text.new ≡ string_bytes text.old ++
+        start_text from.now (row_base_in from.now.parted (controller_in from.now) i)) }
+{
+    if from.parted {
+        push_row_base_parts(from, text, i)
+    } else {
+        push_row_base(from, text, Part::Whole, i)
+    }
 }
 
 // The same where the row is needed.
 fn push_needed_row_base(from: &Measured, text: &mut String, i: usize) -> Result<(), AllocError>
     requires in_range { i < row_count from.now }
     ensures { OnOk result (string_bytes text.new ≡ string_bytes text.old ++
-        row_text from.now i (start_text from.now (row_base_statements (controller_in from.now) i))) }
+        row_text from.now i (start_text from.now (row_base_in from.now.parted (controller_in from.now) i))) }
 {
     if is_row_needed_at(from.c, i) {
-        push_row_base(from, text, i)
+        push_row_base_lines(from, text, i)
     } else {
         Ok(())
     }
@@ -131,7 +210,7 @@ fn push_needed_row_base(from: &Measured, text: &mut String, i: usize) -> Result<
 // The lines of the bases of rows.
 pub fn push_row_bases(from: &Measured, text: &mut String) -> Result<(), AllocError>
     ensures { OnOk result (string_bytes text.new ≡ string_bytes text.old ++
-        needed_start_text from.now (groups (row_base_statements (controller_in from.now)) (row_count from.now))) }
+        needed_start_text from.now (groups (row_base_in from.now.parted (controller_in from.now)) (row_count from.now))) }
 {
     for i in 0..from.c.bound.len() {
         push_needed_row_base(from, text, i)?;

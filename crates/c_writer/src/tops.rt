@@ -12,6 +12,7 @@ ghost use Rattle.c_program.specs.ByMachine.{top_for, plans_for};
 ghost use Rattle.c_language.specs.Syntax.{variable};
 ghost use Rattle.c_language.specs.Syntax.Family.{RowSum};
 ghost use Rattle.c_language.specs.Text.{kind_text};
+ghost use Rattle.c_writer.specs.Terms.{move_bits};
 ghost use Rattle.c_writer.specs.Measured.{controller_in, entry_count, row_count, sizes_in, kinds_in, held_family, held_size};
 
 use crate::measured::{Held, Measured};
@@ -142,7 +143,7 @@ fn own_top(from: &Measured, i: usize) -> u128
 }
 
 // Of their sums by weights.
-fn reached_top(from: &Measured) -> u128
+pub fn reached_top(from: &Measured) -> u128
     ensures { result ≡ (sizes_in from.now).reached }
 {
     match from.machine {
@@ -183,13 +184,26 @@ pub fn held_kind(from: &Measured, held: Held, i: usize) -> &'static str
     kind_word(held_top(from, held, i))
 }
 
+// By how many bits the sum of row `i` is lowered where it moves its multiplier; in parts it already is.
+pub fn move_bits_at(from: &Measured, i: usize) -> u32
+    requires in_range { i < row_count from.now }
+    ensures value { result ≡ move_bits from.now.parted (controller_in from.now) i }
+    ensures few { result ≤ 48 }
+{
+    if from.parted {
+        0
+    } else {
+        from.c.f - row_bits_at(from, i)
+    }
+}
+
 // The type of the sum of row `i`, without the power of two that its factors share.
 pub fn row_kind(from: &Measured, i: usize) -> &'static str
     requires in_range { i < row_count from.now }
     ensures { result.now ≡ kind_text (kinds_in from.now (variable RowSum i)) }
 {
     let next = from.c.clamp.unsigned_abs() + row_magnitude(from.c, from.plan, i);
-    kind_word(next.min(1 << 31) << (from.c.f - row_bits_at(from, i)))
+    kind_word(next.min(1 << 31) << move_bits_at(from, i))
 }
 
 // The offset of plan entry `j`, over `2^(2f + s)`.

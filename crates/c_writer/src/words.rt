@@ -3,8 +3,10 @@ ghost use Rattle.std.specs.Prelude.{◌≡◌, ◌≢◌, ◌<◌, ◌≤◌, �
 ghost use Rattle.std.specs.Fmt.{signed_decimal};
 ghost use Rattle.c_language.specs.Text.{constant_text, kind_text};
 ghost use Rattle.c_program.specs.Of.{kind_for};
-ghost use Rattle.c_writer.specs.Terms.{joined, lowered_text, term_text, product_text, given_text, given_end, declared_text, weight_open, weight_end};
+ghost use Rattle.c_writer.specs.Terms.{joined, lowered_text, term_text, product_text, part_in, given_text, given_end, declared_text, weight_open, weight_end};
 
+use crate::measured::Part;
+use crate::parts::part_of;
 use frac_scaled::scaled;
 use overflow_check::Machine;
 use std::alloc::{AllocError, Global};
@@ -139,7 +141,7 @@ fn push_term(
 }
 
 // The same, left out where it is always 0.
-pub fn push_product(
+fn push_product(
     alloc: Global,
     text: &mut String,
     c: i128,
@@ -147,7 +149,7 @@ pub fn push_product(
     family: &str,
     number: usize,
 ) -> Result<(), AllocError>
-    requires { unsigned_abs c * top < 2 ^ 127 }
+    requires { unsigned_abs c < 2 ^ 127 }
     ensures { OnOk result (string_bytes text.new ≡ string_bytes text.old ++ product_text c top (family.now ++ decimal number)) }
 {
     if c != 0 && top != 0 {
@@ -157,10 +159,11 @@ pub fn push_product(
     }
 }
 
-// The same with the constant times `2^k`.
+// The same of a part of the constant times `2^k`.
 pub fn push_scaled(
     alloc: Global,
     text: &mut String,
+    part: Part,
     x: i128,
     k: u32,
     top: u128,
@@ -169,10 +172,18 @@ pub fn push_scaled(
 ) -> Result<(), AllocError>
     requires small { k ≤ 40 }
     requires room { unsigned_abs (x *ℤ pos (2 ^ k)) * top < 2 ^ 127 }
-    ensures { OnOk result (string_bytes text.new ≡ string_bytes text.old ++ product_text (x *ℤ pos (2 ^ k)) top (family.now ++ decimal number)) }
+    ensures { OnOk result (string_bytes text.new ≡ string_bytes text.old ++
+        product_text (part_in part (x *ℤ pos (2 ^ k))) top (family.now ++ decimal number)) }
 {
-    if x != 0 && top != 0 {
-        push_term(alloc, text, scaled(x, k), family, number)
+    if top != 0 {
+        push_product(
+            alloc,
+            text,
+            part_of(part, scaled(x, k)),
+            top,
+            family,
+            number,
+        )
     } else {
         Ok(())
     }

@@ -3,23 +3,22 @@ ghost use Rattle.std.specs.Prelude.{◌≡◌, ◌<◌, ◌≤◌, ◌++◌, [],
 ghost use Rattle.number_text.specs.Lines.{text_of};
 ghost use Rattle.qp_model.specs.machine.Controller.{numbers};
 ghost use Rattle.overflow_check.specs.Machines.{IsControllerFor};
-ghost use Rattle.c_program.specs.Of.{before_of, program_of};
-ghost use Rattle.c_program.specs.FastOf.{fast_program_of};
-ghost use Rattle.c_program.specs.ByMachine.{before_for, step_for, body_for, program_for};
+ghost use Rattle.overflow_check.specs.declared.machine.Machine.TheVariants.{Plain, Accelerated};
+ghost use Rattle.c_program.specs.Of.{program_of};
+ghost use Rattle.c_program.specs.InParts.{HasProgram, written_program};
 ghost use Rattle.c_language.specs.Text.{shift_line, head_text, refusal_line, program_text, opening_lines, repetition_line};
 ghost use Rattle.c_writer.specs.Terms.{refusals_text};
-ghost use Rattle.c_writer.specs.Measured.{controller_in, program_in, needed_start_text, needed_loop_text};
+ghost use Rattle.c_writer.specs.Measured.{program_in, both_before_in, before_in, step_in, body_in, needed_start_text, needed_loop_text};
 
 use crate::averages::push_second;
 use crate::ending::push_outputs;
 use crate::lines::push_refusal;
 use crate::means::{push_held_where, push_means_where, push_next_where};
 use crate::measured::{Held, Measured};
-use crate::opposite::partners;
-use crate::plan::{push_differences, push_entries, push_sums};
+use crate::measuring::{lists_of, measured};
+use crate::plan::{push_differences, push_entries, push_gain_parts_where, push_sums};
 use crate::rows::push_rows;
 use crate::start::{push_entry_bases, push_loads, push_row_bases, push_start_sums, push_zeros};
-use crate::tops::{plan_tops, state_tops};
 use crate::words::push_pieces;
 use overflow_check::{Controller, FastController, Machine};
 use qp_model::ControllerParts;
@@ -46,7 +45,7 @@ fn push_refusals(from: &Measured, text: &mut String) -> Result<(), AllocError>
 
 // The lines before the loop that both machines have.
 fn push_both_before(from: &Measured, text: &mut String) -> Result<(), AllocError>
-    ensures { OnOk result (string_bytes text.new ≡ string_bytes text.old ++ needed_start_text from.now (before_of (controller_in from.now))) }
+    ensures { OnOk result (string_bytes text.new ≡ string_bytes text.old ++ needed_start_text from.now (both_before_in from.now)) }
 {
     push_loads(from, text)?;
     push_entry_bases(from, text)?;
@@ -59,7 +58,7 @@ fn push_both_before(from: &Measured, text: &mut String) -> Result<(), AllocError
 // The lines before the loop.
 fn push_before(from: &Measured, text: &mut String) -> Result<(), AllocError>
     ensures { OnOk result (string_bytes text.new ≡ string_bytes text.old ++
-        needed_start_text from.now (before_for from.now.machine (controller_in from.now))) }
+        needed_start_text from.now (before_in from.now)) }
 {
     push_both_before(from, text)?;
     push_held_where(from, text)?;
@@ -69,10 +68,11 @@ fn push_before(from: &Measured, text: &mut String) -> Result<(), AllocError>
 // The lines of a step.
 fn push_step(from: &Measured, text: &mut String) -> Result<(), AllocError>
     ensures { OnOk result (string_bytes text.new ≡ string_bytes text.old ++
-        needed_loop_text from.now (step_for from.now.machine (controller_in from.now))) }
+        needed_loop_text from.now (step_in from.now)) }
 {
     push_means_where(from, text)?;
     push_differences(from, text)?;
+    push_gain_parts_where(from, text)?;
     push_entries(from, text)?;
     push_sums(from, text)?;
     push_rows(from, text)?;
@@ -82,7 +82,7 @@ fn push_step(from: &Measured, text: &mut String) -> Result<(), AllocError>
 // The lines of the loop.
 fn push_body(from: &Measured, text: &mut String) -> Result<(), AllocError>
     ensures { OnOk result (string_bytes text.new ≡ string_bytes text.old ++
-        needed_loop_text from.now (body_for from.now.machine (controller_in from.now))) }
+        needed_loop_text from.now (body_in from.now)) }
 {
     push_step(from, text)?;
     push_next_where(from, text)?;
@@ -194,28 +194,19 @@ fn write_for(
     name: &str,
 ) -> Result<String, AllocError>
     requires { IsControllerFor machine (numbers c.now) }
-    ensures { IfOk result (λ text. string_bytes text ≡ program_text name.now (program_for machine (numbers c.now))) }
+    ensures { IfOk result (λ text. string_bytes text ≡ program_text name.now (written_program machine (numbers c.now))) }
 {
-    let states = state_tops(alloc, c)?;
-    let plan = plan_tops(alloc, c)?;
-    let partners = partners(alloc, c)?;
-    let from = Measured {
-        alloc,
-        machine,
-        c,
-        states: &states,
-        plan: &plan,
-        partners: &partners,
-    };
+    let lists = lists_of(alloc, c)?;
+    let from = measured(alloc, machine, c, &lists);
     let mut text = String::new(alloc);
     push_program(&from, &mut text, name)?;
     Ok(text)
 }
 
-/// The text of the program of a controller of at most 64 bits, whose functions have this name. The text is C where the name is an identifier.
+/// The text of the program of a controller that has one, whose functions have this name. The text is C where the name is an identifier.
 pub fn write_program(alloc: Global, c: &Controller, name: &str) -> Result<String, AllocError>
-    requires { c.now.width ≤ 64 }
-    ensures { IfOk result (λ text. string_bytes text ≡ program_text name.now (program_of c.now)) }
+    requires { HasProgram Plain c.now }
+    ensures { IfOk result (λ text. string_bytes text ≡ program_text name.now (written_program Plain c.now)) }
 {
     let text = write_for(alloc, Machine::Plain, c.parts(), name)?;
     Ok(text)
@@ -227,8 +218,8 @@ pub fn write_fast_program(
     c: &FastController,
     name: &str,
 ) -> Result<String, AllocError>
-    requires { c.now.width ≤ 64 }
-    ensures { IfOk result (λ text. string_bytes text ≡ program_text name.now (fast_program_of c.now)) }
+    requires { HasProgram Accelerated c.now }
+    ensures { IfOk result (λ text. string_bytes text ≡ program_text name.now (written_program Accelerated c.now)) }
 {
     let text = write_for(alloc, Machine::Accelerated, c.parts(), name)?;
     Ok(text)

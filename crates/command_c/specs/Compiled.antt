@@ -1,12 +1,12 @@
 -- What `c` does with what its first file holds, and what it leaves in the store.
-use Rattle.std.specs.Prelude.{◌≡◌, ◌≢◌, ◌⊎◌, ℕ, ◌≤◌, ◌<◌, List, Option, Some}
+use Rattle.std.specs.Prelude.{◌≡◌, ◌≢◌, ¬◌, ◌⊎◌, ℕ, List, Option, Some}
 use Rattle.io_edge.specs.Faults.{Files}
-use Rattle.qp_model.specs.machine.Controller.{Numbers}
 use Rattle.c_language.specs.Syntax.{CProgram}
-use Rattle.c_program.specs.Of.{program_of}
-use Rattle.c_program.specs.FastOf.{fast_program_of}
+use Rattle.overflow_check.specs.declared.machine.Machine.{Machine}
+use Rattle.overflow_check.specs.declared.machine.Machine.TheVariants as Machines
+use Rattle.c_program.specs.InParts.{HasProgram, written_program}
 use Rattle.c_language.specs.Text.{program_text, header_text}
-use Rattle.c_program.specs.Laws.{IsProgram, IsFastProgram}
+use Rattle.c_program.specs.Laws.{IsWritten}
 use Rattle.controller_file.specs.AnyText.{any_numbers}
 use Rattle.controller_file.specs.declared.any_controller.AnyController.{AnyController}
 use Rattle.controller_file.specs.declared.any_controller.AnyController.TheVariants.{Plain, Fast}
@@ -21,34 +21,36 @@ use Rattle.command_files.specs.Reading.{any_controller_kind}
 use Rattle.command_line.specs.declared.status.Status.{Status}
 use Rattle.command_line.specs.declared.status.Status.TheVariants.{Done, TooWideForC}
 
--- the greatest width of a controller that has a program
-abbrev pub program_width : ℕ
-program_width = 64
-
--- what a controller calls for: it is too wide, or both texts are written
-abbrev pub ProgramCalls : Numbers → Status → Type 0
-ProgramCalls c s = ((program_width < c.width) × (s ≡ TooWideForC c.width)) ⊎ ((c.width ≤ program_width) × (s ≡ Done))
-
 -- ---- the program of a controller of either machine
+abbrev pub any_machine : AnyController → Machine
+any_machine (Plain c) = Machines.Plain
+any_machine (Fast c) = Machines.Accelerated
+
+-- it has one: its sums fit 64 bits, whole or in two parts
+abbrev pub HasAnyProgram : AnyController → Type 0
+HasAnyProgram k = HasProgram (any_machine k) (any_numbers k)
+
 abbrev pub any_program : AnyController → CProgram
-any_program (Plain c) = program_of c
-any_program (Fast c) = fast_program_of c
+any_program k = written_program (any_machine k) (any_numbers k)
 
 -- Run from any grid state of the box, C defines each statement of it; it answers 0, and puts out the numerators of the averaged plan, as `solve` prints them, and of these the
 -- averaged first inputs. From any other state it answers the first coordinate outside the box, and puts out nothing.
 abbrev pub IsAnyProgram : AnyController → Type 0
-IsAnyProgram (Plain c) = IsProgram c
-IsAnyProgram (Fast c) = IsFastProgram c
+IsAnyProgram k = IsWritten (any_machine k) (any_numbers k)
+
+-- what a controller calls for: it is too wide, or both texts are written
+abbrev pub ProgramCalls : AnyController → Status → Type 0
+ProgramCalls k s = (¬ HasAnyProgram k × (s ≡ TooWideForC (any_numbers k).width)) ⊎ (HasAnyProgram k × (s ≡ Done))
 
 -- ---- what it does: it reads a controller, and writes the texts of its program
 -- the texts of a controller's program with this name
 pub record AreProgramTexts (name : List ℕ) (k : AnyController) (source header : List ℕ) : Type 0 where
-  pub narrow : (any_numbers k).width ≤ program_width
+  pub has_program : HasAnyProgram k
   pub is_source : source ≡ program_text name (any_program k)
   pub is_header : header ≡ header_text name (any_numbers k) (any_program k)
 
 abbrev pub compile_act : AnyController → Act
-compile_act k = two_texts (ProgramCalls (any_numbers k)) (λ words. AreProgramTexts (word_of words 2) k) 3 4
+compile_act k = two_texts (ProgramCalls k) (λ words. AreProgramTexts (word_of words 2) k) 3 4
 
 abbrev pub compile_work : Work
 compile_work = two_work (reads 1 any_controller_kind (λ k. ends (compile_act k))) 3 4

@@ -15,12 +15,17 @@ has_column_product-entry-requires c =
     let long : length c.args.from.now.states.now ≡ n.states = ap (λ (xs : List ℕ). length xs) c.args.from.now.state_tops ∙ length-state_reach (with_last_version n) sized in
     omega (arith, long, c.requires.in_range, sized.shaped.state_gains.cols)
 
-pub is_in_needed_rows-row-requires-clause-coordinate : goal.is_in_needed_rows-row-requires-clause-coordinate
-is_in_needed_rows-row-requires-clause-coordinate c =
+pub is_in_needed_rows-row-requires-clause-column : goal.is_in_needed_rows-row-requires-clause-column
+is_in_needed_rows-row-requires-clause-column c =
     let n = numbers c.args.from.now.c.now in
     let sized = c.args.from.now.sound.form.sized in
     let long : length c.args.from.now.states.now ≡ n.states = ap (λ (xs : List ℕ). length xs) c.args.from.now.state_tops ∙ length-state_reach (with_last_version n) sized in
-    omega (arith, long, c.requires.in_range)
+    omega (arith, long, c.requires.in_range, sized.shaped.state_rows.cols)
+
+pub is_in_needed_rows-row-requires-clause-rows : goal.is_in_needed_rows-row-requires-clause-rows
+is_in_needed_rows-row-requires-clause-rows c =
+    let s = c.args.from.now.sound.form.sized.shaped in
+    omega (arith, s.state_rows.rows, s.bounds)
 
 pub returns : goal.returns
 returns c =

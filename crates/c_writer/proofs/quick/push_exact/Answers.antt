@@ -1,5 +1,4 @@
 use Rattle.std.proofs.Common.{◌≡◌, ◌++◌, ◌∙◌, ℕ, List, ap, string_bytes, decimal, rules}
-use Rattle.qp_model.specs.machine.Controller.{numbers}
 use Rattle.c_writer.specs.Measured.{held_family}
 use Rattle.c_writer.proofs.QuickTexts.{exact_text}
 use Rattle.c_writer.proofs.quick.push_exact.Goals as goal
@@ -11,4 +10,4 @@ returns c =
     let a : c.as_str-number.result.now ≡ decimal i = search rules in
     c.in_ok-push_pieces.ensures ∙
     ap (λ (t : List ℕ). string_bytes c.args.text.now ++ t)
-    (rw (a, c.held_kind-kind.ensures) (exact_text m.machine (numbers m.c.now) (held_family c.args.held) i c.held_letter-letter.result.now (c.held_letter-letter.ensures i)))
+    (rw (a, c.held_kind-kind.ensures) (exact_text m (held_family c.args.held) i c.held_letter-letter.result.now (c.held_letter-letter.ensures i)))

@@ -1,5 +1,4 @@
 use Rattle.std.proofs.Common.{◌≡◌, ◌++◌, ◌∙◌, ℕ, List, ap, string_bytes, decimal, rules}
-use Rattle.qp_model.specs.machine.Controller.{numbers}
 use Rattle.c_writer.proofs.QuickTexts.{first_text}
 use Rattle.c_writer.proofs.quick.push_first_round.Goals as goal
 
@@ -7,4 +6,4 @@ pub returns : goal.returns
 returns c =
     let m = c.args.from.now in
     let a : c.as_str-number.result.now ≡ decimal c.args.i = search rules in
-    c.in_ok-push_pieces.ensures ∙ ap (λ (t : List ℕ). string_bytes c.args.text.now ++ t) (rw (a, c.held_kind-kind.ensures) (first_text m.machine (numbers m.c.now) c.args.i))
+    c.in_ok-push_pieces.ensures ∙ ap (λ (t : List ℕ). string_bytes c.args.text.now ++ t) (rw (a, c.held_kind-kind.ensures) (first_text m c.args.i))

@@ -14,4 +14,4 @@ returns-then-is_any_quick_at c =
     let n = numbers m.c.now in
     let kept = cond-true (is_any_quick n) first_scale_lines [] (sym c.is_any_quick_at.ensures ∙ c.if-is_any_quick_at.true) in
     subst (λ (t : List ℕ). OnOk c.push_pieces.result (string_bytes c.push_pieces.new.text ≡ string_bytes c.args.text.now ++ t))
-    (first_scale_text m.machine n ∙ ap (block_text (kinds_in m) (codes "    ")) (sym (first_scale_part n ∙ kept))) c.push_pieces.ensures
+    (first_scale_text m ∙ ap (block_text (kinds_in m) (codes "    ")) (sym (first_scale_part n ∙ kept))) c.push_pieces.ensures

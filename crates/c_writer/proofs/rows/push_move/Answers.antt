@@ -6,8 +6,8 @@ use Rattle.c_language.specs.Syntax.Expression.{Value}
 use Rattle.c_language.specs.Syntax.Statement.{Declare, Assign, AtLeastZero, AtMost}
 use Rattle.c_program.specs.Of.{kind_for}
 use Rattle.c_language.specs.Text.{kind_text}
-use Rattle.c_program.specs.ByMachine.{moved_family, moved_for, top_for, reached_for}
-use Rattle.c_writer.specs.Measured.{kinds_in}
+use Rattle.c_program.specs.ByMachine.{moved_family, top_for, reached_for}
+use Rattle.c_writer.specs.Measured.{kinds_in, moved_in}
 use Rattle.c_writer.proofs.Texts.{blocks_more}
 use Rattle.c_writer.proofs.rows.push_move.Goals as goal
 
@@ -24,7 +24,7 @@ returns c =
     let more = blocks_more (kinds_in c.args.from.now) (codes "        ") in
     let i = c.args.i in
     let old = string_bytes c.args.text.now in
-    let one = Declare (variable Moved i) (moved_for m n i) in
+    let one = Declare (variable Moved i) (moved_in c.args.from.now i) in
     let two = AtLeastZero (variable Moved i) in
     let three = AtMost (variable Moved i) (top_for m n i) in
     let four = Assign (variable (moved_family m) i) (Value (variable Moved i)) in

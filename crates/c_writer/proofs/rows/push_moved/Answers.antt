@@ -1,14 +1,11 @@
 use Rattle.std.proofs.Common.{codes, string_bytes}
-use Rattle.qp_model.specs.machine.Controller.{numbers}
 use Rattle.c_language.specs.Syntax.{variable}
 use Rattle.c_language.specs.Syntax.Family.{Moved}
-use Rattle.c_program.specs.ByMachine.{moved_for}
-use Rattle.c_writer.specs.Measured.{kinds_in}
+use Rattle.c_writer.specs.Measured.{kinds_in, moved_in}
 use Rattle.c_writer.proofs.Texts.{declared_line}
 use Rattle.c_writer.proofs.rows.push_moved.Goals as goal
 
 pub returns : goal.returns
 returns c =
-    let n = numbers c.args.from.now.c.now in
-    declared_line (kinds_in c.args.from.now) (variable Moved c.args.i) (moved_for c.args.from.now.machine n c.args.i) (codes "        ") c.args.kind.now (string_bytes c.args.text.now) (string_bytes c.push_declared.new.text)
+    declared_line (kinds_in c.args.from.now) (variable Moved c.args.i) (moved_in c.args.from.now c.args.i) (codes "        ") c.args.kind.now (string_bytes c.args.text.now) (string_bytes c.push_declared.new.text)
     (string_bytes c.push_moved_value.new.text) (string_bytes c.push_end.new.text) c.requires.kind c.in_ok-push_declared.ensures c.in_ok-push_moved_value.ensures c.in_ok-push_end.ensures

@@ -1,15 +1,21 @@
-use Rattle.std.proofs.Common.{◌≡◌, ◌++◌, ◌∙◌, ℕ, List, length, ap, arith, decimal, codes, string_bytes}
+use Rattle.std.proofs.Common.{◌≡◌, ◌++◌, ◌∙◌, ◌^◌, ℕ, List, length, ap, arith, decimal, string_bytes}
 use Rattle.mat_int.specs.Matrix.{row_of}
 use Rattle.qp_model.specs.machine.Controller.{numbers}
 use Rattle.qp_model.specs.machine.AbsoluteSums.{plan_magnitudes}
-use Rattle.c_program.specs.Of.{row_bits}
+use Rattle.integer_algebra.specs.Division.{floor_of}
+use Rattle.integer_algebra.specs.Sums.{at}
+use Rattle.c_language.specs.Syntax.{variable}
+use Rattle.c_language.specs.Text.{variable_text}
+use Rattle.c_program.specs.Of.{entry_top}
+use Rattle.c_writer.specs.Terms.{entry_family, factor_bits, row_factor}
+use Rattle.c_writer.proofs.InParts.{products_alike, row_factor_is}
 use Rattle.overflow_check.proofs.Sizes.{length-plan_reach}
 use Rattle.c_writer.proofs.Rooms.{row_room, products_fit}
 use Rattle.c_writer.proofs.Texts.{lowered_same}
 use Rattle.c_writer.proofs.rows.push_plan_row.Goals as goal
 
 pub push_lowered_row-requires-clause-small : goal.push_lowered_row-requires-clause-small
-push_lowered_row-requires-clause-small c = omega (arith, c.row_bits_at-bits.ensures.few, c.args.from.now.sound.form.sized.fraction_bits.1)
+push_lowered_row-requires-clause-small c = omega (arith, c.factor_bits-bits.ensures.few, c.args.from.now.sound.form.sized.fraction_bits.1)
 
 pub push_lowered_row-requires-clause-long : goal.push_lowered_row-requires-clause-long
 push_lowered_row-requires-clause-long c =
@@ -25,8 +31,14 @@ push_lowered_row-requires-clause-room c =
 
 pub returns : goal.returns
 returns c =
-    let n = numbers c.args.from.now.c.now in
+    let m = c.args.from.now in
+    let n = numbers m.c.now in
+    let part = c.args.part in
+    let i = c.args.i in
+    let name = λ (k : ℕ). c.entry_letter-letter.result.now ++ decimal k in
+    let many = length n.offsets in
     c.in_ok-push_lowered_row.ensures ∙ ap (λ (t : List ℕ). string_bytes c.args.text.now ++ t)
-    (lowered_same _ (row_of n.plan_rows c.args.i) _ (row_bits n c.args.i) _ (plan_magnitudes n) (λ k. codes "u" ++ decimal k) (length n.offsets) c.row.ensures.value c.row_bits_at-bits.ensures.value
-    c.args.from.now.plan_tops
-    (omega (arith, c.row.ensures.len, c.args.from.now.sound.form.sized.shaped.plan_rows.cols, c.args.from.now.sound.form.sized.shaped.offsets)))
+    (lowered_same _ (row_of n.plan_rows i) _ (factor_bits n part i) _ (plan_magnitudes n) name many c.row.ensures.value c.factor_bits-bits.ensures.value m.plan_tops
+    (omega (arith, c.row.ensures.len, m.sound.form.sized.shaped.plan_rows.cols, m.sound.form.sized.shaped.offsets)) ∙
+    products_alike (λ j. floor_of (at (row_of n.plan_rows i) j) (2 ^ factor_bits n part i)) (row_factor n part i) (entry_top n) name (λ j. variable_text (variable (entry_family part) j)) many
+    (row_factor_is n part i) c.entry_letter-letter.ensures)

@@ -3,11 +3,10 @@ use Rattle.qp_model.specs.machine.Controller.{numbers}
 use Rattle.c_language.specs.Syntax.{groups}
 use Rattle.c_language.specs.Needed.{left_in}
 use Rattle.c_program.specs.Of.{is_needed}
-use Rattle.c_program.specs.ByMachine.{row_for}
 use Rattle.c_writer.specs.Terms.{block_text}
-use Rattle.c_writer.specs.Measured.{kinds_in}
+use Rattle.c_writer.specs.Measured.{kinds_in, row_lines_in}
 use Rattle.c_writer.proofs.rows.push_rows.Given as goal
 
 abbrev pub invariant-loop-i : goal.invariant-loop-i
 invariant-loop-i l =
-    string_bytes l.text ≡ string_bytes l.fn.text ++ block_text (kinds_in l.from) (codes "        ") (left_in (is_needed (numbers l.from.c.now)) (groups (row_for l.from.machine (numbers l.from.c.now)) l.i))
+    string_bytes l.text ≡ string_bytes l.fn.text ++ block_text (kinds_in l.from) (codes "        ") (left_in (is_needed (numbers l.from.c.now)) (groups (row_lines_in l.from) l.i))

@@ -5,8 +5,7 @@ use Rattle.qp_model.specs.machine.Controller.{numbers}
 use Rattle.c_language.specs.Syntax.{Variable, variable}
 use Rattle.c_language.specs.Syntax.Family.{State, Sum}
 use Rattle.c_program.specs.Of.{is_needed}
-use Rattle.c_program.specs.ByMachine.{before_for, body_for}
-use Rattle.c_writer.specs.Measured.{program_in}
+use Rattle.c_writer.specs.Measured.{program_in, before_in, body_in}
 use Rattle.c_language.specs.Text.{statement_lines, numbered_lines, refusal_line, output_line, second_lines, opening_lines, repetition_line}
 use Rattle.c_language.specs.Needed.{left_in}
 use Rattle.c_writer.proofs.Texts.{lines_then, lines_same}
@@ -20,9 +19,9 @@ returns c =
     let old = string_bytes c.args.text.now in
     let a = opening_lines c.args.name.now p in
     let b = numbered_lines (refusal_line p) (length n.low) in
-    let d = statement_lines p.kind (codes "    ") (left_in (is_needed n) (before_for c.args.from.now.machine n)) in
+    let d = statement_lines p.kind (codes "    ") (left_in (is_needed n) (before_in c.args.from.now)) in
     let e = repetition_line p ∷ [] in
-    let f = statement_lines p.kind (codes "        ") (left_in (is_needed n) (body_for c.args.from.now.machine n)) in
+    let f = statement_lines p.kind (codes "        ") (left_in (is_needed n) (body_in c.args.from.now)) in
     let g = codes "    }" ∷ [] in
     let h = numbered_lines (λ j. output_line j (variable Sum j)) m in
     let t1 = string_bytes c.push_opening.new.text in

@@ -1,14 +1,14 @@
-use Rattle.std.proofs.Common.{◌∙◌, ap, string_bytes, arith}
-use Rattle.qp_model.specs.machine.Controller.{Numbers, numbers}
+use Rattle.std.proofs.Common.{◌∙◌, ap, string_bytes}
+use Rattle.qp_model.specs.machine.Controller.{numbers}
 use Rattle.command_c.proofs.Written.{header_there}
 use Rattle.command_c.proofs.texts.program_texts.Goals as goal
 
 pub returns-clause-texts : goal.returns-clause-texts
 returns-clause-texts c =
     let name = c.args.name.now in
-    let read = c.parts_of-parts.ensures in
+    let read = c.parts-parts.ensures.value in
     record {
-      narrow = omega (arith, c.if-width-gt-PROGRAM_WIDTH.false, ap (λ (n : Numbers). n.width) read);
+      has_program = c.branch-has_any_program.ensures.0 c.if-not-field-0.false;
       is_source = ap (λ v. v.items) c.into_bytes.ensures.value ∙ c.in_ok-source.ensures;
-      is_header = ap (λ v. v.items) c.into_bytes-2.ensures.value ∙ header_there name (string_bytes c.in_ok-header.header) (numbers c.parts_of-parts.result.now) c.args.controller.now read c.in_ok-header.ensures;
+      is_header = ap (λ v. v.items) c.into_bytes-2.ensures.value ∙ header_there name (string_bytes c.in_ok-header.header) (numbers c.parts-parts.result.now) c.args.controller.now read c.in_ok-header.ensures;
     }
