@@ -1,5 +1,5 @@
 -- What `c` does with what its first file holds, and what it leaves in the store.
-use Rattle.std.specs.Prelude.{◌≡◌, ◌≢◌, ¬◌, ◌⊎◌, ℕ, List, Option, Some}
+use Rattle.std.specs.Prelude.{◌≡◌, ◌≢◌, ◌⊎◌, ℕ, List, Option, Some}
 use Rattle.io_edge.specs.Faults.{Files}
 use Rattle.c_language.specs.Syntax.{CProgram}
 use Rattle.overflow_check.specs.declared.machine.Machine.{Machine}

@@ -43,7 +43,8 @@ pub fn program_texts(alloc: Global, controller: &AnyController, name: &str) -> R
     ensures unmade { IfErr result (IsUnmade (ProgramCalls controller.now)) }
 {
     let parts = controller.parts();
-    if !has_any_program(alloc, controller)? {
+    let found = has_any_program(alloc, controller)?;
+    if !found {
         return Err(Status::TooWideForC { width: parts.w });
     }
     let source = source_of(alloc, controller, name)?;

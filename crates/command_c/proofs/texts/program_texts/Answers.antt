@@ -8,7 +8,7 @@ returns-clause-texts c =
     let name = c.args.name.now in
     let read = c.parts-parts.ensures.value in
     record {
-      has_program = c.branch-has_any_program.ensures.0 c.if-not-field-0.false;
+      has_program = c.in_ok-found.ensures.0 c.if-not-found.false;
       is_source = ap (λ v. v.items) c.into_bytes.ensures.value ∙ c.in_ok-source.ensures;
       is_header = ap (λ v. v.items) c.into_bytes-2.ensures.value ∙ header_there name (string_bytes c.in_ok-header.header) (numbers c.parts-parts.result.now) c.args.controller.now read c.in_ok-header.ensures;
     }
