@@ -72,6 +72,7 @@ static CHANGED: [(&str, &str, &str, &str); 19] = [
     ("endless", FAST_CONTROLLER, "steps 3", "steps 65535"),
     ("few", FAST_CONTROLLER, "words 12", "words 6"),
     ("narrow", FAST_CONTROLLER, "1 22", "1 21"),
+    ("broad", FAST_CONTROLLER, "1 22", "1 65"),
     (
         "fast_half",
         HALF,

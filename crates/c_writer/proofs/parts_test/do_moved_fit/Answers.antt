@@ -13,7 +13,8 @@ loop-i-init c = each_none (Holds c.args.from.now)
 
 pub returns-then-not-does_fit : goal.returns-then-not-does_fit
 returns-then-not-does_fit c =
-    each_failed (Holds c.args.from.now) (length (numbers c.args.from.now.c.now).bounds) c.loop-i.i c.does_fit.result (omega (arith, c.loop-i-test.true, c.len-i-end.ensures)) (subst (λ (a : ℕ). IsTrue c.does_fit.result ↔ (a < 2 ^ 63)) c.moved_top.ensures c.does_fit.ensures) c.if-not-does_fit.true
+    each_failed (Holds c.args.from.now) (length (numbers c.args.from.now.c.now).bounds) c.loop-i.i c.does_fit.result (omega (arith, c.loop-i-test.true, c.len-i-end.ensures))
+    (subst (λ (a : ℕ). IsTrue c.does_fit.result ↔ (a < 2 ^ 63)) c.moved_top.ensures c.does_fit.ensures) c.if-not-does_fit.true
 
 pub loop-i-preserved : goal.loop-i-preserved
 loop-i-preserved c = each_more (Holds c.args.from.now) c.loop-i.i c.loop-i.invariant ((subst (λ (a : ℕ). IsTrue c.does_fit.result ↔ (a < 2 ^ 63)) c.moved_top.ensures c.does_fit.ensures).0 c.if-not-does_fit.false)

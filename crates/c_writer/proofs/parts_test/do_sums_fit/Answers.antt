@@ -13,7 +13,8 @@ loop-j-init c = each_none (Holds c.args.from.now)
 
 pub returns-then-not-does_fit : goal.returns-then-not-does_fit
 returns-then-not-does_fit c =
-    each_failed (Holds c.args.from.now) (length (numbers c.args.from.now.c.now).offsets) c.loop-j.j c.does_fit.result (omega (arith, c.loop-j-test.true, c.len-j-end.ensures)) (subst (λ (a : ℕ). IsTrue c.does_fit.result ↔ (a < 2 ^ 63)) c.sum_top.ensures c.does_fit.ensures) c.if-not-does_fit.true
+    each_failed (Holds c.args.from.now) (length (numbers c.args.from.now.c.now).offsets) c.loop-j.j c.does_fit.result (omega (arith, c.loop-j-test.true, c.len-j-end.ensures))
+    (subst (λ (a : ℕ). IsTrue c.does_fit.result ↔ (a < 2 ^ 63)) c.sum_top.ensures c.does_fit.ensures) c.if-not-does_fit.true
 
 pub loop-j-preserved : goal.loop-j-preserved
 loop-j-preserved c = each_more (Holds c.args.from.now) c.loop-j.j c.loop-j.invariant ((subst (λ (a : ℕ). IsTrue c.does_fit.result ↔ (a < 2 ^ 63)) c.sum_top.ensures c.does_fit.ensures).0 c.if-not-does_fit.false)

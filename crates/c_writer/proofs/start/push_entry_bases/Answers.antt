@@ -13,4 +13,5 @@ loop-j-init c =
 pub loop-j-preserved : goal.loop-j-preserved
 loop-j-preserved c =
     let n = numbers c.args.from.now.c.now in
-    block_more (kinds_in c.args.from.now) (codes "    ") (entry_base_in c.args.from.now.parted n) c.loop-j.j (string_bytes c.args.text.now) (string_bytes c.loop-j.text) (string_bytes c.push_entry_base_lines.new.text) c.loop-j.invariant c.in_ok-push_entry_base_lines.ensures
+    block_more (kinds_in c.args.from.now) (codes "    ") (entry_base_in c.args.from.now.parted n) c.loop-j.j (string_bytes c.args.text.now) (string_bytes c.loop-j.text)
+    (string_bytes c.push_entry_base_lines.new.text) c.loop-j.invariant c.in_ok-push_entry_base_lines.ensures

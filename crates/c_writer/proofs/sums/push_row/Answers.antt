@@ -15,5 +15,6 @@ loop-k-preserved c =
     let top = get_or c.args.tops.now k 0 in
     let name = c.args.family.now ++ decimal k in
     let x : FitsSigned w128 (at c.args.row.now k) = search rules in
-    products_more (λ k. part_in c.args.part (at c.args.row.now k *ℤ pos (2 ^ c.args.s))) (λ k. get_or c.args.tops.now k 0) (λ k. c.args.family.now ++ decimal k) k (string_bytes c.args.text.now) (string_bytes c.loop-k.text) (string_bytes c.push_scaled.new.text)
+    products_more (λ k. part_in c.args.part (at c.args.row.now k *ℤ pos (2 ^ c.args.s))) (λ k. get_or c.args.tops.now k 0) (λ k. c.args.family.now ++ decimal k) k
+    (string_bytes c.args.text.now) (string_bytes c.loop-k.text) (string_bytes c.push_scaled.new.text)
     c.loop-k.invariant (c.in_ok-push_scaled.ensures ∙ ap (λ (z : ℤ). string_bytes c.loop-k.text ++ product_text (part_in c.args.part (z *ℤ pos (2 ^ c.args.s))) top name) (to_z-of_z w128 _ x))
