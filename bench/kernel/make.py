@@ -1,8 +1,8 @@
 #!/usr/bin/env python3
 """make.py FOLDER STATES INPUTS STAGES ROWS BITS STEPS [COUNT [limits]]: writes FOLDER/controller, FOLDER/second and FOLDER/states: a controller of these
 sizes with as many fraction bits, in numbers of that many bits, the same numbers in version 2, where every other row has a smaller step exponent, FOLDER/third,
-the same in version 3, with the accelerated machine's width and at most 65,534 steps, and COUNT states of its box (1 where none is given). With `limits` its rows are as a design's: two for each plan entry, which limit that entry alone, and then rows
-that limit states, each with numbers up to its stage.
+the same in version 3, with the accelerated machine's width and at most 65,534 steps, and COUNT states of its box (1 where none is given). With `limits`
+its rows are as a design's: two for each plan entry, which limit that entry alone, and then rows that limit states, each with numbers up to its stage.
 
 make.py states CONTROLLER COUNT: puts COUNT states of the box of a controller text."""
 import sys

@@ -1,7 +1,7 @@
 """An independent model of the program that `c` writes: the source and the header of a controller, in C99.
 
-All in exact whole numbers, by the definitions of crates/c_program/specs (`Of`, `FastOf`, `InParts`) and crates/c_language/specs (`Needed`, `Text`), and with no code of the program's. An expression is a pair of its text and of
-whether it is a sum, which stands in parentheses where it is an operand of a product or the second of a sum.
+All in exact whole numbers, by the definitions of crates/c_program/specs (`Of`, `FastOf`, `InParts`) and crates/c_language/specs (`Needed`, `Text`), and with no code of the program's. An expression is a pair of its text
+and of whether it is a sum, which stands in parentheses where it is an operand of a product or the second of a sum.
 """
 import re
 
