@@ -72,7 +72,7 @@ class Fallback(unittest.TestCase):
         self.assertIn("int small_nearest_inputs(const int32_t state[2], int64_t inputs[1]);", header)
 
     def test_wide_controllers(self):
-        with self.assertRaisesRegex(Refusal, "a controller that `./mpc c` writes is expected \(docs/C.md\), and this one has 128 bits"):
+        with self.assertRaisesRegex(Refusal, r"a controller that `./mpc c` writes is expected \(docs/C.md\), and this one has 128 bits"):
             nearest.texts_of("small", "controller.txt", replace(controller(), width=128))
 
     def told(self, *words, status):
